@@ -1,0 +1,76 @@
+-- Theorem C: the count of trials is at most A x (n+1) x (n+1) x (n+2) x (n+3) / 6. Assumes nothing.
+use mathlib.Core.Path.{_≡_, refl, ap}
+use mathlib.Core.Bool.{Bool}
+use Prim.Native.Nat.{ℕ, zero, suc, _+_, _-_, _*_, _/_, _<_, _≤_, min}
+use native.Mathlib.Nat.{mul-le-mul-right}
+use native.Mathlib.Omega.{arith}
+use mathlib.Core.List.{List, [], _∷_}
+use mathlib.Core.Option.{Option, none, some}
+use lib.ListN.{length}
+use Rattle.pattern.specs.Bytes.{Bytes}
+use Rattle.pattern.specs.Syntax.{pattern, atom, Syntax, last, then, repeat, nodes}
+use Rattle.pattern.specs.Decision.{Rel, most, trial, made, decide}
+use Rattle.pattern.specs.Trials.{tries, sum, stretches, joins, repeats, own, total, trials}
+use Rattle.pattern.proofs.Tests.{cond-case}
+
+tries-le : (c : ℕ) (p : ℕ → Bool) → tries c p ≤ c
+unfolding tries
+tries-le zero p = omega arith
+tries-le (suc c) p = cond-case (p c) (λ x. x ≤ suc c) (λ t. omega arith) (λ t. omega (arith, tries-le c p))
+
+sum-le : (c : ℕ) (f g : ℕ → ℕ) → ((k : ℕ) → k < c → f k ≤ g k) → sum c f ≤ sum c g
+unfolding sum
+sum-le zero f g h = omega arith
+sum-le (suc c) f g h = omega (arith, sum-le c f g (λ k l. h k (omega arith)), h c (omega arith))
+
+sum-const : (c x : ℕ) → sum c (λ k. x) ≡ c * x
+unfolding sum
+sum-const zero x = omega arith
+sum-const (suc c) x = omega (arith, sum-const c x)
+
+most-le : (n : ℕ) (high : Option ℕ) → most n high ≤ n
+unfolding most
+most-le n none = omega arith
+most-le n (some m) = omega arith
+
+-- the most trials of a join: every place of every stretch of n bytes
+all-places : ℕ → ℕ
+all-places n = stretches n (λ i j. suc j - i)
+
+joins-le : (n : ℕ) (R S : Rel) → joins n R S ≤ all-places n
+unfolding joins stretches all-places
+joins-le n R S = sum-le (suc n) _ _ (λ j h. sum-le (suc j) _ _ (λ i k. tries-le (suc j - i) (trial R S i j)))
+
+row : (n c : ℕ) → c ≤ n → 2 * sum c (λ i. n - i) + c * c ≡ c * (2 * n + 1)
+unfolding sum
+row n zero h = omega arith
+row n (suc c) h = omega (arith, row n c (omega arith))
+
+rows : (c : ℕ) → 6 * sum c (λ j. sum (suc j) (λ i. suc j - i)) ≡ c * (c + 1) * (c + 2)
+unfolding sum
+rows zero = omega arith
+rows (suc c) = omega (arith, rows c, row (suc c) (suc c) (omega arith))
+
+total-le : (f : Syntax pattern → ℕ) (b : ℕ) → ((x : Syntax pattern) → f x ≤ b) → (xs : List (Syntax pattern)) → total f xs ≤ length xs * b
+unfolding total
+total-le f b h [] = omega arith
+total-le f b h (x ∷ xs) = omega (arith, h x, total-le f b h xs)
+
+module _ (l : Bytes) where
+  repeats-le : (a : Syntax atom) → repeats l a ≤ length l * all-places (length l)
+  unfolding repeats
+  repeats-le (repeat low high b) =
+      let n : ℕ = length l in
+      let f : ℕ → ℕ = λ k. joins n (decide l b) (made (decide l b) k) in
+      let below : most n high ≤ n = most-le n high in
+      omega (arith, sum-le (most n high) f (λ k. all-places n) (λ k h. joins-le n (decide l b) (made (decide l b) k)), sum-const (most n high) (all-places n), mul-le-mul-right (all-places n) below)
+
+  own-le : (x : Syntax pattern) → own l x ≤ suc (length l) * all-places (length l)
+  unfolding own
+  own-le (last a) = omega (arith, repeats-le a)
+  own-le (then a p) = omega (arith, repeats-le a, joins-le (length l) (decide l a) (decide l p))
+
+  -- Theorem C
+  pub bound : (p : Syntax pattern) → let n : ℕ = length l in trials l p ≤ length (nodes p) * (n + 1) * (n + 1) * (n + 2) * (n + 3) / 6
+  unfolding all-places stretches trials
+  bound p = omega (arith, total-le (own l) (suc (length l) * all-places (length l)) own-le (nodes p), ap (λ x. length (nodes p) * suc (length l) * x) (rows (suc (length l))))

@@ -1,0 +1,133 @@
+-- The automaton reads every source that spells a tree, and reads that tree. Assumes nothing.
+use mathlib.Core.Path.{_≡_, refl, sym, ap, _∙_}
+use mathlib.Core.List.{List, [], _∷_, _++_, append-assoc, append-nil}
+use mathlib.Core.Option.{Option, none, some}
+use Prim.Native.Nat.{ℕ, _+_, _-_, _*_}
+use Rattle.pattern.specs.Bytes.{Bytes, between}
+use Rattle.pattern.specs.Codes.{bit}
+use Rattle.pattern.specs.Syntax.{Sort, pattern, atom, body, branches, Syntax, last, then, repeat, codes, literal, group, only, or}
+use Rattle.pattern.specs.Meaning.{Cut}
+use Rattle.pattern.specs.Spelling.{Starter, letter, quote, opening, Ender, closing, comma, neither, Mark, digit, point, Kind, counts, starts, ends, kind, Text, plain, quoting, barred, text, Number, Low, missing, given, Count, exact, from, range, Letters, Quoted, start as opened, byte, quote as doubled, Spells}
+use Rattle.pattern.specs.Reading.{Run, empty, first, pointed, second, Place, counting, inside, after, Around, top, within, join, fork, next, State, enter, extend, leave, quoted, grow, counted, move, step, finish, read-from, start, read}
+
+-- the place after a pattern
+unfoldable pub ended : Around → Syntax pattern → State
+ended k (last (repeat low high b)) = (after low high b, k)
+ended k (then a p) = ended (next k a) p
+
+-- the bytes lead from one place to another
+pub record Leads (q : State) (w : Bytes) (q′ : State) : Type 0 where
+  pub on : (rest : Bytes) → read-from q (w ++ rest) ≡ read-from q′ rest
+
+pub by-step : {q q′ : State} (c : ℕ) → step q c ≡ some q′ → Leads q (c ∷ []) q′
+unfolding read-from
+by-step c e = record { on = λ rest. rw (e, read-from) }
+
+infixl 20 _⨾_
+pub _⨾_ : {q q′ q″ : State} {v w : Bytes} → Leads q v q′ → Leads q′ w q″ → Leads q (v ++ w) q″
+_⨾_ {v = v} {w = w} a b = record { on = λ rest. rw append-assoc (a .on (w ++ rest) ∙ b .on rest) }
+
+-- at the place an atom may begin, and k then stands before it
+record Ready (q : State) (k : Around) : Type 0 where
+  on : (m : Mark) (c : ℕ) → kind c ≡ counts m → step q c ≡ counted k (grow empty m c)
+
+-- at the place a body may begin
+record Enters (q : State) (low : ℕ) (high : Option ℕ) (k : Around) : Type 0 where
+  on : (b : Starter) (c : ℕ) → kind c ≡ starts b → step q c ≡ some (enter low high k b c)
+
+ready : (k : Around) → Ready (counting empty, k) k
+unfolding step move
+ready k = record { on = λ m c e. rw e }
+
+ready-next : (low : ℕ) (high : Option ℕ) (b : Syntax body) (k : Around) → Ready (after low high b, k) (next k (repeat low high b))
+unfolding step move
+ready-next low high b k = record { on = λ m c e. rw e }
+
+first-leads : {q : State} {k : Around} {n : ℕ} {w : Bytes} → Ready q k → Number n w → Leads q w (counting (first n), k)
+unfolding step move grow counted
+first-leads r (Number.one c d) = by-step c (r .on digit c d)
+first-leads r (Number.more h c d) = first-leads r h ⨾ by-step c (rw d)
+
+low-leads : {q : State} {k : Around} {n : ℕ} {w : Bytes} → Ready q k → Low n w → Leads q (w ++ 46 ∷ []) (counting (pointed n), k)
+unfolding step move grow counted kind between
+low-leads r missing = by-step 46 (r .on point 46 refl)
+low-leads r (given h) = first-leads r h ⨾ by-step 46 refl
+
+second-leads : {k : Around} {n m : ℕ} {w : Bytes} → Number m w → Leads (counting (pointed n), k) w (counting (second n m), k)
+unfolding step move grow counted
+second-leads (Number.one c d) = by-step c (rw d)
+second-leads (Number.more h c d) = second-leads h ⨾ by-step c (rw d)
+
+-- after a count a body may begin
+record Counted (q : State) (w : Bytes) (low : ℕ) (high : Option ℕ) (k : Around) : Type 0 where
+  to : State
+  leads : Leads q w to
+  enters : Enters to low high k
+
+count-leads : {q : State} {k : Around} {low : ℕ} {high : Option ℕ} {w : Bytes} → Ready q k → Count low high w → Counted q w low high k
+unfolding step move
+count-leads {k} r (exact {n} h) = record { to = (counting (first n), k); leads = first-leads r h; enters = record { on = λ b c d. rw d } }
+count-leads {k} r (from {n} h) = record { to = (counting (pointed n), k); leads = low-leads r h; enters = record { on = λ b c d. rw d } }
+count-leads {k} r (range {n} {m} {s} {w} h g) = record {
+  to = (counting (second n m), k);
+  leads = rw append-assoc at (low-leads r h ⨾ second-leads g);
+  enters = record { on = λ b c d. rw d };
+}
+
+letters-lead : {q : State} {low : ℕ} {high : Option ℕ} {k : Around} {set : ℕ} {w : Bytes} → Enters q low high k → Letters set w → Leads q w (after low high (codes set), k)
+unfolding step move enter extend
+letters-lead r (Letters.one c d) = by-step c (r .on letter c d)
+letters-lead r (Letters.more h c d) = letters-lead r h ⨾ by-step c (rw d)
+
+quoted-leads : {q : State} {low : ℕ} {high : Option ℕ} {k : Around} {value : Bytes} {w : Bytes} → Enters q low high k → Quoted value w → Leads q w (inside low high value, k)
+unfolding step move enter extend quoted kind between text
+quoted-leads r opened = by-step 34 (r .on quote 34 refl)
+quoted-leads r (byte h c d) = quoted-leads r h ⨾ by-step c (rw d)
+quoted-leads r (doubled h) = rw append-assoc at (quoted-leads r h ⨾ by-step 34 refl ⨾ by-step 34 refl)
+
+pub ended-closes : (k : Around) (low : ℕ) (high : Option ℕ) (others : List (Syntax pattern)) (p : Syntax pattern) (before : List (Syntax atom))
+    → step (ended (within k low high others before) p) 41 ≡ some (after low high (group (fork others (only (join before p)))), k)
+unfolding ended step move kind between leave next join
+ended-closes k low high others (last (repeat l h b)) before = refl
+ended-closes k low high others (then a p) before = ended-closes k low high others p (a ∷ before)
+
+pub ended-parts : (k : Around) (low : ℕ) (high : Option ℕ) (others : List (Syntax pattern)) (p : Syntax pattern) (before : List (Syntax atom))
+    → step (ended (within k low high others before) p) 44 ≡ some (counting empty, within k low high (join before p ∷ others) [])
+unfolding ended step move kind between leave next join
+ended-parts k low high others (last (repeat l h b)) before = refl
+ended-parts k low high others (then a p) before = ended-parts k low high others p (a ∷ before)
+
+ended-finishes : (p : Syntax pattern) (before : List (Syntax atom)) → read-from (ended (top before) p) [] ≡ some (join before p)
+unfolding ended read-from finish next join
+ended-finishes (last (repeat l h b)) before = refl
+ended-finishes (then a p) before = ended-finishes p (a ∷ before)
+
+-- where the source of a tree leads
+abbrev Follows : {s : Sort} → Syntax s → Bytes → Type 0
+Follows {s = pattern} p w = (q : State) (k : Around) → Ready q k → Leads q w (ended k p)
+Follows {s = atom} a w = (q : State) (k : Around) → Ready q k → Leads q w (ended k (last a))
+Follows {s = body} b w = (q : State) (low : ℕ) (high : Option ℕ) (k : Around) → Enters q low high k → Leads q w (after low high b, k)
+Follows {s = branches} bs w = (q : State) (k : Around) (low : ℕ) (high : Option ℕ) (others : List (Syntax pattern)) → Ready q (within k low high others [])
+    → Leads q (w ++ 41 ∷ []) (after low high (group (fork others bs)), k)
+
+follows : {s : Sort} (x : Syntax s) (w : Bytes) → Spells x w → Follows x w
+unfolding Spells Cut ended step enter move quoted text kind between join fork
+follows (last a) w h = follows a w h
+follows (then (repeat low high b) p) w (x, y, e, h, g) = λ q k r.
+    rw e (follows (repeat low high b) x h q k r ⨾ follows p y g (after low high b, k) (next k (repeat low high b)) (ready-next low high b k))
+follows (repeat low high b) w (x, y, e, h, g) = λ q k r.
+    let t = count-leads r h in
+    rw e (t .leads ⨾ follows b y g (t .to) low high k (t .enters))
+follows (codes set) w h = λ q low high k r. letters-lead r h
+follows (literal value) w (x, e, h) = λ q low high k r. rw e (quoted-leads r h ⨾ by-step 34 refl)
+follows (group bs) w (x, e, h) = λ q low high k r.
+    rw e (by-step 40 (r .on opening 40 refl) ⨾ follows bs x h (counting empty, within k low high [] []) k low high [] (ready (within k low high [] [])))
+follows (only p) w h = λ q k low high others r. follows p w h q (within k low high others []) r ⨾ by-step 41 (ended-closes k low high others p [])
+follows (or p bs) w (x, y, e, h, g) = λ q k low high others r.
+    let z : Around = within k low high (p ∷ others) [] in
+    rw (e, append-assoc) (follows p x h q (within k low high others []) r ⨾ (by-step 44 (ended-parts k low high others p []) ⨾ follows bs y g (counting empty, z) k low high (p ∷ others) (ready z)))
+
+-- a source that spells a tree is read as that tree
+pub complete : (t : Syntax pattern) (s : Bytes) → Spells t s → read s ≡ some t
+unfolding read join
+complete t s h = rw append-nil at (follows t s h start (top []) (ready (top [])) .on []) ∙ ended-finishes t []

@@ -1,0 +1,12 @@
+pub mod Tests
+pub mod Stretch
+pub mod Repeat
+pub mod Agree
+pub mod Longest
+pub mod Bound
+pub mod Marks
+pub mod Sound
+pub mod Complete
+pub mod Form
+pub mod Least
+pub mod Stops

@@ -1,0 +1,107 @@
+-- Theorem C: the place of FORM, without the automaton. Assumes nothing.
+use mathlib.Core.Path.{_≡_, refl, sym, ap, _∙_}
+use mathlib.Core.Logic.{_↔_, _⊎_, inl, inr, ⊎-elim}
+use mathlib.Core.Bool.{Bool, true, false}
+use mathlib.Core.List.{List, [], _∷_, _++_, append-assoc, append-nil}
+use mathlib.Core.Option.{Option, none, some, Option·none-ne-some}
+use Prim.Native.Nat.{ℕ, zero, suc, _+_, _≤_, _<_}
+use native.Mathlib.Omega.{arith}
+use lib.Dec.{T, ltb, leb→le}
+use lib.ListN.{length, take}
+use Rattle.pattern.specs.Numbers.{FORM}
+use Rattle.pattern.specs.Bytes.{Bytes}
+use Rattle.pattern.specs.Syntax.{pattern, Syntax}
+use Rattle.pattern.specs.Spelling.{Starter, letter, quote, opening, Kind, counts, starts, ends, kind, Spells}
+use Rattle.pattern.specs.Reading.{Run, empty, first, pointed, second, Place, counting, inside, after, Around, State, step, finish, read-from, start, read}
+use Rattle.pattern.specs.Scan.{Outcome, refused, depth, Begins, an-atom, a-second, a-code, a-group, nothing, begins, begun, refuse, atom-fault, fault, scan}
+use Rattle.pattern.specs.Faults.{Viable, Stops, found, fault-from, fault-at, Least}
+use Rattle.pattern.proofs.Marks.{On}
+use Rattle.pattern.proofs.Complete.{Leads, by-step, _⨾_, complete}
+use Rattle.pattern.proofs.Form.{form, viable, not-viable}
+use Rattle.pattern.proofs.Least.{refused-exactly}
+
+-- no fault of a byte is FORM
+abbrev Other : List (Bool × ℕ) → Type 0
+Other [] = Unit {0}
+Other (t ∷ ts) = T (ltb FORM (t .1)) × Other ts
+
+other : (ts : List (Bool × ℕ)) → Other ts → On (refuse ts) (λ x. FORM < x)
+unfolding refuse
+other [] h = tt
+other (t ∷ ts) (h, g) = go (t .0) (other ts g)
+  where
+    go : (b : Bool) → On (refuse ts) (λ x. FORM < x) → On {A = ℕ} (elim b [ true ↦ some (t .1) | false ↦ refuse ts ]) (λ x. FORM < x)
+    go true g = leb→le (suc FORM) (t .1) h
+    go false g = g
+
+fault-other : (b : Begins) (d n c : ℕ) (s : Bytes) → On (fault b d n c s) (λ x. FORM < x)
+unfolding fault atom-fault
+fault-other an-atom d n c s = other _ (tt, (tt, (tt, tt)))
+fault-other (a-second x) d n c s = other _ (tt, tt)
+fault-other a-code d n c s = other _ (tt, tt)
+fault-other a-group d n c s = other _ (tt, tt)
+fault-other nothing d n c s = tt
+
+-- the form stops j bytes after u
+Stopping : Bytes → Bytes → ℕ → Type 0
+Stopping u s j = Viable (u ++ take j s) × (((j < length s) × ¬ Viable (u ++ take (suc j) s)) ⊎ ((j ≡ length s) × ¬ ((t : Syntax pattern) × Spells t (u ++ s))))
+
+-- the prefix of bytes that some pattern begins with
+shorter : (u v : Bytes) → Viable (u ++ v) → Viable u
+unfolding Viable
+shorter u v (w, t, h) = (v ++ w, t, rw append-assoc at h)
+
+shift : (u : Bytes) (c : ℕ) (s : Bytes) (j : ℕ) → Stopping (u ++ c ∷ []) s j ↔ Stopping u (c ∷ s) (suc j)
+unfolding Stopping
+shift u c s j =
+    rw (append-assoc u (c ∷ []) (take j s), append-assoc u (c ∷ []) (take (suc j) s), append-assoc u (c ∷ []) s) (
+      λ (v, x). (v, ⊎-elim (λ (l, e). inl (omega arith, e)) (λ (l, e). inr (omega arith, e)) x),
+      λ (v, x). (v, ⊎-elim (λ (l, e). inl (omega arith, e)) (λ (l, e). inr (omega arith, e)) x),
+    )
+
+module _ (u : Bytes) (q : State) (h : Leads start u q) where
+  at-end : (o : Option (Syntax pattern)) → read-from q [] ≡ o → (_≡_ {A = Option ℕ} (elim o [ none ↦ some FORM | some t ↦ none ]) (some FORM)) ↔ Stopping u [] 0
+  unfolding Stopping read
+  at-end none e = (
+    λ x. (rw append-nil (viable u q h), inr (refl, λ (t, y). let a : read-from start (u ++ []) ≡ some t = complete t (u ++ []) y in Option·none-ne-some t (cc (h .on [])))),
+    λ x. refl,
+  )
+  at-end (some t) e = (
+    λ x. absurd (Option·none-ne-some FORM x),
+    λ (v, x). absurd (⊎-elim (λ (l, y). omega arith) (λ (l, y). y (t, form (u ++ []) t .0 (h .on [] ∙ e))) x),
+  )
+
+  at-byte : (c : ℕ) (s : Bytes) (o : Option State) → step q c ≡ o → (x : Option ℕ) → On x (λ f. FORM < f)
+      → (_≡_ {A = Option ℕ} (elim o [ none ↦ some FORM | some q′ ↦ x ]) (some FORM)) ↔ Stopping u (c ∷ s) 0
+  unfolding Stopping
+  at-byte c s none e x g = (λ y. (rw append-nil (viable u q h), inl (omega arith, not-viable u q c h e)), λ y. refl)
+  at-byte c s (some q′) e x g = (
+    λ y. absurd (let z : FORM < FORM = rw y at g in omega arith),
+    λ (v, y). absurd (⊎-elim (λ (l, z). z (viable (u ++ c ∷ []) q′ (h ⨾ by-step c e))) (λ (l, z). omega arith) y),
+  )
+
+  at-later : (c : ℕ) (s : Bytes) (n j : ℕ) (o : Option State) → step q c ≡ o
+      → ((q′ : State) → Leads start (u ++ c ∷ []) q′ → (fault-from q′ n s j ≡ some FORM) ↔ Stopping (u ++ c ∷ []) s j)
+      → (_≡_ {A = Option ℕ} (elim o [ none ↦ none | some q′ ↦ fault-from q′ n s j ]) (some FORM)) ↔ Stopping u (c ∷ s) (suc j)
+  at-later c s n j none e g = (
+    λ x. absurd (Option·none-ne-some FORM x),
+    λ x. absurd (not-viable u q c h e (shorter (u ++ c ∷ []) (take j s) (unfold Stopping in rw append-assoc (x .0)))),
+  )
+  at-later c s n j (some q′) e g =
+      let a = g q′ (h ⨾ by-step c e) in
+      let b = shift u c s j in
+      (λ x. b .0 (a .0 x), λ x. a .1 (b .1 x))
+
+stops-from : (s : Bytes) (q : State) (n : ℕ) (u : Bytes) → Leads start u q → (j : ℕ) → (fault-from q n s j ≡ some FORM) ↔ Stopping u s j
+unfolding fault-from found read-from
+stops-from [] q n u h zero = at-end u q h (finish (q .0) (q .1)) refl
+stops-from [] q n u h (suc j) =
+    (λ x. absurd (Option·none-ne-some FORM x), unfold Stopping in λ (v, x). absurd (⊎-elim (λ (l, y). omega arith) (λ (l, y). omega arith) x))
+stops-from (c ∷ s) q n u h zero = at-byte u q h c s (step q c) refl (fault (begins (q .0) (kind c)) (depth (q .1)) n c s) (fault-other (begins (q .0) (kind c)) (depth (q .1)) n c s)
+stops-from (c ∷ s) q n u h (suc j) =
+    at-later u q h c s (begun (begins (q .0) (kind c)) n) j (step q c) refl (λ q′ g. stops-from s q′ (begun (begins (q .0) (kind c)) n) (u ++ c ∷ []) g j)
+
+-- Theorem C: the fault at a position is FORM just where the form stops there
+pub stops : (s : Bytes) (p : ℕ) → (fault-at s p ≡ some FORM) ↔ Stops s p
+unfolding Stops Stopping fault-at
+stops s p = stops-from s start 0 [] (record { on = λ rest. refl }) p

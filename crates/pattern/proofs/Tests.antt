@@ -1,0 +1,57 @@
+-- Tests that compute, and the facts that they decide. Assumes nothing.
+use mathlib.Core.Path.{_≡_}
+use mathlib.Core.Logic.{_↔_, _⊎_, inl, inr, ⊎-elim}
+use mathlib.Core.Bool.{Bool, true, false, not, cond, _&&_, _||_}
+use Prim.Native.Nat.{ℕ, zero, suc, _<_, _≤_}
+use native.Mathlib.Nat.{eq-or-lt-of-le}
+use native.Mathlib.Decide.{decLe}
+use native.Mathlib.Omega.{arith}
+use lib.Dec.{T, leb, leb→le, le→leb, eqb, eqb→eq, eqb-refl}
+use Rattle.pattern.specs.Decision.{any}
+
+-- the test passes just when the fact holds
+pub record Decides (x : Bool) (X : Type 0) : Type 0 where
+  pub sound : T x → X
+  pub complete : X → T x
+
+pub via : {x : Bool} {X Y : Type 0} → Decides x X → X ↔ Y → Decides x Y
+via a e = record { sound = λ h. e .0 (a .sound h); complete = λ h. a .complete (e .1 h) }
+
+pub both : {x y : Bool} {X Y : Type 0} → Decides x X → Decides y Y → Decides (x && y) (X × Y)
+both {x = true} a b = record { sound = λ h. (a .sound tt, b .sound h); complete = λ h. b .complete (h .1) }
+both {x = false} a b = record { sound = λ h. absurd h; complete = λ h. a .complete (h .0) }
+
+pub either : {x y : Bool} {X Y : Type 0} → Decides x X → Decides y Y → Decides (x || y) (X ⊎ Y)
+either {x = true} a b = record { sound = λ h. inl (a .sound tt); complete = λ h. tt }
+either {x = false} a b = record { sound = λ h. inr (b .sound h); complete = ⊎-elim (λ h. absurd (a .complete h)) (b .complete) }
+
+pub no-test : {X : Type 0} → ¬ X → Decides false X
+no-test f = record { sound = λ h. absurd h; complete = f }
+
+pub leb-decides : (m n : ℕ) → Decides (leb m n) (m ≤ n)
+leb-decides m n = record { sound = leb→le m n; complete = le→leb m n }
+
+pub eqb-decides : (m n : ℕ) → Decides (eqb m n) (m ≡ n)
+eqb-decides m n = record { sound = eqb→eq m n; complete = λ e. rw e (eqb-refl n) }
+
+-- what holds of x where the test passes, and of y where it fails, holds of the choice
+pub cond-case : (b : Bool) (F : ℕ → Type 0) {x y : ℕ} → (T b → F x) → (T (not b) → F y) → F (cond b x y)
+cond-case true F f g = f tt
+cond-case false F f g = g tt
+
+pub le-or-lt : (a b : ℕ) → (a ≤ b) ⊎ (b < a)
+le-or-lt a b = elim (decLe a b) [ yes h ↦ inl h | no h ↦ inr (omega arith) ]
+
+-- a number below c + 1 is c or below c
+pub below-suc : {d c : ℕ} → d < suc c → (d ≡ c) ⊎ (d < c)
+below-suc h = eq-or-lt-of-le (omega arith)
+
+-- some number below c passes just when the fact holds of one
+pub any-decides : (c : ℕ) {p : ℕ → Bool} {X : ℕ → Type 0} → ((d : ℕ) → d < c → Decides (p d) (X d)) → Decides (any c p) ((d : ℕ) × (d < c) × X d)
+unfolding any
+any-decides zero f = no-test (λ h. omega arith)
+any-decides (suc c) f =
+    via (either (f c (omega arith)) (any-decides c (λ d h. f d (omega arith)))) (
+      ⊎-elim (λ x. (c, omega arith, x)) (λ (d, h, x). (d, omega arith, x)),
+      λ (d, h, x). ⊎-elim (λ e. inl (rw e at x)) (λ k. inr (d, k, x)) (below-suc h),
+    )

@@ -1,0 +1,35 @@
+-- Lists of bytes. Assumes nothing.
+use mathlib.Core.Bool.{Bool, true, false, _&&_}
+use mathlib.Core.List.{List, [], _∷_, _++_}
+use Prim.Native.Nat.{ℕ, _/_, _%_}
+use Prim.Native.Char.{Char, code}
+use Prim.Native.String.{String, [] as end, _∷_ as _then_}
+use lib.Dec.{leb, eqb}
+use lib.ListN.{length, drop}
+
+abbrev pub Bytes : Type 0
+Bytes = List ℕ
+
+-- a number is from a to b
+unfoldable pub between : ℕ → ℕ → ℕ → Bool
+between a b c = leb a c && leb c b
+
+-- two lists are the same
+unfoldable pub same : Bytes → Bytes → Bool
+same [] [] = true
+same [] (b ∷ s) = false
+same (a ∷ v) [] = false
+same (a ∷ v) (b ∷ s) = eqb a b && same v s
+
+-- a number in two bytes, the lower first, before others
+abbrev pub word : ℕ → Bytes → Bytes
+word x s = x % 256 ∷ x / 256 ∷ s
+
+-- lent bytes with a result at their start; the bytes after it stay
+unfoldable pub over : Bytes → Bytes → Bytes
+over result lent = result ++ drop (length result) lent
+
+-- the bytes of a text
+unfoldable pub bytes : String → Bytes
+bytes end = []
+bytes (c then s) = code c ∷ bytes s

@@ -1,0 +1,75 @@
+-- The tree of a good table. Assumes nothing.
+use mathlib.Core.Bool.{Bool, true, false}
+use mathlib.Core.List.{List, [], _∷_}
+use mathlib.Core.Option.{Option, none, some}
+use Prim.Native.Nat.{ℕ, zero, suc, _+_, _*_, pred}
+use lib.Dec.{eqb}
+use lib.ListN.{length, getD, take, drop}
+use Rattle.pattern.specs.Numbers.{header-size, record-size, open-high}
+use Rattle.pattern.specs.Bytes.{Bytes, same}
+use Rattle.pattern.specs.Syntax.{pattern, atom, body, branches, Syntax, last, then, repeat, codes, literal, group, only, or, size}
+use Rattle.pattern.specs.Scan.{Outcome, refused, accepted, outcome}
+use Rattle.pattern.specs.Print.{print}
+use Rattle.pattern.specs.Table.{Rec, encode}
+
+-- the 16 bits at a place
+abbrev pub field : Bytes → ℕ → ℕ
+field s at = getD s at 0 + 256 * getD s (at + 1) 0
+
+-- the record at a place
+abbrev pub rec-at : Bytes → ℕ → Rec
+rec-at s at =
+    record { kind = getD s at 0; ends = getD s (at + 1) 0; low = field s (at + 2); high = field s (at + 4); a = field s (at + 6); b = field s (at + 8) }
+
+-- how a table is laid out: where its records begin, and where its pool
+pub record Layout : Type 0 where
+  pub records : ℕ
+  pub pool : ℕ
+
+abbrev pub layout : Bytes → Layout
+layout s = record { records = header-size; pool = header-size + record-size * getD s 5 0 }
+
+-- the high number that a record's field stands for
+unfoldable pub high-of : ℕ → Option ℕ
+high-of h = elim (eqb h open-high) [ true ↦ none | false ↦ some h ]
+
+-- a tree for bytes that hold none
+abbrev pub blank : Syntax atom
+blank = repeat 0 none (codes 0)
+
+module _ (s : Bytes) (l : Layout) where
+  -- the record of atom i
+  abbrev pub its : ℕ → Rec
+  its i = rec-at s (l .records + record-size * i)
+
+  -- what the records from i on are read as, whatever they are; the first number bounds the depth of calls
+  unfoldable mutual
+    pub pattern-at : (f i : ℕ) → Syntax pattern
+    pattern-at zero i = last blank
+    pattern-at (suc f) i = let a : Syntax atom = atom-at f i in elim (eqb (its i .ends) 1) [ true ↦ last a | false ↦ then a (pattern-at f (i + size a)) ]
+
+    pub atom-at : (f i : ℕ) → Syntax atom
+    atom-at zero i = blank
+    atom-at (suc f) i = repeat (its i .low) (high-of (its i .high)) (body-at f (its i) i)
+
+    pub body-at : ℕ → Rec → ℕ → Syntax body
+    body-at zero r i = codes 0
+    body-at (suc f) r i = elim (eqb (r .kind) 1) [
+      | true ↦ codes (r .a)
+      | false ↦ elim (eqb (r .kind) 2) [ true ↦ literal (take (r .b) (drop (l .pool + r .a) s)) | false ↦ group (branches-at f (r .a) (suc i)) ]
+    ]
+
+    pub branches-at : (f k i : ℕ) → Syntax branches
+    branches-at zero k i = only (last blank)
+    branches-at (suc f) k i = let p : Syntax pattern = pattern-at f i in elim (eqb k 1) [ true ↦ only p | false ↦ or p (branches-at f (pred k) (i + size p)) ]
+
+-- the tree that bytes are read as
+unfoldable pub tree-of : Bytes → Syntax pattern
+tree-of s = pattern-at s (layout s) (length s) 0
+
+-- "A table is good exactly when some accepted source compiles to it": the shortest source of its tree does
+unfoldable pub decode : Bytes → Option (Syntax pattern)
+decode s = elim (outcome (print (tree-of s))) [
+  | refused f p ↦ none
+  | accepted t ↦ elim (same (encode t) s) [ true ↦ some t | false ↦ none ]
+]

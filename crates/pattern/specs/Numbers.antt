@@ -1,0 +1,108 @@
+-- The numbers of the paper: limits, refusals, mark and sizes, each named once. Assumes nothing.
+use mathlib.Core.List.{List, [], _∷_}
+use Prim.Native.Nat.{ℕ}
+
+-- "source at most 512 bytes"
+abbrev pub source-limit : ℕ
+source-limit = 512
+
+-- "at most 64 atoms, groups counted as atoms"
+abbrev pub atom-limit : ℕ
+atom-limit = 64
+
+-- "groups at most 8 deep"
+abbrev pub depth-limit : ℕ
+depth-limit = 8
+
+-- "a repeat number at most 9,999"
+abbrev pub number-limit : ℕ
+number-limit = 9999
+
+-- "label at most 255 bytes"
+abbrev pub label-limit : ℕ
+label-limit = 255
+
+-- sets of codes are below this; in a spelling it is the bit of every letter other than the seven
+abbrev pub set-limit : ℕ
+set-limit = 128
+
+-- the bytes of the notation: " ( ) , . 0
+abbrev pub quote-byte : ℕ
+quote-byte = 34
+
+abbrev pub opening-byte : ℕ
+opening-byte = 40
+
+abbrev pub closing-byte : ℕ
+closing-byte = 41
+
+abbrev pub comma-byte : ℕ
+comma-byte = 44
+
+abbrev pub point-byte : ℕ
+point-byte = 46
+
+abbrev pub zero-byte : ℕ
+zero-byte = 48
+
+-- the refusal numbers
+abbrev pub LONG : ℕ
+LONG = 1
+
+abbrev pub FORM : ℕ
+FORM = 2
+
+abbrev pub CODE : ℕ
+CODE = 3
+
+abbrev pub NUMBER : ℕ
+NUMBER = 4
+
+abbrev pub RANGE : ℕ
+RANGE = 5
+
+abbrev pub ATOMS : ℕ
+ATOMS = 6
+
+abbrev pub DEPTH : ℕ
+DEPTH = 7
+
+abbrev pub ROOM : ℕ
+ROOM = 8
+
+abbrev pub ANSWER : ℕ
+ANSWER = 9
+
+abbrev pub TABLE : ℕ
+TABLE = 11
+
+abbrev pub LABEL : ℕ
+LABEL = 12
+
+abbrev pub WORK : ℕ
+WORK = 13
+
+abbrev pub PARTS : ℕ
+PARTS = 14
+
+abbrev pub BUDGET : ℕ
+BUDGET = 15
+
+-- "the mark MPT"
+abbrev pub mark : List ℕ
+mark = 77 ∷ 80 ∷ 84 ∷ []
+
+-- "a 16-bit version, now 1"
+abbrev pub version : ℕ
+version = 1
+
+-- where the records start, and the bytes of each
+abbrev pub header-size : ℕ
+header-size = 8
+
+abbrev pub record-size : ℕ
+record-size = 10
+
+-- "high is 65,535 for no upper end"
+abbrev pub open-high : ℕ
+open-high = 65535

@@ -1,0 +1,113 @@
+-- The refusals of a source, 1 to 7, by the order of their positions, and the tree of an accepted one. Assumes nothing.
+use mathlib.Core.Bool.{Bool, true, false, _&&_, cond}
+use mathlib.Core.List.{List, [], _∷_}
+use mathlib.Core.Option.{Option, none, some}
+use Prim.Native.Nat.{ℕ, zero, suc}
+use lib.Dec.{leb, ltb}
+use lib.ListN.{length}
+use Rattle.pattern.specs.Numbers.{source-limit, atom-limit, depth-limit, number-limit, set-limit, LONG, FORM, CODE, NUMBER, RANGE, ATOMS, DEPTH}
+use Rattle.pattern.specs.Bytes.{Bytes}
+use Rattle.pattern.specs.Codes.{bit}
+use Rattle.pattern.specs.Syntax.{pattern, Syntax}
+use Rattle.pattern.specs.Spelling.{Starter, letter, quote, opening, Kind, counts, starts, ends, kind}
+use Rattle.pattern.specs.Reading.{Run, empty, first, pointed, second, Place, counting, inside, after, Around, top, within, State, grow, step, finish, start}
+
+-- the two numbers of a count
+unfoldable pub low : Run → ℕ
+low empty = 0
+low (first n) = n
+low (pointed n) = n
+low (second n m) = n
+
+unfoldable pub high : Run → Option ℕ
+high empty = none
+high (first n) = some n
+high (pointed n) = none
+high (second n m) = some m
+
+-- the longest run that begins so
+unfoldable pub ahead : Run → Bytes → Run
+ahead r [] = r
+ahead r (c ∷ s) = elim (kind c) [ counts m ↦ elim (grow r m c) [ none ↦ r | some r′ ↦ ahead r′ s ] | starts b ↦ r | ends e ↦ r ]
+
+-- how many groups are open
+unfoldable pub depth : Around → ℕ
+depth (top before) = 0
+depth (within k l h others before) = suc (depth k)
+
+-- what begins with a byte: an atom, the second number of a count, a code letter, a group, or none of these
+pub data Begins : Type 0 where
+  an-atom a-code a-group nothing : Begins
+  a-second : (n : ℕ) → Begins
+
+unfoldable pub body-begins : Starter → Begins
+body-begins letter = a-code
+body-begins quote = nothing
+body-begins opening = a-group
+
+unfoldable pub begins : Place → Kind → Begins
+begins (counting empty) (counts m) = an-atom
+begins (counting (first n)) (counts m) = nothing
+begins (counting (pointed n)) (counts m) = a-second n
+begins (counting (second n m)) (counts x) = nothing
+begins (counting r) (starts b) = body-begins b
+begins (counting r) (ends e) = nothing
+begins (inside l h value) x = nothing
+begins (after l h b) (counts m) = an-atom
+begins (after l h b) (starts x) = body-begins x
+begins (after l h b) (ends e) = nothing
+
+-- the atoms begun once that byte is read
+unfoldable pub begun : Begins → ℕ → ℕ
+begun an-atom n = suc n
+begun (a-second x) n = n
+begun a-code n = n
+begun a-group n = n
+begun nothing n = n
+
+-- a second number over 9,999
+unfoldable pub large : Option ℕ → Bool
+large none = false
+large (some m) = ltb number-limit m
+
+-- a second number less than the first
+unfoldable pub falls : ℕ → Option ℕ → Bool
+falls n none = false
+falls n (some m) = ltb m n
+
+-- the number of the first test that finds a fault
+unfoldable pub refuse : List (Bool × ℕ) → Option ℕ
+refuse [] = none
+refuse (t ∷ ts) = elim (t .0) [ true ↦ some (t .1) | false ↦ refuse ts ]
+
+-- the fault of an atom that begins after n others with this count; where the first number fits and the second is less, both fit
+unfoldable pub atom-fault : ℕ → Run → Option ℕ
+atom-fault n r = refuse ((ltb number-limit (low r), NUMBER) ∷ (leb (low r) number-limit && falls (low r) (high r), RANGE) ∷ (leb atom-limit n, ATOMS) ∷ [])
+
+-- the lowest fault other than FORM at the byte c with which this begins, inside d groups and after n atoms; s is the source after it
+unfoldable pub fault : Begins → (d n c : ℕ) → Bytes → Option ℕ
+fault an-atom d n c s = atom-fault n (ahead empty (c ∷ s))
+fault (a-second x) d n c s = refuse ((large (high (ahead (pointed x) (c ∷ s))), NUMBER) ∷ [])
+fault a-code d n c s = refuse ((leb set-limit (bit c), CODE) ∷ [])
+fault a-group d n c s = refuse ((leb depth-limit d, DEPTH) ∷ [])
+fault nothing d n c s = none
+
+-- what becomes of a source: the refusal and its position, or the tree
+pub data Outcome : Type 0 where
+  refused : (number position : ℕ) → Outcome
+  accepted : Syntax pattern → Outcome
+
+-- the source from position i on, after n atoms: the first position with a fault, and there the lowest number
+unfoldable pub scan : State → (i n : ℕ) → Bytes → Outcome
+scan q i n [] = elim (finish (q .0) (q .1)) [ none ↦ refused FORM i | some t ↦ accepted t ]
+scan q i n (c ∷ s) = elim (step q c) [
+  | none ↦ refused FORM i
+  | some q′ ↦ elim (fault (begins (q .0) (kind c)) (depth (q .1)) n c s) [
+    | some f ↦ refused f i
+    | none ↦ scan q′ (suc i) (begun (begins (q .0) (kind c)) n) s
+  ]
+]
+
+-- LONG first, then the scan
+unfoldable pub outcome : Bytes → Outcome
+outcome s = cond (leb (length s) source-limit) (scan start 0 0 s) (refused LONG source-limit)

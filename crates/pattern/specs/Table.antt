@@ -1,0 +1,83 @@
+-- The table of a tree, as a list of bytes. Assumes nothing.
+use mathlib.Core.List.{List, [], _∷_, _++_}
+use mathlib.Core.Option.{Option, none, some}
+use Prim.Native.Nat.{ℕ, suc, _+_}
+use lib.ListN.{length}
+use Rattle.pattern.specs.Numbers.{mark, version, open-high}
+use Rattle.pattern.specs.Bytes.{Bytes, word}
+use Rattle.pattern.specs.Syntax.{Sort, pattern, branches, body, Syntax, last, then, repeat, codes, literal, group, only, or, size}
+
+-- the values of the literals, in atom order
+unfoldable pub pool : {s : Sort} → Syntax s → Bytes
+pool (last a) = pool a
+pool (then a p) = pool a ++ pool p
+pool (repeat low high b) = pool b
+pool (codes set) = []
+pool (literal value) = value
+pool (group bs) = pool bs
+pool (only p) = pool p
+pool (or p bs) = pool p ++ pool bs
+
+-- the number of branches
+unfoldable pub choices : Syntax branches → ℕ
+choices (only p) = 1
+choices (or p bs) = suc (choices bs)
+
+-- the high number in a record
+unfoldable pub high-field : Option ℕ → ℕ
+high-field none = open-high
+high-field (some m) = m
+
+-- what a record says of an atom; ends is the paper's last
+pub record Rec : Type 0 where
+  pub kind : ℕ
+  pub ends : ℕ
+  pub low : ℕ
+  pub high : ℕ
+  pub a : ℕ
+  pub b : ℕ
+
+-- what a record says of the body of the atom with index i, with p bytes in the pool before it: kind, a and b
+unfoldable pub kind-field : Syntax body → ℕ
+kind-field (codes set) = 1
+kind-field (literal value) = 2
+kind-field (group bs) = 3
+
+unfoldable pub a-field : Syntax body → (p : ℕ) → ℕ
+a-field (codes set) p = set
+a-field (literal value) p = p
+a-field (group bs) p = choices bs
+
+unfoldable pub b-field : Syntax body → (i : ℕ) → ℕ
+b-field (codes set) i = 0
+b-field (literal value) i = length value
+b-field (group bs) i = suc i + size bs
+
+-- an atom's record; e is 1 if the atom ends its branch, else 0
+abbrev pub rec : (e low : ℕ) → Option ℕ → Syntax body → (i p : ℕ) → Rec
+rec e low high x i p =
+    record { kind = kind-field x; ends = e; low = low; high = high-field high; a = a-field x p; b = b-field x i }
+
+-- the records in source order, a group before its contents; e is for an atom alone, a pattern knows which of its atoms ends the branch
+unfoldable pub records : {s : Sort} → ℕ → Syntax s → (i p : ℕ) → List Rec
+records e (last a) i p = records 1 a i p
+records e (then a q) i p = records 0 a i p ++ records e q (i + size a) (p + length (pool a))
+records e (repeat low high b) i p = rec e low high b i p ∷ records e b (suc i) p
+records e (codes set) i p = []
+records e (literal value) i p = []
+records e (group bs) i p = records e bs i p
+records e (only q) i p = records e q i p
+records e (or q bs) i p = records e q i p ++ records e bs (i + size q) (p + length (pool q))
+
+-- the bytes of records, before others
+unfoldable pub flat : List Rec → Bytes → Bytes
+flat [] s = s
+flat (r ∷ rs) s = r .kind ∷ r .ends ∷ word (r .low) (word (r .high) (word (r .a) (word (r .b) (flat rs s))))
+
+-- the header of n atoms and m bytes of pool, before others
+unfoldable pub header : (n m : ℕ) → Bytes → Bytes
+header n m s = mark ++ word version (n ∷ word m s)
+
+-- "a table": header, records, pool
+unfoldable pub encode : Syntax pattern → Bytes
+encode t = header (size t) (length (pool t)) (flat (records 1 t 0 0) (pool t))

@@ -1,0 +1,44 @@
+-- The count of trials, as 'Counting trials' has it. Assumes nothing.
+use mathlib.Core.Bool.{Bool, cond}
+use mathlib.Core.List.{List, [], _∷_}
+use Prim.Native.Nat.{ℕ, zero, suc, _+_, _-_}
+use lib.ListN.{length}
+use Rattle.pattern.specs.Bytes.{Bytes}
+use Rattle.pattern.specs.Syntax.{pattern, atom, Syntax, last, then, repeat, nodes}
+use Rattle.pattern.specs.Decision.{Rel, trial, made, most, decide}
+
+-- how many numbers below c are tried, from c - 1 down, until one passes
+unfoldable pub tries : ℕ → (ℕ → Bool) → ℕ
+tries zero p = zero
+tries (suc c) p = cond (p c) 1 (suc (tries c p))
+
+-- the sum of f at the numbers below c
+unfoldable pub sum : ℕ → (ℕ → ℕ) → ℕ
+sum zero f = zero
+sum (suc c) f = sum c f + f c
+
+-- the sum of f at all i and j with 0 ≤ i ≤ j ≤ n
+unfoldable pub stretches : ℕ → (ℕ → ℕ → ℕ) → ℕ
+stretches n f = sum (suc n) (λ j. sum (suc j) (λ i. f i j))
+
+-- the trials of a join, over all stretches of n bytes
+unfoldable pub joins : ℕ → Rel → Rel → ℕ
+joins n R S = stretches n (λ i j. tries (suc j - i) (trial R S i j))
+
+-- the trials of an atom's bodies: one join for each k from 1 to K
+unfoldable pub repeats : Bytes → Syntax atom → ℕ
+repeats l (repeat low high b) = sum (most (length l) high) (λ k. joins (length l) (decide l b) (made (decide l b) k))
+
+-- the trials of an atom: those of its bodies, and those of the join with its followers if it is not last in its branch
+unfoldable pub own : Bytes → Syntax pattern → ℕ
+own l (last a) = repeats l a
+own l (then a p) = repeats l a + joins (length l) (decide l a) (decide l p)
+
+-- the sum of f over a list
+unfoldable pub total : (Syntax pattern → ℕ) → List (Syntax pattern) → ℕ
+total f [] = 0
+total f (x ∷ xs) = f x + total f xs
+
+-- the count: the trials of all atoms of a pattern on a label
+unfoldable pub trials : Bytes → Syntax pattern → ℕ
+trials l p = total (own l) (nodes p)
