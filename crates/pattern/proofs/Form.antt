@@ -12,7 +12,7 @@ use Rattle.pattern.specs.Syntax.{pattern, atom, body, Syntax, repeat, gr
 use Rattle.pattern.specs.Spelling.{kind, text, Spells}
 use Rattle.pattern.specs.Reading.{Run, empty, first, pointed, second, Place, counting, inside, after, Around, top, within, next, State, enter, extend, leave, quoted, grow, counted, move, step, finish, read-from, start, read}
 use Rattle.pattern.specs.Faults.{Viable, Stops, found, fault-from, fault-at}
-use Rattle.pattern.proofs.Marks.{On}
+use Rattle.pattern.proofs.Tests.{On}
 use Rattle.pattern.proofs.Sound.{sound}
 use Rattle.pattern.proofs.Complete.{Leads, by-step, _⨾_, complete}
 

@@ -4,9 +4,14 @@ pub mod Repeat
 pub mod Agree
 pub mod Longest
 pub mod Bound
-pub mod Marks
+pub mod Notation
 pub mod Sound
 pub mod Complete
 pub mod Form
 pub mod Least
 pub mod Stops
+pub mod Begun
+pub mod Accepted
+pub mod Printed
+pub mod Shortest
+pub mod Records

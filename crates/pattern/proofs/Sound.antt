@@ -9,7 +9,8 @@ use Rattle.pattern.specs.Syntax.{pattern, atom, body, branches, Syntax, 
 use Rattle.pattern.specs.Meaning.{Cut}
 use Rattle.pattern.specs.Spelling.{Starter, letter, quote, opening, Ender, closing, comma, neither, Mark, digit, point, Kind, counts, starts, ends, kind, Text, plain, quoting, barred, text, Number, Low, missing, given, Count, exact, from, range, Letters, Quoted, start as opened, byte, quote as doubled, Spells}
 use Rattle.pattern.specs.Reading.{Run, empty, first, pointed, second, Place, counting, inside, after, Around, top, within, join, fork, next, State, enter, extend, leave, quoted, grow, counted, move, step, finish, read-from, start, read}
-use Rattle.pattern.proofs.Marks.{On, kind-byte, Byte, text-byte, TextByte}
+use Rattle.pattern.proofs.Tests.{On}
+use Rattle.pattern.proofs.Notation.{Byte, kind-byte, TextByte, text-byte}
 
 -- the atoms before, the nearest first
 Before : List (Syntax atom) → Bytes → Type 0

@@ -15,7 +15,7 @@ use Rattle.pattern.specs.Spelling.{Starter, letter, quote, opening, Kind
 use Rattle.pattern.specs.Reading.{Run, empty, first, pointed, second, Place, counting, inside, after, Around, State, step, finish, read-from, start, read}
 use Rattle.pattern.specs.Scan.{Outcome, refused, depth, Begins, an-atom, a-second, a-code, a-group, nothing, begins, begun, refuse, atom-fault, fault, scan}
 use Rattle.pattern.specs.Faults.{Viable, Stops, found, fault-from, fault-at, Least}
-use Rattle.pattern.proofs.Marks.{On}
+use Rattle.pattern.proofs.Tests.{On}
 use Rattle.pattern.proofs.Complete.{Leads, by-step, _⨾_, complete}
 use Rattle.pattern.proofs.Form.{form, viable, not-viable}
 use Rattle.pattern.proofs.Least.{refused-exactly}

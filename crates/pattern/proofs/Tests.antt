@@ -1,7 +1,8 @@
 -- Tests that compute, and the facts that they decide. Assumes nothing.
-use mathlib.Core.Path.{_≡_}
+use mathlib.Core.Path.{_≡_, refl}
 use mathlib.Core.Logic.{_↔_, _⊎_, inl, inr, ⊎-elim}
 use mathlib.Core.Bool.{Bool, true, false, not, cond, _&&_, _||_}
+use mathlib.Core.Option.{Option, none, some}
 use Prim.Native.Nat.{ℕ, zero, suc, _<_, _≤_}
 use native.Mathlib.Nat.{eq-or-lt-of-le}
 use native.Mathlib.Decide.{decLe}
@@ -16,6 +17,15 @@ pub record Decides (x : Bool) (X : Type 0) : Type 0 where
 
 pub via : {x : Bool} {X Y : Type 0} → Decides x X → X ↔ Y → Decides x Y
 via a e = record { sound = λ h. e .0 (a .sound h); complete = λ h. a .complete (e .1 h) }
+
+pub and-both : (a b : Bool) → T (a && b) → T a × T b
+and-both true b t = (tt, t)
+and-both false b t = absurd t
+
+-- a test that passes
+pub passed : (b : Bool) → T b → b ≡ true
+passed true t = refl
+passed false t = absurd t
 
 pub both : {x y : Bool} {X Y : Type 0} → Decides x X → Decides y Y → Decides (x && y) (X × Y)
 both {x = true} a b = record { sound = λ h. (a .sound tt, b .sound h); complete = λ h. b .complete (h .1) }
@@ -35,9 +45,14 @@ pub eqb-decides : (m n : ℕ) → Decides (eqb m n) (m ≡ n)
 eqb-decides m n = record { sound = eqb→eq m n; complete = λ e. rw e (eqb-refl n) }
 
 -- what holds of x where the test passes, and of y where it fails, holds of the choice
-pub cond-case : (b : Bool) (F : ℕ → Type 0) {x y : ℕ} → (T b → F x) → (T (not b) → F y) → F (cond b x y)
+pub cond-case : {A : Type 0} (b : Bool) (F : A → Type 0) {x y : A} → (T b → F x) → (T (not b) → F y) → F (cond b x y)
 cond-case true F f g = f tt
 cond-case false F f g = g tt
+
+-- what holds of the value, if there is one
+abbrev pub On : {A : Type 0} → Option A → (A → Type 0) → Type 0
+On none P = Unit {0}
+On (some a) P = P a
 
 pub le-or-lt : (a b : ℕ) → (a ≤ b) ⊎ (b < a)
 le-or-lt a b = elim (decLe a b) [ yes h ↦ inl h | no h ↦ inr (omega arith) ]
@@ -45,6 +60,17 @@ le-or-lt a b = elim (decLe a b) [ yes h ↦ inl h | no h ↦ inr (omega arith) ]
 -- a number below c + 1 is c or below c
 pub below-suc : {d c : ℕ} → d < suc c → (d ≡ c) ⊎ (d < c)
 below-suc h = eq-or-lt-of-le (omega arith)
+
+-- every number below c passes
+unfoldable pub all : ℕ → (ℕ → Bool) → Bool
+all zero p = true
+all (suc c) p = p c && all c p
+
+-- a test that computes over all of them holds of each
+pub all-at : (n : ℕ) (p : ℕ → Bool) → T (all n p) → (k : ℕ) → k < n → T (p k)
+unfolding all
+all-at zero p t k h = absurd (omega arith)
+all-at (suc n) p t k h = let (a, b) = and-both (p n) (all n p) t in ⊎-elim (λ e. rw e a) (λ l. all-at n p b k l) (below-suc h)
 
 -- some number below c passes just when the fact holds of one
 pub any-decides : (c : ℕ) {p : ℕ → Bool} {X : ℕ → Type 0} → ((d : ℕ) → d < c → Decides (p d) (X d)) → Decides (any c p) ((d : ℕ) × (d < c) × X d)
