@@ -24,7 +24,7 @@ one-decides set [] = no-test (λ (b, e, t). omega (arith, ap length e))
 one-decides set (b ∷ []) = record { sound = λ h. (b, refl, h); complete = λ (c, e, t). let f : b ≡ c = cc in rw f t }
 one-decides set (b ∷ c ∷ s) = no-test (λ (d, e, t). omega (arith, ap length e))
 
-same-decides : (s v : Bytes) → Decides (same s v) (s ≡ v)
+pub same-decides : (s v : Bytes) → Decides (same s v) (s ≡ v)
 unfolding same
 same-decides [] [] = record { sound = λ h. refl; complete = λ e. tt }
 same-decides [] (b ∷ v) = no-test (λ e. omega (arith, ap length e))

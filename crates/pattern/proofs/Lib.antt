@@ -15,3 +15,4 @@ pub mod Accepted
 pub mod Printed
 pub mod Shortest
 pub mod Records
+pub mod RoundTrip

@@ -49,6 +49,13 @@ pub cond-case : {A : Type 0} (b : Bool) (F : A → Type 0) {x y : A} → (T b �
 cond-case true F f g = f tt
 cond-case false F f g = g tt
 
+-- a choice whose test is known
+pub if-true : {A : Type 0} (b : Bool) (x y : A) → b ≡ true → (elim b [ true ↦ x | false ↦ y ]) ≡ x
+if-true b x y e = rw e
+
+pub if-false : {A : Type 0} (b : Bool) (x y : A) → b ≡ false → (elim b [ true ↦ x | false ↦ y ]) ≡ y
+if-false b x y e = rw e
+
 -- what holds of the value, if there is one
 abbrev pub On : {A : Type 0} → Option A → (A → Type 0) → Type 0
 On none P = Unit {0}

@@ -67,9 +67,11 @@ module _ (s : Bytes) (l : Layout) where
 unfoldable pub tree-of : Bytes → Syntax pattern
 tree-of s = pattern-at s (layout s) (length s) 0
 
+-- the tree of an accepted source, if its table is these very bytes
+unfoldable pub compiled-to : Bytes → Outcome → Option (Syntax pattern)
+compiled-to s (refused f p) = none
+compiled-to s (accepted t) = elim (same (encode t) s) [ true ↦ some t | false ↦ none ]
+
 -- "A table is good exactly when some accepted source compiles to it": the shortest source of its tree does
 unfoldable pub decode : Bytes → Option (Syntax pattern)
-decode s = elim (outcome (print (tree-of s))) [
-  | refused f p ↦ none
-  | accepted t ↦ elim (same (encode t) s) [ true ↦ some t | false ↦ none ]
-]
+decode s = compiled-to s (outcome (print (tree-of s)))
