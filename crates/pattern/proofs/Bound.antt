@@ -1,4 +1,4 @@
--- Theorem C: the count of trials is at most A x (n+1) x (n+1) x (n+2) x (n+3) / 6. Assumes nothing.
+-- The count of trials is at most A x (n+1) x (n+1) x (n+2) x (n+3) / 6. Assumes nothing.
 use mathlib.Core.Path.{_≡_, refl, ap}
 use mathlib.Core.Bool.{Bool}
 use Prim.Native.Nat.{ℕ, zero, suc, _+_, _-_, _*_, _/_, _<_, _≤_, min}
@@ -6,11 +6,11 @@ use native.Mathlib.Nat.{mul-le-mul-right}
 use native.Mathlib.Omega.{arith}
 use mathlib.Core.List.{List, [], _∷_}
 use mathlib.Core.Option.{Option, none, some}
-use lib.ListN.{length}
+use lib.ListN.{length, length-append}
 use Rattle.pattern.specs.Bytes.{Bytes}
-use Rattle.pattern.specs.Syntax.{pattern, atom, Syntax, last, then, repeat, nodes}
+use Rattle.pattern.specs.Syntax.{Sort, pattern, atom, body, branches, Syntax, last, then, repeat, codes, literal, group, only, or, size, nodes}
 use Rattle.pattern.specs.Decision.{Rel, most, trial, made, decide}
-use Rattle.pattern.specs.Trials.{tries, sum, stretches, joins, repeats, own, total, trials}
+use Rattle.pattern.specs.Trials.{tries, sum, stretches, joins, repeats, own, total, trials, trial-bound}
 use Rattle.pattern.proofs.Tests.{cond-case}
 
 tries-le : (c : ℕ) (p : ℕ → Bool) → tries c p ≤ c
@@ -56,6 +56,28 @@ unfolding total
 total-le f b h [] = omega arith
 total-le f b h (x ∷ xs) = omega (arith, h x, total-le f b h xs)
 
+-- an atom is not among the nodes of its body
+outside : Sort → ℕ
+outside pattern = 0
+outside atom = 1
+outside body = 0
+outside branches = 0
+
+all-nodes : {s : Sort} (x : Syntax s) → outside s + length (nodes x) ≡ size x
+unfolding outside nodes size
+all-nodes (last a) = omega (arith, all-nodes a)
+all-nodes (then a p) = omega (arith, all-nodes a, all-nodes p, length-append (nodes a) (nodes p))
+all-nodes (repeat low high b) = omega (arith, all-nodes b)
+all-nodes (codes set) = refl
+all-nodes (literal value) = refl
+all-nodes (group bs) = all-nodes bs
+all-nodes (only p) = all-nodes p
+all-nodes (or p bs) = omega (arith, all-nodes p, all-nodes bs, length-append (nodes p) (nodes bs))
+
+pub nodes-size : (p : Syntax pattern) → length (nodes p) ≡ size p
+unfolding outside
+nodes-size p = omega (arith, all-nodes p)
+
 module _ (l : Bytes) where
   repeats-le : (a : Syntax atom) → repeats l a ≤ length l * all-places (length l)
   unfolding repeats
@@ -70,7 +92,9 @@ module _ (l : Bytes) where
   own-le (last a) = omega (arith, repeats-le a)
   own-le (then a p) = omega (arith, repeats-le a, joins-le (length l) (decide l a) (decide l p))
 
-  -- Theorem C
-  pub bound : (p : Syntax pattern) → let n : ℕ = length l in trials l p ≤ length (nodes p) * (n + 1) * (n + 1) * (n + 2) * (n + 3) / 6
-  unfolding all-places stretches trials
-  bound p = omega (arith, total-le (own l) (suc (length l) * all-places (length l)) own-le (nodes p), ap (λ x. length (nodes p) * suc (length l) * x) (rows (suc (length l))))
+  -- the count is within the bound
+  pub bound : (p : Syntax pattern) → trials l p ≤ trial-bound (size p) (length l)
+  unfolding all-places stretches trials trial-bound
+  bound p =
+      rw (← nodes-size p)
+      (omega (arith, total-le (own l) (suc (length l) * all-places (length l)) own-le (nodes p), ap (λ x. length (nodes p) * suc (length l) * x) (rows (suc (length l)))))

@@ -16,3 +16,4 @@ pub mod Printed
 pub mod Shortest
 pub mod Records
 pub mod RoundTrip
+pub mod Calls

@@ -1,7 +1,7 @@
 -- The count of trials, as 'Counting trials' has it. Assumes nothing.
 use mathlib.Core.Bool.{Bool, cond}
 use mathlib.Core.List.{List, [], _∷_}
-use Prim.Native.Nat.{ℕ, zero, suc, _+_, _-_}
+use Prim.Native.Nat.{ℕ, zero, suc, _+_, _-_, _*_, _/_}
 use lib.ListN.{length}
 use Rattle.pattern.specs.Bytes.{Bytes}
 use Rattle.pattern.specs.Syntax.{pattern, atom, Syntax, last, then, repeat, nodes}
@@ -42,3 +42,7 @@ total f (x ∷ xs) = f x + total f xs
 -- the count: the trials of all atoms of a pattern on a label
 unfoldable pub trials : Bytes → Syntax pattern → ℕ
 trials l p = total (own l) (nodes p)
+
+-- "A x (n+1) x (n+1) x (n+2) x (n+3) / 6"
+unfoldable pub trial-bound : (A n : ℕ) → ℕ
+trial-bound A n = A * (n + 1) * (n + 1) * (n + 2) * (n + 3) / 6
