@@ -16,7 +16,7 @@ use Rattle.pattern.specs.Decision.{Rel, trial, join, made, most, repeate
 use Rattle.pattern.specs.Within.{Ordered}
 use Rattle.pattern.proofs.Tests.{Decides, via, both, either, no-test, leb-decides, eqb-decides, any-decides}
 use Rattle.pattern.proofs.Stretch.{cut-slice, slice-cut}
-use Rattle.pattern.proofs.Repeat.{few}
+use Rattle.pattern.proofs.FewBodies.{few}
 
 one-decides : (set : ℕ) (s : Bytes) → Decides (one set s) ((b : ℕ) × (s ≡ b ∷ []) × T (in-set set b))
 unfolding one

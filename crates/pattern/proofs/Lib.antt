@@ -1,6 +1,6 @@
 pub mod Tests
 pub mod Stretch
-pub mod Repeat
+pub mod FewBodies
 pub mod Agree
 pub mod Longest
 pub mod Bound
@@ -17,3 +17,4 @@ pub mod Shortest
 pub mod Records
 pub mod RoundTrip
 pub mod Calls
+pub mod CodeRows

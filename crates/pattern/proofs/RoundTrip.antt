@@ -39,7 +39,7 @@ some-choice (only q) = omega arith
 some-choice (or q bs) = omega arith
 
 high-again : (h : Option ℕ) → Small h → high-of (high-field h) ≡ h
-unfolding high-of high-field Small
+unfolding high-of Small
 high-again none f = refl
 high-again (some m) f = if-false _ _ _ (ne-eqb m open-high (λ e. omega arith))
 

@@ -83,5 +83,5 @@ due e = (e .number, e .value, over (part-bytes (e .ends)) (replicate 8 7), e .co
 
 -- P1 to P14 together
 pub examples-hold : map found examples ≡ map due examples
-unfolding between same over bytes all-codes ranged coded in-set bit-among bit size top-size nodes any trial join made most repeated one decide longest end parts verdict tries sum stretches joins repeats own total trials kind text join-atoms fork next enter extend leave quoted grow counted move step finish low high ahead depth body-begins begins begun large falls refuse atom-fault fault scan outcome decimal-of decimal print-low print-count print-set double print pool choices high-field kind-field a-field b-field records flat header encode high-of pattern-at tree-of compiled-to decode put compileOf cleared part-bytes lent-fault judged tried matchOf run examples found due
+unfolding between same over bytes all-codes ranged coded in-set bit-among bit size top-size nodes any trial join made most repeated one decide longest end parts verdict tries sum stretches joins repeats own total trials kind text join-atoms fork next enter extend leave quoted grow counted move step finish low high ahead depth body-begins begins begun large falls refuse atom-fault fault scan outcome decimal-of decimal print-low print-count print-set double print pool choices kind-field a-field b-field records flat header encode high-of pattern-at tree-of compiled-to decode put compileOf cleared part-bytes lent-fault judged tried matchOf run examples found due
 examples-hold = refl

@@ -16,3 +16,5 @@ pub mod Table
 pub mod Decode
 pub mod Answers
 pub mod Examples
+pub mod Repeats
+pub mod Rows

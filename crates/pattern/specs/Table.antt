@@ -24,7 +24,7 @@ choices (only p) = 1
 choices (or p bs) = suc (choices bs)
 
 -- the high number in a record
-unfoldable pub high-field : Option ℕ → ℕ
+abbrev pub high-field : Option ℕ → ℕ
 high-field none = open-high
 high-field (some m) = m
 

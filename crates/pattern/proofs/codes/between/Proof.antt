@@ -1,0 +1,16 @@
+-- `codes::between` meets its contract. Assumes nothing.
+use borrow.Author.Tests.{le-leb, lt-leb}
+use Rattle.pattern.specs.Bytes.{between}
+use Rattle.pattern.proofs.codes.between.Statement.{statement}
+use Rattle.pattern.proofs.codes.between.Tie as tie
+
+returns : tie.Need-returns
+unfolding between
+returns c = simp (lt-leb _ _ (c .if1 .taken))
+
+returns-2 : tie.Need-returns-2
+unfolding between
+returns-2 c = simp (le-leb _ _ (c .if1 .left))
+
+pub between-spec : {M : Type 1} → statement M
+between-spec = tie.close (tie.spec returns returns-2)

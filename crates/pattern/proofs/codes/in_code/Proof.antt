@@ -1,0 +1,23 @@
+-- `codes::in_code` meets its contract: the rule of the table is a test at every code and byte. Assumes nothing.
+use mathlib.Core.Path.{_∙_}
+use native.Mathlib.Omega.{arith}
+use borrow.Author.Needs.{needs}
+use Rattle.pattern.proofs.CodeRows.{rows, row-ranges}
+use Rattle.pattern.proofs.codes.in_code.Statement.{statement}
+use Rattle.pattern.proofs.codes.in_code.Tie as tie
+
+mul-code : tie.Need-mul-code
+mul-code c = search needs
+
+array-copy-out-code : tie.Need-array-copy-out-code
+array-copy-out-code c = search needs
+
+in-ranges-requires : tie.Need-in-ranges-requires
+in-ranges-requires c κs = search needs
+
+returns : tie.Need-returns
+unfolding rows
+returns c = c .in-ranges .ensures ∙ row-ranges (c .before .before .before .args .k) (c .before .before .before .args .b) _ (c .before .before .before .pre) (omega arith)
+
+pub in-code-spec : {M : Type 1} → statement M
+in-code-spec = tie.close (tie.spec mul-code array-copy-out-code in-ranges-requires returns)

@@ -1,0 +1,29 @@
+-- `codes::letter` meets its contract: the rule of the table is a test at every row. Assumes nothing.
+use borrow.Author.Needs.{needs}
+use mathlib.Core.Path.{sym}
+use mathlib.Core.List.{map}
+use lib.Dec.{eqb, eqb→eq}
+use lib.ListN.{List·getD-eq-default}
+use Rattle.pattern.specs.Codes.{Code, all-codes}
+use Rattle.pattern.specs.declared.codes.Code.{Code as Row}
+use Rattle.pattern.specs.Rows.{letter-at}
+use Rattle.pattern.proofs.CodeRows.{every, rule-at, rows}
+use Rattle.pattern.proofs.codes.letter.Statement.{statement}
+use Rattle.pattern.proofs.codes.letter.Tie as tie
+
+mul-result : tie.Need-mul-result
+mul-result c = search needs
+
+element-copy-out-result : tie.Need-element-copy-out-result
+element-copy-out-result c = search needs
+
+returns : tie.Need-returns
+unfolding letter-at all-codes every rows
+returns c = eqb→eq _ _ (rule-at (λ k (x : Row). eqb (x .letter) (letter-at k)) rows _ tt (c .before .args .k) (c .if1 .taken))
+
+returns-2 : tie.Need-returns-2
+unfolding letter-at
+returns-2 c = sym (List·getD-eq-default (map (λ (x : Code). x .letter) all-codes) 0 (unfold all-codes in c .if1 .left))
+
+pub letter-spec : {M : Type 1} → statement M
+letter-spec = tie.close (tie.spec mul-result element-copy-out-result returns returns-2)

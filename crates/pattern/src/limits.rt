@@ -1,0 +1,54 @@
+// The limits and sizes of the paper, each once, and the mark of a table.
+ghost use mathlib.Core.Path.{_≡_};
+ghost use mathlib.Core.List.{[], _++_};
+ghost use Rattle.pattern.specs.Numbers.{source-limit, atom-limit, depth-limit, number-limit, label-limit, header-size, record-size, mark, version};
+ghost use Rattle.pattern.specs.Bytes.{word};
+
+pub const SOURCE_LIMIT: usize = 512;
+
+pub const ATOM_LIMIT: usize = 64;
+
+pub const DEPTH_LIMIT: usize = 8;
+
+pub const NUMBER_LIMIT: u16 = 9999;
+
+pub const LABEL_LIMIT: usize = 255;
+
+pub const HEADER_SIZE: usize = 8;
+
+pub const RECORD_SIZE: usize = 10;
+
+// The mark and the 16-bit version.
+pub const MARK: [u8; 5] = *b"MPT\x01\x00";
+
+pub struct Limits {
+    pub source: usize,
+    pub atoms: usize,
+    pub depth: usize,
+    pub number: u16,
+    pub label: usize,
+    pub header: usize,
+    pub record: usize,
+}
+
+// The constants are the paper's numbers.
+pub fn all() -> Limits
+    ensures { λ r. ⌜ r ≡ record { source = source-limit; atoms = atom-limit; depth = depth-limit; number = number-limit; label = label-limit; header = header-size; «record» = record-size } ⌝ }
+{
+    Limits {
+        source: SOURCE_LIMIT,
+        atoms: ATOM_LIMIT,
+        depth: DEPTH_LIMIT,
+        number: NUMBER_LIMIT,
+        label: LABEL_LIMIT,
+        header: HEADER_SIZE,
+        record: RECORD_SIZE,
+    }
+}
+
+// The first bytes of every table.
+pub fn marked() -> [u8; 5]
+    ensures { λ r. ⌜ r ≡ mark ++ word version [] ⌝ }
+{
+    MARK
+}
