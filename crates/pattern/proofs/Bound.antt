@@ -57,13 +57,13 @@ total-le f b h [] = omega arith
 total-le f b h (x ∷ xs) = omega (arith, h x, total-le f b h xs)
 
 -- an atom is not among the nodes of its body
-outside : Sort → ℕ
+unfoldable pub outside : Sort → ℕ
 outside pattern = 0
 outside atom = 1
 outside body = 0
 outside branches = 0
 
-all-nodes : {s : Sort} (x : Syntax s) → outside s + length (nodes x) ≡ size x
+pub all-nodes : {s : Sort} (x : Syntax s) → outside s + length (nodes x) ≡ size x
 unfolding outside nodes size
 all-nodes (last a) = omega (arith, all-nodes a)
 all-nodes (then a p) = omega (arith, all-nodes a, all-nodes p, length-append (nodes a) (nodes p))

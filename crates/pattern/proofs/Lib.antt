@@ -18,3 +18,4 @@ pub mod Records
 pub mod RoundTrip
 pub mod Calls
 pub mod CodeRows
+pub mod Nodes

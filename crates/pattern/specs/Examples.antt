@@ -1,11 +1,9 @@
--- The paper's examples, by computation: P1 to P14 from their source texts, sources with their refusals, and the bytes of a table. Assumes nothing.
+-- The examples P1 to P14 and the easy errors, from their source texts, by computation. Assumes nothing.
 use mathlib.Core.Path.{_≡_, refl}
-use mathlib.Core.Bool.{Bool, true, false}
-use mathlib.Core.List.{List, [], _∷_, _++_, map}
+use mathlib.Core.List.{List, [], _∷_, map}
 use mathlib.Core.Option.{Option, none, some}
-use Prim.Native.Nat.{ℕ, zero, suc, _*_}
-use Prim.Native.String.{String}
-use lib.ListN.{length, take, replicate}
+use Prim.Native.Nat.{ℕ}
+use lib.ListN.{take, replicate}
 use Rattle.pattern.specs.Numbers.{BUDGET}
 use Rattle.pattern.specs.Bytes.{Bytes, between, same, over, bytes}
 use Rattle.pattern.specs.Codes.{all-codes, ranged, coded, in-set, bit-among, bit}
@@ -19,7 +17,7 @@ use Rattle.pattern.specs.Scan.{low, high, ahead, depth, body-begins, beg
 use Rattle.pattern.specs.Print.{decimal-of, decimal, print-low, print-count, print-set, double, print}
 use Rattle.pattern.specs.Table.{pool, choices, high-field, kind-field, a-field, b-field, records, flat, header, encode}
 use Rattle.pattern.specs.Decode.{high-of, pattern-at, tree-of, compiled-to, decode}
-use Rattle.pattern.specs.Answers.{Answer, refusal, result, Output, put, compileOf, writeOf, Matched, cleared, part-bytes, lent-fault, judged, tried, matchOf}
+use Rattle.pattern.specs.Answers.{Output, put, compileOf, Matched, cleared, part-bytes, lent-fault, judged, tried, matchOf}
 
 -- what a source and a label give under a budget: compiled into 64 bytes, then matched with 1,024 bytes of scratch and 8 of parts
 unfoldable pub run : Bytes → Bytes → ℕ → Matched
@@ -45,9 +43,9 @@ matches source label ends count =
 abbrev fails : Bytes → Bytes → Option ℕ → Example
 fails source label count = record { source = source; label = label; budget = 10_000_000; number = 0; value = 0; ends = []; count = count }
 
+-- P1 to P14; P9 also under budget 2
 unfoldable pub examples : List Example
 examples =
-    -- P1 to P14
     matches (bytes "3N1\".\"2N.U") (bytes "123.45") (3 ∷ 4 ∷ 6 ∷ 6 ∷ []) none
     ∷ fails (bytes "3N1\".\"2N.U") (bytes "123.45a") none
     ∷ matches (bytes "1.6N1.2N") (bytes "1234567") (6 ∷ 7 ∷ []) none
@@ -63,8 +61,12 @@ examples =
     ∷ matches (bytes "0N") [] (0 ∷ []) (some 0)
     ∷ fails (bytes "1E") (200 ∷ []) none
     ∷ matches (bytes "1\"a\"\"b\"") (bytes "a\"b") (3 ∷ []) none
-    -- the easy errors that P1 to P14 leave out
-    ∷ matches (bytes ".N1N") (bytes "12") (1 ∷ 2 ∷ []) none
+    ∷ []
+
+-- the easy errors that P1 to P14 leave out
+unfoldable pub easy-errors : List Example
+easy-errors =
+    matches (bytes ".N1N") (bytes "12") (1 ∷ 2 ∷ []) none
     ∷ matches (bytes ".(.N,1A)") (bytes "a") (1 ∷ []) none
     ∷ matches (bytes ".(.N)") [] (0 ∷ []) none
     ∷ fails (bytes ".5N") (bytes "123456") none
@@ -81,7 +83,7 @@ found e =
 unfoldable pub due : Example → ℕ × ℕ × Bytes × Option ℕ
 due e = (e .number, e .value, over (part-bytes (e .ends)) (replicate 8 7), e .count)
 
--- P1 to P14 together
-pub examples-hold : map found examples ≡ map due examples
-unfolding between same over bytes all-codes ranged coded in-set bit-among bit size top-size nodes any trial join made most repeated one decide longest end parts verdict tries sum stretches joins repeats own total trials kind text join-atoms fork next enter extend leave quoted grow counted move step finish low high ahead depth body-begins begins begun large falls refuse atom-fault fault scan outcome decimal-of decimal print-low print-count print-set double print pool choices kind-field a-field b-field records flat header encode high-of pattern-at tree-of compiled-to decode put compileOf cleared part-bytes lent-fault judged tried matchOf run examples found due
-examples-hold = refl
+-- P1 to P14 together, and the easy errors together
+pub examples-hold : (map found examples ≡ map due examples) × (map found easy-errors ≡ map due easy-errors)
+unfolding between same over bytes all-codes ranged coded in-set bit-among bit size top-size nodes any trial join made most repeated one decide longest end parts verdict tries sum stretches joins repeats own total trials kind text join-atoms fork next enter extend leave quoted grow counted move step finish low high ahead depth body-begins begins begun large falls refuse atom-fault fault scan outcome decimal-of decimal print-low print-count print-set double print pool choices kind-field a-field b-field records flat header encode high-of pattern-at tree-of compiled-to decode put compileOf cleared part-bytes lent-fault judged tried matchOf run examples easy-errors found due
+examples-hold = (refl, refl)

@@ -16,5 +16,7 @@ pub mod Table
 pub mod Decode
 pub mod Answers
 pub mod Examples
+pub mod Sources
+pub mod Classes
 pub mod Repeats
 pub mod Rows

@@ -1,0 +1,48 @@
+-- The seven classes, tested at all 256 bytes against the character set laid out in order. Assumes nothing.
+use mathlib.Core.Path.{_≡_, refl}
+use mathlib.Core.Bool.{cond}
+use mathlib.Core.List.{List, [], _∷_, _++_, map}
+use Prim.Native.Nat.{ℕ, zero, suc, _+_}
+use lib.ListN.{replicate}
+use Rattle.pattern.specs.Bytes.{Bytes, between}
+use Rattle.pattern.specs.Codes.{all-codes, ranged, coded, in-set}
+
+-- the set of a byte's classes, with the bits of A C E L N P U
+unfoldable pub classes : ℕ → ℕ
+classes b =
+    cond (in-set 1 b) 1 0 + cond (in-set 2 b) 2 0 + cond (in-set 4 b) 4 0 + cond (in-set 8 b) 8 0 + cond (in-set 16 b) 16 0 + cond (in-set 32 b) 32 0 + cond (in-set 64 b) 64 0
+
+-- C and E
+abbrev control : ℕ
+control = 2 + 4
+
+-- P and E
+abbrev punctuation : ℕ
+punctuation = 32 + 4
+
+-- N and E
+abbrev digit : ℕ
+digit = 16 + 4
+
+-- A, U and E
+abbrev capital : ℕ
+capital = 1 + 64 + 4
+
+-- A, L and E
+abbrev small : ℕ
+small = 1 + 8 + 4
+
+-- the character set in order: how many bytes of each sort follow each other, and 128 bytes of no class
+unfoldable pub layout : List ℕ
+layout =
+    replicate 32 control ++ replicate 16 punctuation ++ replicate 10 digit ++ replicate 7 punctuation ++ replicate 26 capital
+    ++ replicate 6 punctuation ++ replicate 26 small ++ replicate 4 punctuation ++ replicate 1 control ++ replicate 128 0
+
+-- c numbers from b on
+unfoldable pub count-up : ℕ → ℕ → List ℕ
+count-up zero b = []
+count-up (suc c) b = b ∷ count-up c (suc b)
+
+pub classes-hold : map classes (count-up 256 0) ≡ layout
+unfolding between all-codes ranged coded in-set classes layout count-up
+classes-hold = refl

@@ -1,0 +1,99 @@
+-- The paper's examples of sources, and more: each refusal with its position, and what accepted sources compile to and are written back as, by computation. Assumes nothing.
+use mathlib.Core.Path.{_≡_, refl}
+use mathlib.Core.List.{List, [], _∷_, _++_, map}
+use Prim.Native.Nat.{ℕ, zero, suc}
+use lib.ListN.{take, replicate}
+use Rattle.pattern.specs.Numbers.{LONG, FORM, CODE, NUMBER, RANGE, ATOMS, DEPTH, ROOM, TABLE}
+use Rattle.pattern.specs.Bytes.{Bytes, between, same, over, bytes}
+use Rattle.pattern.specs.Codes.{all-codes, bit-among, bit}
+use Rattle.pattern.specs.Syntax.{size}
+use Rattle.pattern.specs.Spelling.{kind, text}
+use Rattle.pattern.specs.Reading.{join, fork, next, enter, extend, leave, quoted, grow, counted, move, step, finish}
+use Rattle.pattern.specs.Scan.{low, high, ahead, depth, body-begins, begins, begun, large, falls, refuse, atom-fault, fault, scan, outcome}
+use Rattle.pattern.specs.Print.{decimal-of, decimal, print-low, print-count, print-set, double, print}
+use Rattle.pattern.specs.Table.{pool, choices, kind-field, a-field, b-field, records, flat, header, encode}
+use Rattle.pattern.specs.Decode.{high-of, pattern-at, tree-of, compiled-to, decode}
+use Rattle.pattern.specs.Answers.{Answer, refusal, Output, put, compileOf, writeOf}
+
+-- a source n times over
+unfoldable pub times : ℕ → Bytes → Bytes
+times zero s = []
+times (suc n) s = s ++ times n s
+
+-- each source with its refusal and position, 0 and 0 for none
+unfoldable pub sources : List (Bytes × ℕ × ℕ)
+sources =
+    ([], FORM, 0)
+    ∷ (bytes "2N,", FORM, 2)
+    ∷ (bytes "1()", FORM, 2)
+    ∷ (bytes "1(2N", FORM, 4)
+    ∷ (bytes "5.3", RANGE, 0)
+    ∷ (bytes "5..", FORM, 2)
+    ∷ (bytes "3Q", CODE, 1)
+    ∷ (bytes "3.10000N", NUMBER, 2)
+    ∷ (bytes "9999N", 0, 0)
+    -- a body without a count, a literal that does not end, a byte 127 in one
+    ∷ (bytes "N", FORM, 0)
+    ∷ (bytes "1\"a", FORM, 3)
+    ∷ (49 ∷ 34 ∷ 127 ∷ 34 ∷ [], FORM, 2)
+    -- a second number is never the open end; a first one that does not fit comes before the range
+    ∷ (bytes ".65535N", NUMBER, 1)
+    ∷ (bytes "10000.5N", NUMBER, 0)
+    -- 64 atoms; a 65th: plain, with too large a first number, with a range that falls, with too large a second number, not a pattern
+    ∷ (times 64 (bytes "1N"), 0, 0)
+    ∷ (times 64 (bytes "1N") ++ bytes "1N", ATOMS, 128)
+    ∷ (times 64 (bytes "1N") ++ bytes "10000.", NUMBER, 128)
+    ∷ (times 64 (bytes "1N") ++ bytes "5.3", RANGE, 128)
+    ∷ (times 64 (bytes "1N") ++ bytes "5.10000", ATOMS, 128)
+    ∷ (times 64 (bytes "1N") ++ bytes "(", FORM, 128)
+    -- 8 groups, 8 that do not end, 9
+    ∷ (times 8 (bytes "1(") ++ bytes "1N" ++ times 8 (bytes ")"), 0, 0)
+    ∷ (times 8 (bytes "1("), FORM, 16)
+    ∷ (times 9 (bytes "1("), DEPTH, 17)
+    -- 512 bytes, and 513
+    ∷ (times 511 (bytes "0") ++ bytes "N", 0, 0)
+    ∷ (times 513 (bytes "1"), LONG, 512)
+    ∷ []
+
+-- the refusal of a source in room enough
+unfoldable pub refusal-of : Bytes → ℕ × ℕ
+refusal-of s = let a : Answer = compileOf s (replicate 648 7) .answer in (a .number, a .position)
+
+-- sources, and what they are written back as
+unfoldable pub rewritten : List (Bytes × Bytes)
+rewritten =
+    (bytes "3N1\".\"2N.U", bytes "3N1\".\"2N.U")
+    ∷ (bytes "000002.003nUN", bytes "2.3NU")
+    ∷ (bytes "0.5N", bytes ".5N")
+    ∷ (bytes "3.3l", bytes "3L")
+    ∷ (bytes "0.uplneca", bytes ".ACELNPU")
+    ∷ (bytes "0000.00000N", bytes "0N")
+    ∷ (bytes "1\"a\"\"b\"5.\"\"", bytes "1\"a\"\"b\"5.\"\"")
+    ∷ (bytes ".300(1\"a\",02.(1N,1a)).5E", bytes ".300(1\"a\",2.(1N,1A)).5E")
+    ∷ []
+
+-- a source compiled and written back
+unfoldable pub rewrite : Bytes → Bytes
+rewrite s =
+    let c : Output = compileOf s (replicate 128 7) in
+    let w : Output = writeOf (take (c .answer .value) (c .bytes)) (replicate 128 7) in
+    take (w .answer .value) (w .bytes)
+
+-- the 18 bytes of 2N in lent bytes one longer, ROOM in bytes one shorter, and TABLE and ROOM of a write-back
+abbrev Table-2N : Bytes
+Table-2N = 0x4D ∷ 0x50 ∷ 0x54 ∷ 0x01 ∷ 0x00 ∷ 0x01 ∷ 0x00 ∷ 0x00 ∷ 0x01 ∷ 0x01 ∷ 0x02 ∷ 0x00 ∷ 0x02 ∷ 0x00 ∷ 0x10 ∷ 0x00 ∷ 0x00 ∷ 0x00 ∷ []
+
+pub table-2N : (compileOf (bytes "2N") (replicate 19 7) .bytes ≡ Table-2N ++ 7 ∷ [])
+    × (compileOf (bytes "2N") (replicate 17 7) ≡ record { answer = refusal ROOM 2; bytes = replicate 17 7 })
+    × (writeOf (Table-2N ++ 0 ∷ []) (7 ∷ []) ≡ record { answer = refusal TABLE 0; bytes = 7 ∷ [] })
+    × (writeOf Table-2N (7 ∷ []) ≡ record { answer = refusal ROOM 0; bytes = 7 ∷ [] })
+unfolding between same over bytes all-codes bit-among bit size kind text join fork next enter extend leave quoted grow counted move step finish low high ahead depth body-begins begins begun large falls refuse atom-fault fault scan outcome decimal-of decimal print-low print-count print-set double print pool choices kind-field a-field b-field records flat header encode high-of pattern-at tree-of compiled-to decode put compileOf writeOf
+table-2N = (refl, refl, refl, refl)
+
+pub sources-hold : map (λ e. refusal-of (e .0)) sources ≡ map (λ e. (e .1, e .2)) sources
+unfolding between same over bytes all-codes bit-among bit size kind text join fork next enter extend leave quoted grow counted move step finish low high ahead depth body-begins begins begun large falls refuse atom-fault fault scan outcome decimal-of decimal print-low print-count print-set double print pool choices kind-field a-field b-field records flat header encode high-of pattern-at tree-of compiled-to decode put compileOf writeOf times sources refusal-of
+sources-hold = refl
+
+pub rewritten-hold : map (λ e. rewrite (e .0)) rewritten ≡ map (λ e. e .1) rewritten
+unfolding between same over bytes all-codes bit-among bit size kind text join fork next enter extend leave quoted grow counted move step finish low high ahead depth body-begins begins begun large falls refuse atom-fault fault scan outcome decimal-of decimal print-low print-count print-set double print pool choices kind-field a-field b-field records flat header encode high-of pattern-at tree-of compiled-to decode put compileOf writeOf rewritten rewrite
+rewritten-hold = refl
