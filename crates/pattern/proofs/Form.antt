@@ -13,8 +13,8 @@ use Rattle.pattern.specs.Spelling.{kind, text, Spells}
 use Rattle.pattern.specs.Reading.{Run, empty, first, pointed, second, Place, counting, inside, after, Around, top, within, next, State, enter, extend, leave, quoted, grow, counted, move, step, finish, read-from, start, read}
 use Rattle.pattern.specs.Faults.{Viable, Stops, found, fault-from, fault-at}
 use Rattle.pattern.proofs.Tests.{On}
-use Rattle.pattern.proofs.Sound.{sound}
-use Rattle.pattern.proofs.Complete.{Leads, by-step, _⨾_, complete}
+use Rattle.pattern.proofs.ReadSpells.{sound}
+use Rattle.pattern.proofs.SpeltReads.{Leads, by-step, _⨾_, reads-on, complete}
 
 -- Theorem B: a source is read as a tree just where it spells it
 pub form : (s : Bytes) (t : Syntax pattern) → (read s ≡ some t) ↔ Spells t s
@@ -46,12 +46,12 @@ completes (after low high b) k = let (t, e) = closes k low high b in (closers k,
 
 pub viable : (u : Bytes) (q : State) → Leads start u q → Viable u
 unfolding Viable read
-viable u q h = let (w, t, e) = completes (q .0) (q .1) in (w, t, form (u ++ w) t .0 (h .on w ∙ e))
+viable u q h = let (w, t, e) = completes (q .0) (q .1) in (w, t, form (u ++ w) t .0 (reads-on h w ∙ e))
 
 pub not-viable : (u : Bytes) (q : State) (c : ℕ) → Leads start u q → step q c ≡ none → ¬ Viable (u ++ c ∷ [])
 unfolding Viable read read-from
 not-viable u q c h e (w, t, s) =
     let a : read-from start (u ++ c ∷ w) ≡ some t = complete t (u ++ c ∷ w) (rw append-assoc at s) in
     let b : read-from q (c ∷ w) ≡ none = rw (e, read-from) in
-    let z : _≡_ {A = Option (Syntax pattern)} none (some t) = cc (h .on (c ∷ w)) in
+    let z : _≡_ {A = Option (Syntax pattern)} none (some t) = cc (reads-on h (c ∷ w)) in
     Option·none-ne-some t z

@@ -5,8 +5,8 @@ pub mod Agree
 pub mod Longest
 pub mod Bound
 pub mod Notation
-pub mod Sound
-pub mod Complete
+pub mod ReadSpells
+pub mod SpeltReads
 pub mod Form
 pub mod Least
 pub mod Stops

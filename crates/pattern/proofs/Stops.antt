@@ -13,10 +13,11 @@ use Rattle.pattern.specs.Bytes.{Bytes}
 use Rattle.pattern.specs.Syntax.{pattern, Syntax}
 use Rattle.pattern.specs.Spelling.{Starter, letter, quote, opening, Kind, counts, starts, ends, kind, Spells}
 use Rattle.pattern.specs.Reading.{Run, empty, first, pointed, second, Place, counting, inside, after, Around, State, step, finish, read-from, start, read}
+use Rattle.pattern.specs.Places.{place-after}
 use Rattle.pattern.specs.Scan.{Outcome, refused, depth, Begins, an-atom, a-second, a-code, a-group, nothing, begins, begun, refuse, atom-fault, fault, scan}
 use Rattle.pattern.specs.Faults.{Viable, Stops, found, fault-from, fault-at, Least}
 use Rattle.pattern.proofs.Tests.{On}
-use Rattle.pattern.proofs.Complete.{Leads, by-step, _⨾_, complete}
+use Rattle.pattern.proofs.SpeltReads.{Leads, by-step, _⨾_, reads-on, complete}
 use Rattle.pattern.proofs.Form.{form, viable, not-viable}
 use Rattle.pattern.proofs.Least.{refused-exactly}
 
@@ -63,12 +64,12 @@ module _ (u : Bytes) (q : State) (h : Leads start u q) where
   at-end : (o : Option (Syntax pattern)) → read-from q [] ≡ o → (_≡_ {A = Option ℕ} (elim o [ none ↦ some FORM | some t ↦ none ]) (some FORM)) ↔ Stopping u [] 0
   unfolding Stopping read
   at-end none e = (
-    λ x. (rw append-nil (viable u q h), inr (refl, λ (t, y). let a : read-from start (u ++ []) ≡ some t = complete t (u ++ []) y in Option·none-ne-some t (cc (h .on [])))),
+    λ x. (rw append-nil (viable u q h), inr (refl, λ (t, y). let a : read-from start (u ++ []) ≡ some t = complete t (u ++ []) y in Option·none-ne-some t (cc (reads-on h [])))),
     λ x. refl,
   )
   at-end (some t) e = (
     λ x. absurd (Option·none-ne-some FORM x),
-    λ (v, x). absurd (⊎-elim (λ (l, y). omega arith) (λ (l, y). y (t, form (u ++ []) t .0 (h .on [] ∙ e))) x),
+    λ (v, x). absurd (⊎-elim (λ (l, y). omega arith) (λ (l, y). y (t, form (u ++ []) t .0 (reads-on h [] ∙ e))) x),
   )
 
   at-byte : (c : ℕ) (s : Bytes) (o : Option State) → step q c ≡ o → (x : Option ℕ) → On x (λ f. FORM < f)
@@ -104,4 +105,4 @@ stops-from (c ∷ s) q n u h (suc j) =
 -- Theorem C: the fault at a position is FORM just where the form stops there
 pub stops : (s : Bytes) (p : ℕ) → (fault-at s p ≡ some FORM) ↔ Stops s p
 unfolding Stops Stopping fault-at
-stops s p = stops-from s start 0 [] (record { on = λ rest. refl }) p
+stops s p = stops-from s start 0 [] (record { to = unfold place-after in refl }) p

@@ -8,6 +8,7 @@ pub mod Parts
 pub mod Trials
 pub mod Spelling
 pub mod Reading
+pub mod Places
 pub mod Scan
 pub mod Within
 pub mod Faults

@@ -1,14 +1,18 @@
 -- The automaton reads every source that spells a tree, and reads that tree. Assumes nothing.
 use mathlib.Core.Path.{_≡_, refl, sym, ap, _∙_}
 use mathlib.Core.List.{List, [], _∷_, _++_, append-assoc, append-nil}
-use mathlib.Core.Option.{Option, none, some}
+use mathlib.Core.Logic.{_↔_}
+use mathlib.Core.Option.{Option, none, some, Option·none-ne-some}
 use Prim.Native.Nat.{ℕ, _+_, _-_, _*_}
+use native.Mathlib.Omega.{arith}
 use Rattle.pattern.specs.Bytes.{Bytes, between}
 use Rattle.pattern.specs.Codes.{bit}
 use Rattle.pattern.specs.Syntax.{Sort, pattern, atom, body, branches, Syntax, last, then, repeat, codes, literal, group, only, or}
 use Rattle.pattern.specs.Meaning.{Cut}
 use Rattle.pattern.specs.Spelling.{Starter, letter, quote, opening, Ender, closing, comma, neither, Mark, digit, point, Kind, counts, starts, ends, kind, Text, plain, quoting, barred, text, Number, Low, missing, given, Count, exact, from, range, Letters, Quoted, start as opened, byte, quote as doubled, Spells}
 use Rattle.pattern.specs.Reading.{Run, empty, first, pointed, second, Place, counting, inside, after, Around, top, within, join, fork, next, State, enter, extend, leave, quoted, grow, counted, move, step, finish, read-from, start, read}
+use Rattle.pattern.specs.Places.{place-after, Before, Others, Opens, Runs, Stands, Spelt}
+use Rattle.pattern.proofs.ReadSpells.{read-on, read-after, reached-spells}
 
 -- the place after a pattern
 unfoldable pub ended : Around → Syntax pattern → State
@@ -17,15 +21,30 @@ ended k (then a p) = ended (next k a) p
 
 -- the bytes lead from one place to another
 pub record Leads (q : State) (w : Bytes) (q′ : State) : Type 0 where
-  pub on : (rest : Bytes) → read-from q (w ++ rest) ≡ read-from q′ rest
+  pub to : place-after q w ≡ some q′
 
 pub by-step : {q q′ : State} (c : ℕ) → step q c ≡ some q′ → Leads q (c ∷ []) q′
-unfolding read-from
-by-step c e = record { on = λ rest. rw (e, read-from) }
+unfolding place-after
+by-step c e = record { to = rw (e, place-after) }
+
+place-append : (v : Bytes) (q q′ : State) (w : Bytes) → place-after q v ≡ some q′ → place-after q (v ++ w) ≡ place-after q′ w
+unfolding place-after
+place-append [] q q′ w e = let f : q ≡ q′ = cc in rw f
+place-append (c ∷ v) q q′ w e = go (step q c) (λ x. place-append v x q′ w) e
+  where
+    go : (o : Option State) → ((x : State) → place-after x v ≡ some q′ → place-after x (v ++ w) ≡ place-after q′ w)
+        → _≡_ {A = Option State} (elim o [ none ↦ none | some x ↦ place-after x v ]) (some q′) → elim o [ none ↦ none | some x ↦ place-after x (v ++ w) ] ≡ place-after q′ w
+    go none f e = absurd (Option·none-ne-some q′ e)
+    go (some x) f e = f x e
 
 infixl 20 _⨾_
 pub _⨾_ : {q q′ q″ : State} {v w : Bytes} → Leads q v q′ → Leads q′ w q″ → Leads q (v ++ w) q″
-_⨾_ {v = v} {w = w} a b = record { on = λ rest. rw append-assoc (a .on (w ++ rest) ∙ b .on rest) }
+_⨾_ {q = q} {q′ = q′} {v = v} {w = w} a b = record { to = place-append v q q′ w (a .to) ∙ b .to }
+
+-- so what is read from there on is read from here on
+pub reads-on : {q q′ : State} {w : Bytes} → Leads q w q′ → (rest : Bytes) → read-from q (w ++ rest) ≡ read-from q′ rest
+unfolding read-on
+reads-on {q} {w = w} h rest = read-after w q rest ∙ ap (λ o. read-on o rest) (h .to)
 
 -- at the place an atom may begin, and k then stands before it
 record Ready (q : State) (k : Around) : Type 0 where
@@ -130,4 +149,74 @@ follows (or p bs) w (x, y, e, h, g) = λ q k low high others r.
 -- a source that spells a tree is read as that tree
 pub complete : (t : Syntax pattern) (s : Bytes) → Spells t s → read s ≡ some t
 unfolding read join
-complete t s h = rw append-nil at (follows t s h start (top []) (ready (top [])) .on []) ∙ ended-finishes t []
+complete t s h = rw append-nil at (reads-on (follows t s h start (top []) (ready (top []))) []) ∙ ended-finishes t []
+
+-- ---- places
+
+-- after what stands before an atom, the atom may begin
+record Reached (k : Around) (u : Bytes) : Type 0 where
+  at : State
+  leads : Leads start u at
+  ready : Ready at k
+
+all-before : (before : List (Syntax atom)) (k : List (Syntax atom) → Around) → ((xs : List (Syntax atom)) (a : Syntax atom) → next (k xs) a ≡ k (a ∷ xs))
+    → (u w : Bytes) → Reached (k []) u → Before before w → Reached (k before) (u ++ w)
+unfolding Before Cut ended
+all-before [] k n u w r e = rw (e, append-nil) r
+all-before (repeat low high b ∷ before) k n u w r (x, y, e, h, s) =
+    let g = all-before before k n u x r h in
+    let z : Reached (next (k before) (repeat low high b)) ((u ++ x) ++ y) =
+    record { at = (after low high b, k before); leads = g .leads ⨾ follows (repeat low high b) y s (g .at) (k before) (g .ready); ready = ready-next low high b (k before) } in
+    rw (e, ← n before (repeat low high b)) (rw append-assoc at z)
+
+all-others : (k : Around) (low : ℕ) (high : Option ℕ) (others : List (Syntax pattern)) (u w : Bytes)
+    → Leads start u (counting empty, within k low high [] []) → Others others w → Leads start (u ++ w) (counting empty, within k low high others [])
+unfolding Others join
+all-others k low high [] u w r e = rw (e, append-nil) r
+all-others k low high (p ∷ others) u w r (x, y, e, o, s) =
+    let i : Around = within k low high others [] in
+    let g = all-others k low high others u x r o in
+    let z = g ⨾ follows p y s (counting empty, i) i (ready i) ⨾ by-step 44 (ended-parts k low high others p []) in
+    rw e (simp append-assoc (simp append-assoc at z))
+
+-- a group opens
+opened-group : (k : Around) (low : ℕ) (high : Option ℕ) (others : List (Syntax pattern)) (x y z : Bytes) → Reached k x → Count low high y → Others others z
+    → Leads start (x ++ y ++ 40 ∷ z) (counting empty, within k low high others [])
+unfolding enter kind between
+opened-group k low high others x y z r c o =
+    let t = count-leads (r .ready) c in
+    let g = all-others k low high others _ z (r .leads ⨾ t .leads ⨾ by-step 40 (t .enters .on opening 40 refl)) o in
+    simp append-assoc (simp append-assoc at g)
+
+reached : (k : Around) (u : Bytes) → Stands k u → Reached k u
+unfolding Stands next place-after
+reached (top before) u b = all-before before top (λ xs a. refl) [] u (record { at = start; leads = record { to = refl }; ready = ready (top []) }) b
+reached (within k low high others before) u (x, y, z, w, e, s, c, o, b) =
+    let i : Around = within k low high others [] in
+    let g = opened-group k low high others x y z (reached k x s) c o in
+    rw e (simp append-assoc (simp append-assoc at (all-before before (within k low high others) (λ xs a. refl) _ w (record { at = (counting empty, i); leads = g; ready = ready i }) b)))
+
+-- what spells a place leads there
+spelt-leads : (p : Place) (k : Around) (u : Bytes) → Spelt p k u → Leads start u (p, k)
+unfolding Spelt Cut Runs Stands Before Opens ended place-after
+spelt-leads (counting empty) (top []) u (x, y, e, s, (f, o)) = rw (e, f, s) (record { to = refl })
+spelt-leads (counting empty) (top (a ∷ before)) u (x, y, e, s, (f, o)) = absurd (let z : _≡_ {A = ℕ} 0 1 = cc in omega arith)
+spelt-leads (counting empty) (within k low high others []) u (x, y, e, (v, w, z, t, g, s, c, o, b), (f, h)) =
+    rw (e, f, g, b) (simp append-nil (opened-group k low high others v w z (reached k v s) c o))
+spelt-leads (counting empty) (within k low high others (a ∷ before)) u (x, y, e, s, (f, o)) = absurd (let z : _≡_ {A = ℕ} 0 1 = cc in omega arith)
+spelt-leads (counting (first n)) k u (x, y, e, s, h) = let r = reached k x s in rw e (r .leads ⨾ first-leads (r .ready) h)
+spelt-leads (counting (pointed n)) k u (x, y, e, s, (z, f, h)) = let r = reached k x s in rw (e, f) (r .leads ⨾ low-leads (r .ready) h)
+spelt-leads (counting (second n m)) k u (x, y, e, s, (z, w, f, h, g)) =
+    let r = reached k x s in
+    rw (e, f) (r .leads ⨾ (rw append-assoc at (low-leads (r .ready) h ⨾ second-leads g)))
+spelt-leads (inside low high value) k u (x, y, e, s, (z, w, f, c, q)) =
+    let r = reached k x s in
+    let t = count-leads (r .ready) c in
+    rw (e, f) (r .leads ⨾ (t .leads ⨾ quoted-leads (t .enters) q))
+spelt-leads (after low high b) k u (x, y, e, s, h) =
+    let r = reached k x s in
+    rw e (r .leads ⨾ follows (repeat low high b) y h (r .at) k (r .ready))
+
+-- the reading stands at a place just where the bytes before spell it
+pub place-exactly : (u : Bytes) (q : State) → (place-after start u ≡ some q) ↔ Spelt (q .0) (q .1) u
+place-exactly u q = (λ e. rw e at (reached-spells u), λ h. spelt-leads (q .0) (q .1) u h .to)
