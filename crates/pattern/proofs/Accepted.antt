@@ -16,13 +16,14 @@ use Rattle.pattern.specs.Syntax.{pattern, atom, body, branches, Syntax, 
 use Rattle.pattern.specs.Meaning.{UpTo}
 use Rattle.pattern.specs.Spelling.{Starter, letter, quote, opening, Ender, closing, comma, neither, Mark, digit, point, Kind, counts, starts, ends, kind, Text, plain, quoting, barred, text, Spells}
 use Rattle.pattern.specs.Reading.{Run, empty, first, pointed, second, Place, counting, inside, after, Around, top, within, join, fork, next, State, enter, extend, leave, quoted, grow, counted, move, step, finish, read-from, start, read}
+use Rattle.pattern.specs.Places.{before-size, others-size, around-size, begun-at}
 use Rattle.pattern.specs.Scan.{low, high, ahead, depth, body-begins, Begins, an-atom, begins, begun, large, falls, refuse, atom-fault, fault, Outcome, refused, accepted, scan, outcome}
 use Rattle.pattern.specs.Within.{Small, Fits, Good, Limited}
 use Rattle.pattern.proofs.Tests.{Decides, On, le-or-lt, leb-decides, both, no-test}
-use Rattle.pattern.proofs.Begun.{sizes, many, held, count, join-size, held-next, leave-count, move-count}
+use Rattle.pattern.proofs.Begun.{join-size, held-next, leave-count, move-count}
 use Rattle.pattern.proofs.Form.{form}
 
--- how far the count at a place was looked at: its longest run has no fault yet, none but perhaps a large second number, or none
+-- how far the begun-at at a place was looked at: its longest run has no fault yet, none but perhaps a large second number, or none
 Looked : Run → Run → Type 0
 Looked empty r = Unit {0}
 Looked (first n) r = (low r ≤ number-limit) × UpTo (high r) (low r)
@@ -49,7 +50,7 @@ Placed (after l h b) k s = Fits l h × Good (depth k) b
 
 -- what is good at a place with the source s from there on
 abbrev Holds : State → Bytes → Type 0
-Holds q s = (count (q .0) (q .1) ≤ atom-limit) × Holding (q .1) × Placed (q .0) (q .1) s
+Holds q s = (begun-at (q .0) (q .1) ≤ atom-limit) × Holding (q .1) × Placed (q .0) (q .1) s
 
 join-good : (d : ℕ) (before : List (Syntax atom)) (p : Syntax pattern) → (Befores d before × Good d p) ↔ Good d (join before p)
 unfolding Befores join Good
@@ -134,7 +135,7 @@ ahead-stop : (r : Run) (b : Starter) (c : ℕ) (s : Bytes) → kind c ≡ starts
 unfolding ahead
 ahead-stop r b c s e = rw (e, ahead)
 
--- a count begins or goes on
+-- a begun-at begins or goes on
 grow-looks : (r : Run) (m : Mark) (c : ℕ) (s : Bytes) (d n : ℕ) → kind c ≡ counts m
     → On (grow r m c) (λ r′. ((n ≤ atom-limit) × Looked r (ahead r (c ∷ s)) × (fault (begins (counting r) (counts m)) d n c s ≡ none))
     ↔ ((begun (begins (counting r) (counts m)) n ≤ atom-limit) × Looked r′ (ahead r′ s)))
@@ -157,13 +158,13 @@ grow-looks (second x y) point c s d n e = tt
 
 -- the same at a place
 counted-holds : (o : Option Run) (k : Around) (s : Bytes) (n n′ : ℕ) (X G : Type 0) → On o (λ r. ((n ≤ atom-limit) × X × G) ↔ ((n′ ≤ atom-limit) × Looked r (ahead r s)))
-    → On (counted k o) (λ q. count (q .0) (q .1) ≡ n′) → On (counted k o) (λ q. (((n ≤ atom-limit) × Holding k × X) × G) ↔ Holds q s)
+    → On (counted k o) (λ q. begun-at (q .0) (q .1) ≡ n′) → On (counted k o) (λ q. (((n ≤ atom-limit) × Holding k × X) × G) ↔ Holds q s)
 unfolding counted Placed
 counted-holds none k s n n′ X G e c = tt
 counted-holds (some r) k s n n′ X G e c =
     (λ ((a, h, x), g). let (b, y) = e .0 (a, x, g) in (rw c b, h, y), λ (b, h, y). let (a, x, g) = e .1 (rw c at b, y) in ((a, h, x), g))
 
--- a count ends where a body begins
+-- a begun-at ends where a body begins
 first-fits : (n : ℕ) (b : Starter) (c : ℕ) (s : Bytes) → kind c ≡ starts b → Looked (first n) (ahead (first n) (c ∷ s)) ↔ Fits n (some n)
 unfolding Looked low high Small UpTo
 first-fits n b c s e = rw (ahead-stop (first n) b c s e) (λ (x, y). (x, x, y), λ (x, z, y). (x, y))
@@ -182,8 +183,8 @@ or-small : (a b : ℕ) → ((a < set-limit) × (b < set-limit)) ↔ (bitOr a b <
 or-small a b = (λ (x, y). or-lt 7 a b x y, λ h. (omega (arith, or-add-and a b, and-le-r a b), omega (arith, or-add-and a b, and-le-l a b)))
 
 enter-holds : (l : ℕ) (h : Option ℕ) (k : Around) (b : Starter) (c n : ℕ) (s : Bytes)
-    → (((suc (held k) ≤ atom-limit) × Holding k × Fits l h) × (fault (body-begins b) (depth k) n c s ≡ none)) ↔ Holds (enter l h k b c) s
-unfolding enter fault body-begins count held sizes many size Holding Placed Looked Good Forks Befores
+    → (((suc (around-size k) ≤ atom-limit) × Holding k × Fits l h) × (fault (body-begins b) (depth k) n c s ≡ none)) ↔ Holds (enter l h k b c) s
+unfolding enter fault body-begins begun-at around-size before-size others-size size Holding Placed Looked Good Forks Befores
 enter-holds l h k letter c n s =
     let u = below set-limit (bit c) CODE in
     (λ ((n, x, y), g). (omega arith, x, (y, u .0 g)), λ (n, x, (y, z)). ((omega arith, x, y), u .1 z))
@@ -193,8 +194,8 @@ enter-holds l h k opening c n s =
     (λ ((n, x, y), g). (omega arith, (x, y, u .0 g, tt, tt), tt), λ (n, (x, y, z, v, w), i). ((omega arith, x, y), u .1 z))
 
 extend-holds : (l : ℕ) (h : Option ℕ) (b : Syntax body) (k : Around) (x : Starter) (c n : ℕ) (s : Bytes)
-    → On (extend l h b k x c) (λ q. (((count (after l h b) k ≤ atom-limit) × Holding k × (Fits l h × Good (depth k) b)) × (fault (body-begins x) (depth k) n c s ≡ none)) ↔ Holds q s)
-unfolding extend fault body-begins count size Placed Good
+    → On (extend l h b k x c) (λ q. (((begun-at (after l h b) k ≤ atom-limit) × Holding k × (Fits l h × Good (depth k) b)) × (fault (body-begins x) (depth k) n c s ≡ none)) ↔ Holds q s)
+unfolding extend fault body-begins begun-at size Placed Good
 extend-holds l h (codes set) k letter c n s =
     let u = below set-limit (bit c) CODE in
     let v = or-small set (bit c) in
@@ -207,13 +208,13 @@ extend-holds l h (literal value) k opening c n s = tt
 extend-holds l h (group bs) k x c n s = tt
 
 leave-holds : (k : Around) (l : ℕ) (h : Option ℕ) (b : Syntax body) (x : Ender) (s : Bytes)
-    → On (leave k (repeat l h b) x) (λ q. ((count (after l h b) k ≤ atom-limit) × Holding k × (Fits l h × Good (depth k) b)) ↔ Holds q s)
+    → On (leave k (repeat l h b) x) (λ q. ((begun-at (after l h b) k ≤ atom-limit) × Holding k × (Fits l h × Good (depth k) b)) ↔ Holds q s)
 unfolding leave Holding Placed Looked Good Forks Befores depth
 leave-holds (top before) l h b x s = tt
 leave-holds (within k u v others before) l h b closing s =
     let a : Syntax pattern = last (repeat l h b) in
     let d : ℕ = suc (depth k) in
-    let e : count (after u v (group (fork others (only (join before a))))) k ≡ count (after l h b) (within k u v others before) =
+    let e : begun-at (after u v (group (fork others (only (join before a))))) k ≡ begun-at (after l h b) (within k u v others before) =
     leave-count (within k u v others before) l h b closing in
     let i = join-good d before a in
     let j = fork-good d others (only (join before a)) in (
@@ -222,7 +223,7 @@ leave-holds (within k u v others before) l h b closing s =
     )
 leave-holds (within k u v others before) l h b comma s =
     let a : Syntax pattern = last (repeat l h b) in
-    let e : count (counting empty) (within k u v (join before a ∷ others) []) ≡ count (after l h b) (within k u v others before) =
+    let e : begun-at (counting empty) (within k u v (join before a ∷ others) []) ≡ begun-at (after l h b) (within k u v others before) =
     leave-count (within k u v others before) l h b comma in
     let i = join-good (suc (depth k)) before a in (
       λ (n, (x, y, z, w, t), g). (omega arith, (x, y, z, (w, i .0 (t, g)), tt), tt),
@@ -231,21 +232,21 @@ leave-holds (within k u v others before) l h b comma s =
 leave-holds (within k u v others before) l h b neither s = tt
 
 quoted-holds : (l : ℕ) (h : Option ℕ) (value : Bytes) (k : Around) (x : Text) (c : ℕ) (s : Bytes)
-    → On (quoted l h value k x c) (λ q. ((suc (held k) ≤ atom-limit) × Holding k × Fits l h) ↔ Holds q s)
-unfolding quoted count size Placed Good
+    → On (quoted l h value k x c) (λ q. ((suc (around-size k) ≤ atom-limit) × Holding k × Fits l h) ↔ Holds q s)
+unfolding quoted begun-at size Placed Good
 quoted-holds l h value k plain c s = (λ x. x, λ x. x)
 quoted-holds l h value k quoting c s = (λ (n, x, y). (omega arith, x, (y, tt)), λ (n, x, (y, z)). (omega arith, x, y))
 quoted-holds l h value k barred c s = tt
 
 -- an atom is over
 next-holds : (k : Around) (l : ℕ) (h : Option ℕ) (b : Syntax body) (s : Bytes) → Holds (after l h b, k) s ↔ Holds (counting empty, next k (repeat l h b)) s
-unfolding count Placed Looked size Good
+unfolding begun-at Placed Looked size Good
 next-holds k l h b s =
     let i = next-holding k (repeat l h b) in
     let e = held-next k (repeat l h b) in
     (λ (n, x, y). (omega arith, i .0 (x, y), tt), λ (n, x, y). let (z, w) = i .1 x in (omega arith, z, w))
 
--- the same with another count
+-- the same with another begun-at
 by-fits : {n : ℕ} {H X Y G Z : Type 0} → X ↔ Y → (((n ≤ atom-limit) × H × Y) × G) ↔ Z → (((n ≤ atom-limit) × H × X) × G) ↔ Z
 by-fits e f = (λ ((n, h, x), g). f .0 ((n, h, e .0 x), g), λ z. let ((n, h, y), g) = f .1 z in ((n, h, e .1 y), g))
 
@@ -257,42 +258,42 @@ on-via none s e h = tt
 on-via (some a) s e h = (λ z. h .0 (e .0 z), λ y. e .1 (h .1 y))
 
 counting-holds : (r : Run) (k : Around) (m : Mark) (c : ℕ) (s : Bytes) → kind c ≡ counts m
-    → On (counted k (grow r m c)) (λ q. (Holds (counting r, k) (c ∷ s) × (fault (begins (counting r) (counts m)) (depth k) (count (counting r) k) c s ≡ none)) ↔ Holds q s)
+    → On (counted k (grow r m c)) (λ q. (Holds (counting r, k) (c ∷ s) × (fault (begins (counting r) (counts m)) (depth k) (begun-at (counting r) k) c s ≡ none)) ↔ Holds q s)
 unfolding Placed move
 counting-holds r k m c s e =
-    let n : ℕ = count (counting r) k in
+    let n : ℕ = begun-at (counting r) k in
     counted-holds (grow r m c) k s n (begun (begins (counting r) (counts m)) n) _ _ (grow-looks r m c s (depth k) n e) (move-count (counting r) k (counts m) c)
 
 after-holds : (m : Mark) (c : ℕ) (s : Bytes) (k : Around) (l : ℕ) (h : Option ℕ) (b : Syntax body) → kind c ≡ counts m
-    → On (counted (next k (repeat l h b)) (grow empty m c)) (λ q. (Holds (after l h b, k) (c ∷ s) × (fault an-atom (depth k) (count (after l h b) k) c s ≡ none)) ↔ Holds q s)
+    → On (counted (next k (repeat l h b)) (grow empty m c)) (λ q. (Holds (after l h b, k) (c ∷ s) × (fault an-atom (depth k) (begun-at (after l h b) k) c s ≡ none)) ↔ Holds q s)
 unfolding begins fault
 after-holds m c s k l h b e =
     let i = next-holds k l h b (c ∷ s) in
-    let f : count (after l h b) k ≡ count (counting empty) (next k (repeat l h b)) = unfold count size in sym (held-next k (repeat l h b)) in
+    let f : begun-at (after l h b) k ≡ begun-at (counting empty) (next k (repeat l h b)) = unfold begun-at size in sym (held-next k (repeat l h b)) in
     on-via (counted (next k (repeat l h b)) (grow empty m c)) s (λ (x, g). (i .0 x, rw f at g), λ (y, g). (i .1 y, rw f g)) (counting-holds empty (next k (repeat l h b)) m c s e)
 
 -- a byte brings no fault, and all before is good, just where all is good after it
 move-holds : (p : Place) (k : Around) (x : Kind) (c : ℕ) (s : Bytes) → kind c ≡ x
-    → On (move p k x c) (λ q. (Holds (p, k) (c ∷ s) × (fault (begins p x) (depth k) (count p k) c s ≡ none)) ↔ Holds q s)
-unfolding move begins fault count Placed
+    → On (move p k x c) (λ q. (Holds (p, k) (c ∷ s) × (fault (begins p x) (depth k) (begun-at p k) c s ≡ none)) ↔ Holds q s)
+unfolding move begins fault begun-at Placed
 move-holds (counting empty) k (counts m) c s e = counting-holds empty k m c s e
 move-holds (counting (first n)) k (counts m) c s e = counting-holds (first n) k m c s e
 move-holds (counting (pointed n)) k (counts m) c s e = counting-holds (pointed n) k m c s e
 move-holds (counting (second n x)) k (counts m) c s e = counting-holds (second n x) k m c s e
 move-holds (counting empty) k (starts b) c s e = tt
-move-holds (counting (first n)) k (starts b) c s e = by-fits (first-fits n b c s e) (enter-holds n (some n) k b c (suc (held k)) s)
-move-holds (counting (pointed n)) k (starts b) c s e = by-fits (pointed-fits n b c s e) (enter-holds n none k b c (suc (held k)) s)
-move-holds (counting (second n m)) k (starts b) c s e = by-fits (second-fits n m b c s e) (enter-holds n (some m) k b c (suc (held k)) s)
+move-holds (counting (first n)) k (starts b) c s e = by-fits (first-fits n b c s e) (enter-holds n (some n) k b c (suc (around-size k)) s)
+move-holds (counting (pointed n)) k (starts b) c s e = by-fits (pointed-fits n b c s e) (enter-holds n none k b c (suc (around-size k)) s)
+move-holds (counting (second n m)) k (starts b) c s e = by-fits (second-fits n m b c s e) (enter-holds n (some m) k b c (suc (around-size k)) s)
 move-holds (counting r) k (ends b) c s e = tt
 move-holds (inside l h value) k x c s e = on-via (quoted l h value k (text c) c) s no-fault (quoted-holds l h value k (text c) c s)
 move-holds (after l h b) k (counts m) c s e = after-holds m c s k l h b e
-move-holds (after l h b) k (starts x) c s e = extend-holds l h b k x c (suc (size b) + held k) s
+move-holds (after l h b) k (starts x) c s e = extend-holds l h b k x c (suc (size b) + around-size k) s
 move-holds (after l h b) k (ends x) c s e = on-via (leave k (repeat l h b) x) s no-fault (leave-holds k l h b x s)
 
 -- ---- the whole source
 
 finish-holds : (p : Place) (k : Around) → On (finish p k) (λ t. Holds (p, k) [] ↔ Limited t)
-unfolding finish count held size Holding Placed Good depth
+unfolding finish begun-at around-size size Holding Placed Good depth
 finish-holds (counting r) k = tt
 finish-holds (inside l h value) k = tt
 finish-holds (after l h b) (top before) =
@@ -307,7 +308,7 @@ finish-holds (after l h b) (within k u v others before) = tt
 module _ (t : Syntax pattern) where
   -- no fault is found from a place on, and all before is good, just where the source is read as a tree within the limits
   Agrees : State → ℕ → Bytes → Type 0
-  Agrees q i s = ((scan q i (count (q .0) (q .1)) s ≡ accepted t) × Holds q s) ↔ ((read-from q s ≡ some t) × Limited t)
+  Agrees q i s = ((scan q i (begun-at (q .0) (q .1)) s ≡ accepted t) × Holds q s) ↔ ((read-from q s ≡ some t) × Limited t)
 
   at-end : (o : Option (Syntax pattern)) (i : ℕ) (X : Type 0) → On o (λ u. X ↔ Limited u)
       → ((_≡_ {A = Outcome} (elim o [ none ↦ refused FORM i | some u ↦ accepted u ]) (accepted t)) × X) ↔ ((o ≡ some t) × Limited t)
@@ -315,7 +316,7 @@ module _ (t : Syntax pattern) where
   at-end (some u) i X h =
       (λ (e, x). let f : u ≡ t = cc in (ap some f, rw f at (h .0 x)), λ (e, x). let f : u ≡ t = cc in (ap accepted f, h .1 (rw f x)))
 
-  at-byte : (o : Option State) (f : Option ℕ) (i n : ℕ) (s : Bytes) (X : Type 0) → On o (λ q. (X × (f ≡ none)) ↔ Holds q s) → On o (λ q. count (q .0) (q .1) ≡ n) → ((q : State) → Agrees q (suc i) s)
+  at-byte : (o : Option State) (f : Option ℕ) (i n : ℕ) (s : Bytes) (X : Type 0) → On o (λ q. (X × (f ≡ none)) ↔ Holds q s) → On o (λ q. begun-at (q .0) (q .1) ≡ n) → ((q : State) → Agrees q (suc i) s)
       → ((_≡_ {A = Outcome} (elim o [ none ↦ refused FORM i | some q ↦ elim f [ some x ↦ refused x i | none ↦ scan q (suc i) n s ] ]) (accepted t)) × X)
       ↔ ((_≡_ {A = Option (Syntax pattern)} (elim o [ none ↦ none | some q ↦ read-from q s ]) (some t)) × Limited t)
   unfolding Agrees
@@ -333,13 +334,13 @@ module _ (t : Syntax pattern) where
   unfolding Agrees scan read-from step
   agrees [] q i = at-end (finish (q .0) (q .1)) i (Holds q []) (finish-holds (q .0) (q .1))
   agrees (c ∷ s) q i =
-      let n : ℕ = count (q .0) (q .1) in
+      let n : ℕ = begun-at (q .0) (q .1) in
       at-byte (move (q .0) (q .1) (kind c) c) (fault (begins (q .0) (kind c)) (depth (q .1)) n c s) i (begun (begins (q .0) (kind c)) n) s
       (Holds q (c ∷ s)) (move-holds (q .0) (q .1) (kind c) c s refl) (move-count (q .0) (q .1) (kind c) c) (λ q′. agrees s q′ (suc i))
 
 -- no fault is found just where the source is read as a tree within the limits
 pub no-faults : (s : Bytes) (t : Syntax pattern) → (scan start 0 0 s ≡ accepted t) ↔ ((read s ≡ some t) × Limited t)
-unfolding count held sizes Holding Placed Befores Looked Agrees read
+unfolding begun-at around-size before-size Holding Placed Befores Looked Agrees read
 no-faults s t = let a = agrees t s start 0 in (λ e. a .0 (e, (omega arith, tt, tt)), λ r. a .1 r .0)
 
 -- accepted exactly: a source is accepted with a tree just where it is not too long and spells the tree, and the tree is within the limits

@@ -8,48 +8,27 @@ use Rattle.pattern.specs.Bytes.{Bytes}
 use Rattle.pattern.specs.Syntax.{pattern, atom, body, branches, Syntax, last, then, repeat, codes, literal, group, only, or, size}
 use Rattle.pattern.specs.Spelling.{Starter, letter, quote, opening, Ender, closing, comma, neither, Mark, digit, point, Kind, counts, starts, ends, Text, plain, quoting, barred, text}
 use Rattle.pattern.specs.Reading.{Run, empty, first, pointed, second, Place, counting, inside, after, Around, top, within, join, fork, next, enter, extend, leave, quoted, grow, counted, move}
+use Rattle.pattern.specs.Places.{before-size, others-size, around-size, begun-at}
 use Rattle.pattern.specs.Scan.{body-begins, begins, begun}
 use Rattle.pattern.proofs.Tests.{On}
 
--- how many atoms the atoms before, the branches before and all that stands before have
-unfoldable pub sizes : List (Syntax atom) → ℕ
-sizes [] = 0
-sizes (a ∷ before) = size a + sizes before
-
-unfoldable pub many : List (Syntax pattern) → ℕ
-many [] = 0
-many (p ∷ others) = size p + many others
-
-unfoldable pub held : Around → ℕ
-held (top before) = sizes before
-held (within k l h others before) = suc (held k) + many others + sizes before
-
--- the atoms begun before a place
-unfoldable pub count : Place → Around → ℕ
-count (counting empty) k = held k
-count (counting (first n)) k = suc (held k)
-count (counting (pointed n)) k = suc (held k)
-count (counting (second n m)) k = suc (held k)
-count (inside l h value) k = suc (held k)
-count (after l h b) k = suc (size b) + held k
-
-pub join-size : (before : List (Syntax atom)) (p : Syntax pattern) → size (join before p) ≡ sizes before + size p
-unfolding sizes join size
+pub join-size : (before : List (Syntax atom)) (p : Syntax pattern) → size (join before p) ≡ before-size before + size p
+unfolding before-size join size
 join-size [] p = omega arith
 join-size (a ∷ before) p = omega (arith, join-size before (then a p))
 
-pub fork-size : (others : List (Syntax pattern)) (bs : Syntax branches) → size (fork others bs) ≡ many others + size bs
-unfolding many fork size
+pub fork-size : (others : List (Syntax pattern)) (bs : Syntax branches) → size (fork others bs) ≡ others-size others + size bs
+unfolding others-size fork size
 fork-size [] bs = omega arith
 fork-size (p ∷ others) bs = omega (arith, fork-size others (or p bs))
 
-pub held-next : (k : Around) (a : Syntax atom) → held (next k a) ≡ size a + held k
-unfolding held next sizes
+pub held-next : (k : Around) (a : Syntax atom) → around-size (next k a) ≡ size a + around-size k
+unfolding around-size next before-size
 held-next (top before) a = refl
 held-next (within k l h others before) a = omega arith
 
-grow-count : (r : Run) (m : Mark) (c : ℕ) (k : Around) → On (counted k (grow r m c)) (λ q. count (q .0) (q .1) ≡ suc (held k))
-unfolding counted grow count
+grow-count : (r : Run) (m : Mark) (c : ℕ) (k : Around) → On (counted k (grow r m c)) (λ q. begun-at (q .0) (q .1) ≡ suc (around-size k))
+unfolding counted grow begun-at
 grow-count empty digit c k = refl
 grow-count empty point c k = refl
 grow-count (first n) digit c k = refl
@@ -59,15 +38,15 @@ grow-count (pointed n) point c k = tt
 grow-count (second n m) digit c k = refl
 grow-count (second n m) point c k = tt
 
-enter-count : (l : ℕ) (h : Option ℕ) (k : Around) (b : Starter) (c : ℕ) → count (enter l h k b c .0) (enter l h k b c .1) ≡ begun (body-begins b) (suc (held k))
-unfolding enter count held size sizes many begun body-begins
+enter-count : (l : ℕ) (h : Option ℕ) (k : Around) (b : Starter) (c : ℕ) → begun-at (enter l h k b c .0) (enter l h k b c .1) ≡ begun (body-begins b) (suc (around-size k))
+unfolding enter begun-at around-size size before-size others-size begun body-begins
 enter-count l h k letter c = omega arith
 enter-count l h k quote c = refl
 enter-count l h k opening c = omega arith
 
 extend-count : (l : ℕ) (h : Option ℕ) (b : Syntax body) (k : Around) (x : Starter) (c : ℕ)
-    → On (extend l h b k x c) (λ q. count (q .0) (q .1) ≡ begun (body-begins x) (count (after l h b) k))
-unfolding extend count size begun body-begins
+    → On (extend l h b k x c) (λ q. begun-at (q .0) (q .1) ≡ begun (body-begins x) (begun-at (after l h b) k))
+unfolding extend begun-at size begun body-begins
 extend-count l h (codes set) k letter c = refl
 extend-count l h (codes set) k quote c = tt
 extend-count l h (codes set) k opening c = tt
@@ -76,23 +55,23 @@ extend-count l h (literal value) k quote c = omega arith
 extend-count l h (literal value) k opening c = tt
 extend-count l h (group bs) k x c = tt
 
-pub leave-count : (k : Around) (l : ℕ) (h : Option ℕ) (b : Syntax body) (x : Ender) → On (leave k (repeat l h b) x) (λ q. count (q .0) (q .1) ≡ count (after l h b) k)
-unfolding leave count held size sizes many
+pub leave-count : (k : Around) (l : ℕ) (h : Option ℕ) (b : Syntax body) (x : Ender) → On (leave k (repeat l h b) x) (λ q. begun-at (q .0) (q .1) ≡ begun-at (after l h b) k)
+unfolding leave begun-at around-size size before-size others-size
 leave-count (top before) l h b x = tt
 leave-count (within k u v others before) l h b closing =
     omega (arith, fork-size others (only (join before (last (repeat l h b)))), join-size before (last (repeat l h b)))
 leave-count (within k u v others before) l h b comma = omega (arith, join-size before (last (repeat l h b)))
 leave-count (within k u v others before) l h b neither = tt
 
-quoted-count : (l : ℕ) (h : Option ℕ) (value : Bytes) (k : Around) (x : Text) (c : ℕ) → On (quoted l h value k x c) (λ q. count (q .0) (q .1) ≡ suc (held k))
-unfolding quoted count size
+quoted-count : (l : ℕ) (h : Option ℕ) (value : Bytes) (k : Around) (x : Text) (c : ℕ) → On (quoted l h value k x c) (λ q. begun-at (q .0) (q .1) ≡ suc (around-size k))
+unfolding quoted begun-at size
 quoted-count l h value k plain c = refl
 quoted-count l h value k quoting c = omega arith
 quoted-count l h value k barred c = tt
 
 -- one more byte keeps the counter right
-pub move-count : (p : Place) (k : Around) (x : Kind) (c : ℕ) → On (move p k x c) (λ q. count (q .0) (q .1) ≡ begun (begins p x) (count p k))
-unfolding move count begins begun size
+pub move-count : (p : Place) (k : Around) (x : Kind) (c : ℕ) → On (move p k x c) (λ q. begun-at (q .0) (q .1) ≡ begun (begins p x) (begun-at p k))
+unfolding move begun-at begins begun size
 move-count (counting empty) k (counts m) c = grow-count empty m c k
 move-count (counting (first n)) k (counts m) c = grow-count (first n) m c k
 move-count (counting (pointed n)) k (counts m) c = grow-count (pointed n) m c k

@@ -7,10 +7,10 @@ use mathlib.Core.Option.{Option, none, some, Option·none-ne-some}
 use Prim.Native.Nat.{ℕ, zero, suc, _+_, _≤_, _<_}
 use native.Mathlib.Omega.{arith}
 use lib.Dec.{leb}
-use lib.ListN.{length, take, drop}
+use lib.ListN.{length, take}
 use lib.Seq.{take-append-seam}
 use borrow.Author.Tests.{le-leb, lt-leb}
-use Rattle.pattern.specs.Numbers.{ROOM, TABLE, BUDGET}
+use Rattle.pattern.specs.Numbers.{TABLE, BUDGET}
 use Rattle.pattern.specs.Bytes.{Bytes, over}
 use Rattle.pattern.specs.Syntax.{Sort, pattern, Syntax, last, then, repeat, codes, literal, group, only, or, size}
 use Rattle.pattern.specs.Meaning.{Satisfies}
@@ -21,8 +21,7 @@ use Rattle.pattern.specs.Within.{Ordered, Good}
 use Rattle.pattern.specs.Print.{print}
 use Rattle.pattern.specs.Table.{encode}
 use Rattle.pattern.specs.Decode.{decode}
-use Rattle.pattern.specs.Answers.{Answer, refusal, result, Output, put, compileOf, writeOf, Matched, cleared, lent-fault, judged, tried, matchOf}
-use Rattle.pattern.proofs.Tests.{if-true, if-false}
+use Rattle.pattern.specs.Answers.{Answer, result, Output, put-if, put, compiled, compileOf, written-back, writeOf, Matched, cleared, lent-fault, judged, tried-if, tried, turned-away, lent-to, matched, matchOf}
 use Rattle.pattern.proofs.Longest.{verdict-means}
 use Rattle.pattern.proofs.Bound.{bound}
 use Rattle.pattern.proofs.Accepted.{accepted-exactly}
@@ -63,73 +62,141 @@ module _ (table : Bytes) (t : Syntax pattern) (good : decode table ≡ some t) w
 
 -- ---- writing back
 
--- what is put in lent bytes that are long enough
-put-fits : (position : ℕ) (written lent : Bytes) → length written ≤ length lent → put position written lent ≡ record { answer = result (length written) 0; bytes = over written lent }
-unfolding put
-put-fits position written lent h = if-true _ _ _ (le-leb _ _ h)
-
 -- what an output that is not refused has at its start
-abbrev written : Output → Bytes
+abbrev pub written : Output → Bytes
 written w = take (w .answer .value) (w .bytes)
 
-put-written : (position : ℕ) (result lent : Bytes) → put position result lent .answer .number ≡ 0 → written (put position result lent) ≡ result
-unfolding put over
-put-written position x lent = go (leb (length x) (length lent))
-  where
-    go : (b : Bool) → let w : Output = elim b [ true ↦ record { answer = result (length x) 0; bytes = x ++ drop (length x) lent } | false ↦ record { answer = refusal ROOM position; bytes = lent } ] in
-        w .answer .number ≡ 0 → written w ≡ x
-    go true e = take-append-seam x _
-    go false e = absurd (omega arith)
+put-written : (b : Bool) (position : ℕ) (x lent : Bytes) → put-if b position x lent .answer .number ≡ 0 → written (put-if b position x lent) ≡ x
+unfolding put-if over
+put-written true position x lent e = take-append-seam x _
+put-written false position x lent e = absurd (omega arith)
 
-write-printed : (table source : Bytes) → writeOf table source .answer .number ≡ 0 → (t : Syntax pattern) × (decode table ≡ some t) × (written (writeOf table source) ≡ print t)
-unfolding writeOf
-write-printed table source = go (decode table) refl
-  where
-    go : (o : Option (Syntax pattern)) → decode table ≡ o → let w : Output = elim o [ none ↦ record { answer = refusal TABLE 0; bytes = source } | some t ↦ put 0 (print t) source ] in
-        w .answer .number ≡ 0 → (t : Syntax pattern) × (decode table ≡ some t) × (written w ≡ print t)
-    go none d e = absurd (omega arith)
-    go (some t) d e = (t, d, put-written 0 (print t) source e)
+write-printed : (o : Option (Syntax pattern)) (source : Bytes) → written-back o source .answer .number ≡ 0 → (t : Syntax pattern) × (o ≡ some t) × (written (written-back o source) ≡ print t)
+unfolding written-back put
+write-printed none source e = absurd (omega arith)
+write-printed (some t) source e = (t, refl, put-written _ 0 (print t) source e)
 
 -- demand 2: the source that is written back compiles to the table it was written from
 pub write-compile : (table source room : Bytes) → writeOf table source .answer .number ≡ 0 → length table ≤ length room
     → compileOf (written (writeOf table source)) room ≡ record { answer = result (length table) 0; bytes = over table room }
-unfolding compileOf
+unfolding writeOf compileOf compiled put put-if
 write-compile table source room e h =
-    let (t, d, w) = write-printed table source e in
+    let (t, d, w) = write-printed (decode table) source e in
     ap (λ x. compileOf x room) w
-    ∙ ap (λ o. elim o [ refused number position ↦ record { answer = refusal number position; bytes = room } | accepted u ↦ put (length (print t)) (encode u) room ]) (print-accepted table t d)
+    ∙ ap (λ o. compiled o (print t) room) (print-accepted table t d)
     ∙ ap (λ x. put (length (print t)) x room) (decoded-encode table t d)
-    ∙ put-fits _ table room h
+    ∙ ap (λ b. put-if b (length (print t)) table room) (le-leb _ _ h)
 
 -- ---- matching
 
 -- where no other refusal applies: the table is good, the label and the lent slices fit
 module _ (table label scratch parts : Bytes) (t : Syntax pattern) (good : decode table ≡ some t) (lent : lent-fault t label scratch parts ≡ none) where
   -- the call makes the trials of the table's tree
-  matched : (budget : ℕ) → matchOf table label scratch parts budget ≡ tried t label scratch parts budget
-  unfolding matchOf
-  matched budget =
-      ap (λ o. elim o [
-        | none ↦ record { answer = refusal TABLE 0; scratch = scratch; parts = parts }
-        | some u ↦ elim (lent-fault u label scratch parts) [ some f ↦ record { answer = refusal f 0; scratch = scratch; parts = parts } | none ↦ tried u label scratch parts budget ]
-      ]) good
-      ∙ ap (λ o. elim o [ some f ↦ record { answer = refusal f 0; scratch = scratch; parts = parts } | none ↦ tried t label scratch parts budget ]) lent
+  match-tried : (budget : ℕ) → matchOf table label scratch parts budget ≡ tried t label scratch parts budget
+  unfolding matchOf matched lent-to
+  match-tried budget = ap (λ o. matched o label scratch parts budget) good ∙ ap (λ o. lent-to o t label scratch parts budget) lent
 
   -- demand 3: a verdict, with the defined count, where the count is within the budget
-  pub within-budget : (budget : ℕ) → trials label t ≤ budget → matchOf table label scratch parts budget ≡ judged t label scratch parts (verdict label t)
-  unfolding tried
-  within-budget budget h = matched budget ∙ if-true _ _ _ (le-leb _ _ h)
+  pub within-budget : (budget : ℕ) → trials label t ≤ budget → matchOf table label scratch parts budget ≡ judged (verdict label t) t label scratch parts
+  unfolding tried tried-if
+  within-budget budget h = match-tried budget ∙ ap (λ b. tried-if b t label scratch parts budget) (le-leb _ _ h)
 
   -- otherwise BUDGET, which reports the budget, writes no parts and clears scratch
   pub beyond-budget : (budget : ℕ) → budget < trials label t → matchOf table label scratch parts budget
       ≡ record { answer = record { number = BUDGET; position = 0; value = 0; trials = budget }; scratch = cleared t (length label) scratch; parts = parts }
-  unfolding tried
-  beyond-budget budget h = matched budget ∙ if-false _ _ _ (lt-leb _ _ h)
+  unfolding tried tried-if
+  beyond-budget budget h = match-tried budget ∙ ap (λ b. tried-if b t label scratch parts budget) (lt-leb _ _ h)
 
   -- budgets that the count is within give the same verdict, parts, scratch and number
   pub budgets-agree : (b c : ℕ) → trials label t ≤ b → trials label t ≤ c → matchOf table label scratch parts b ≡ matchOf table label scratch parts c
   budgets-agree b c h k = within-budget b h ∙ sym (within-budget c k)
 
   -- a budget of the bound is always enough
-  pub bound-enough : (budget : ℕ) → trial-bound (size t) (length label) ≤ budget → matchOf table label scratch parts budget ≡ judged t label scratch parts (verdict label t)
+  pub bound-enough : (budget : ℕ) → trial-bound (size t) (length label) ≤ budget → matchOf table label scratch parts budget ≡ judged (verdict label t) t label scratch parts
   bound-enough budget h = within-budget budget (omega (arith, bound label t))
+
+-- ---- what a refused call leaves
+
+put-untouched : (b : Bool) (position : ℕ) (x lent : Bytes) → ¬ (put-if b position x lent .answer .number ≡ 0) → put-if b position x lent .bytes ≡ lent
+unfolding put-if
+put-untouched true position x lent e = absurd (e refl)
+put-untouched false position x lent e = refl
+
+-- demand 1: a refused call writes nothing
+pub compile-untouched : (source table : Bytes) → ¬ (compileOf source table .answer .number ≡ 0) → compileOf source table .bytes ≡ table
+unfolding compileOf compiled put
+compile-untouched source table = go (outcome source)
+  where
+    go : (o : Outcome) → ¬ (compiled o source table .answer .number ≡ 0) → compiled o source table .bytes ≡ table
+    go (refused f p) e = refl
+    go (accepted t) e = put-untouched _ (length source) (encode t) table e
+
+pub write-untouched : (table source : Bytes) → ¬ (writeOf table source .answer .number ≡ 0) → writeOf table source .bytes ≡ source
+unfolding writeOf written-back put
+write-untouched table source = go (decode table)
+  where
+    go : (o : Option (Syntax pattern)) → ¬ (written-back o source .answer .number ≡ 0) → written-back o source .bytes ≡ source
+    go none e = refl
+    go (some t) e = put-untouched _ 0 (print t) source e
+
+-- "save one": BUDGET clears scratch; no refusal writes parts
+pub record Untouched (scratch parts : Bytes) (m : Matched) : Type 0 where
+  pub kept-parts : ¬ (m .answer .number ≡ 0) → m .parts ≡ parts
+  pub kept-scratch : ¬ (m .answer .number ≡ 0) → ¬ (m .answer .number ≡ BUDGET) → m .scratch ≡ scratch
+
+module _ (label scratch parts : Bytes) where
+  judged-untouched : (v : Option (List ℕ)) (t : Syntax pattern) → Untouched scratch parts (judged v t label scratch parts)
+  unfolding judged
+  judged-untouched none t = record { kept-parts = λ e. absurd (e refl); kept-scratch = λ e f. absurd (e refl) }
+  judged-untouched (some ends) t = record { kept-parts = λ e. absurd (e refl); kept-scratch = λ e f. absurd (e refl) }
+
+  tried-untouched : (b : Bool) (t : Syntax pattern) (budget : ℕ) → Untouched scratch parts (tried-if b t label scratch parts budget)
+  unfolding tried-if
+  tried-untouched true t budget = judged-untouched (verdict label t) t
+  tried-untouched false t budget = record { kept-parts = λ e. refl; kept-scratch = λ e f. absurd (f refl) }
+
+  pub match-untouched : (table : Bytes) (budget : ℕ) → Untouched scratch parts (matchOf table label scratch parts budget)
+  unfolding matchOf matched lent-to tried
+  match-untouched table budget = go (decode table)
+    where
+      away : (number : ℕ) → Untouched scratch parts (turned-away number scratch parts)
+      away number = record { kept-parts = λ e. refl; kept-scratch = λ e f. refl }
+
+      lent : (o : Option ℕ) (t : Syntax pattern) → Untouched scratch parts (lent-to o t label scratch parts budget)
+      lent (some number) t = away number
+      lent none t = tried-untouched _ t budget
+
+      go : (o : Option (Syntax pattern)) → Untouched scratch parts (matched o label scratch parts budget)
+      go none = away TABLE
+      go (some t) = lent (lent-fault t label scratch parts) t
+
+-- ---- scratch
+
+-- the answer without scratch
+abbrev pub shown : Matched → Answer × Bytes
+shown m = (m .answer, m .parts)
+
+-- demand 3: what the scratch held before does not matter
+pub scratch-blind : (table label scratch other parts : Bytes) (budget : ℕ) → length scratch ≡ length other
+    → shown (matchOf table label scratch parts budget) ≡ shown (matchOf table label other parts budget)
+unfolding matchOf matched lent-to lent-fault tried tried-if judged
+scratch-blind table label scratch other parts budget e = go (decode table)
+  where
+    verdicts : (v : Option (List ℕ)) (t : Syntax pattern) → shown (judged v t label scratch parts) ≡ shown (judged v t label other parts)
+    verdicts none t = refl
+    verdicts (some ends) t = refl
+
+    trying : (b : Bool) (t : Syntax pattern) → shown (tried-if b t label scratch parts budget) ≡ shown (tried-if b t label other parts budget)
+    trying true t = verdicts (verdict label t) t
+    trying false t = refl
+
+    lent : (o : Option ℕ) (t : Syntax pattern) → shown (lent-to o t label scratch parts budget) ≡ shown (lent-to o t label other parts budget)
+    lent (some number) t = refl
+    lent none t = trying (leb (trials label t) budget) t
+
+    same-lent : (t : Syntax pattern) → lent-fault t label scratch parts ≡ lent-fault t label other parts
+    same-lent t = rw e
+
+    go : (o : Option (Syntax pattern)) → shown (matched o label scratch parts budget) ≡ shown (matched o label other parts budget)
+    go none = refl
+    go (some t) = ap (λ f. shown (lent-to f t label scratch parts budget)) (same-lent t) ∙ lent (lent-fault t label other parts) t

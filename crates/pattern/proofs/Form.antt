@@ -11,7 +11,7 @@ use Rattle.pattern.specs.Bytes.{Bytes, between}
 use Rattle.pattern.specs.Syntax.{pattern, atom, body, Syntax, repeat, group, literal, codes}
 use Rattle.pattern.specs.Spelling.{kind, text, Spells}
 use Rattle.pattern.specs.Reading.{Run, empty, first, pointed, second, Place, counting, inside, after, Around, top, within, next, State, enter, extend, leave, quoted, grow, counted, move, step, finish, read-from, start, read}
-use Rattle.pattern.specs.Faults.{Viable, Stops, found, fault-from, fault-at}
+use Rattle.pattern.specs.Faults.{Viable}
 use Rattle.pattern.proofs.Tests.{On}
 use Rattle.pattern.proofs.ReadSpells.{sound}
 use Rattle.pattern.proofs.SpeltReads.{Leads, by-step, _⨾_, reads-on, complete}

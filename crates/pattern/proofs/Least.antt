@@ -1,19 +1,24 @@
--- Theorem D: a scan answers the least position with a fault, and the lowest number there. Assumes nothing.
+-- The refusal of a source is the least position with a fault, and there the lowest number. Assumes nothing.
 use mathlib.Core.Path.{_≡_, refl, sym, ap, _∙_}
-use mathlib.Core.Logic.{_↔_, ⊎-elim}
+use mathlib.Core.Logic.{_↔_, _⊎_, inl, inr, ⊎-elim}
+use mathlib.Core.Bool.{Bool, true, false, cond}
 use mathlib.Core.List.{List, [], _∷_}
 use mathlib.Core.Option.{Option, none, some, Option·none-ne-some}
 use Prim.Native.Nat.{ℕ, zero, suc, _+_, _-_, _≤_, _<_}
 use native.Mathlib.Nat.{eq-or-lt-of-le}
 use native.Mathlib.Omega.{arith}
-use Rattle.pattern.specs.Numbers.{FORM}
+use lib.Dec.{leb}
+use lib.ListN.{length, take, drop}
+use Rattle.pattern.specs.Numbers.{source-limit, LONG, FORM}
 use Rattle.pattern.specs.Bytes.{Bytes}
 use Rattle.pattern.specs.Syntax.{pattern, Syntax}
 use Rattle.pattern.specs.Spelling.{kind}
-use Rattle.pattern.specs.Reading.{State, step, finish, start}
-use Rattle.pattern.specs.Scan.{depth, begins, fault, begun, Outcome, refused, accepted, scan}
-use Rattle.pattern.specs.Faults.{found, fault-from, fault-at, Least}
-use Rattle.pattern.proofs.Tests.{le-or-lt}
+use Rattle.pattern.specs.Reading.{State, move, step, finish, start}
+use Rattle.pattern.specs.Places.{place-after, before-size, around-size, begun-at}
+use Rattle.pattern.specs.Scan.{depth, begins, fault, begun, Outcome, refused, accepted, scan, outcome}
+use Rattle.pattern.specs.Faults.{found, fault-there, fault-at, Least}
+use Rattle.pattern.proofs.Tests.{Decides, On, leb-decides, le-or-lt}
+use Rattle.pattern.proofs.Begun.{move-count}
 
 -- the same for faults that are found by f, and positions counted from i on
 From : (ℕ → Option ℕ) → ℕ → Outcome → Type 0
@@ -30,35 +35,45 @@ first-of : (f : ℕ → Option ℕ) (i x : ℕ) → f zero ≡ some x → From f
 unfolding From
 first-of f i x e = (0, omega arith, e, λ j l. absurd (omega arith))
 
-at-end : (o : Option (Syntax pattern)) (f : ℕ → Option ℕ) (i : ℕ) → f zero ≡ elim o [ none ↦ some FORM | some t ↦ none ] → ((j : ℕ) → f (suc j) ≡ none)
-    → From f i (elim o [ none ↦ refused FORM i | some t ↦ accepted t ])
+-- the faults from a place on
+faults : State → Bytes → ℕ → Option ℕ
+faults q s j = fault-there (place-after q (take j s)) (drop j s)
+
+at-end : (o : Option (Syntax pattern)) (f : ℕ → Option ℕ) (i : ℕ) → ((j : ℕ) → f j ≡ elim o [ none ↦ some FORM | some t ↦ none ]) → From f i (elim o [ none ↦ refused FORM i | some t ↦ accepted t ])
 unfolding From
-at-end none f i e h = first-of f i FORM e
-at-end (some t) f i e h = λ j. elim j [ zero ↦ e | suc n ↦ h n ]
+at-end none f i e = first-of f i FORM (e 0)
+at-end (some t) f i e = e
 
 at-byte : (o : Option State) (x : Option ℕ) (f : ℕ → Option ℕ) (i n : ℕ) (s : Bytes)
-    → f zero ≡ elim o [ none ↦ some FORM | some q ↦ x ] → ((j : ℕ) → f (suc j) ≡ elim o [ none ↦ none | some q ↦ fault-from q n s j ])
-    → ((q : State) → From (fault-from q n s) (suc i) (scan q (suc i) n s))
+    → f zero ≡ elim o [ none ↦ some FORM | some q ↦ x ] → ((j : ℕ) → f (suc j) ≡ fault-there (elim o [ none ↦ none | some q ↦ place-after q (take j s) ]) (drop j s))
+    → On o (λ q. begun-at (q .0) (q .1) ≡ n) → ((q : State) → From (faults q s) (suc i) (scan q (suc i) (begun-at (q .0) (q .1)) s))
     → From f i (elim o [ none ↦ refused FORM i | some q ↦ elim x [ some y ↦ refused y i | none ↦ scan q (suc i) n s ] ])
-at-byte none x f i n s e h g = first-of f i FORM e
-at-byte (some q) none f i n s e h g = later f (fault-from q n s) i (scan q (suc i) n s) e h (g q)
-at-byte (some q) (some y) f i n s e h g = first-of f i y e
+unfolding faults
+at-byte none x f i n s e h c g = first-of f i FORM e
+at-byte (some q) none f i n s e h c g = later f (faults q s) i (scan q (suc i) n s) e h (rw c at (g q))
+at-byte (some q) (some y) f i n s e h c g = first-of f i y e
 
-least-from : (s : Bytes) (q : State) (i n : ℕ) → From (fault-from q n s) i (scan q i n s)
-unfolding scan fault-from found
-least-from [] q i n = at-end (finish (q .0) (q .1)) (fault-from q n []) i refl (λ j. refl)
-least-from (c ∷ s) q i n =
-    at-byte (step q c) (fault (begins (q .0) (kind c)) (depth (q .1)) n c s) (fault-from q n (c ∷ s)) i (begun (begins (q .0) (kind c)) n) s refl (λ j. refl)
-    (λ q′. least-from s q′ (suc i) (begun (begins (q .0) (kind c)) n))
+same-end : (q : State) (j : ℕ) → faults q [] j ≡ found q (begun-at (q .0) (q .1)) []
+unfolding faults fault-there place-after
+same-end q zero = refl
+same-end q (suc j) = refl
 
-from-start : (s : Bytes) (o : Outcome) → From (fault-from start 0 s) 0 o → Least s o
-unfolding From Least fault-at
+least-from : (s : Bytes) (q : State) (i : ℕ) → From (faults q s) i (scan q i (begun-at (q .0) (q .1)) s)
+unfolding scan found step
+least-from [] q i = at-end (finish (q .0) (q .1)) (faults q []) i (same-end q)
+least-from (c ∷ s) q i =
+    let n : ℕ = begun-at (q .0) (q .1) in
+    at-byte (move (q .0) (q .1) (kind c) c) (fault (begins (q .0) (kind c)) (depth (q .1)) n c s) (faults q (c ∷ s)) i (begun (begins (q .0) (kind c)) n) s
+    (unfold faults fault-there place-after in refl) (λ j. unfold faults place-after in refl) (move-count (q .0) (q .1) (kind c) c) (λ q′. least-from s q′ (suc i))
+
+from-start : (s : Bytes) (o : Outcome) → From (faults start s) 0 o → Least s o
+unfolding From Least fault-at faults
 from-start s (refused f p) (d, e, h, k) = let a : p ≡ d = omega arith in rw a (h, k)
 from-start s (accepted t) h = h
 
--- Theorem D
 pub least : (s : Bytes) → Least s (scan start 0 0 s)
-least s = from-start s (scan start 0 0 s) (least-from s start 0 0)
+unfolding begun-at around-size before-size
+least s = from-start s (scan start 0 0 s) (least-from s start 0)
 
 -- the least fault is one
 least-one : (s : Bytes) (o : Outcome) (f p : ℕ) → Least s o → Least s (refused f p) → o ≡ refused f p
@@ -70,5 +85,20 @@ least-one s (refused g r) f p (a, h) (b, k) =
     (le-or-lt r p)
 least-one s (accepted t) f p h (b, k) = absurd (Option·none-ne-some f (sym (h p) ∙ b))
 
-pub refused-exactly : (s : Bytes) (f p : ℕ) → (scan start 0 0 s ≡ refused f p) ↔ Least s (refused f p)
-refused-exactly s f p = (λ e. rw e at (least s), least-one s (scan start 0 0 s) f p (least s))
+-- the scan refuses so just where this is the least fault
+pub scan-refused : (s : Bytes) (f p : ℕ) → (scan start 0 0 s ≡ refused f p) ↔ Least s (refused f p)
+scan-refused s f p = (λ e. rw e at (least s), least-one s (scan start 0 0 s) f p (least s))
+
+-- refused exactly: LONG at 512 where the source is longer, else the least position with a fault and the lowest number there
+pub refused-exactly : (s : Bytes) (f p : ℕ)
+    → (outcome s ≡ refused f p) ↔ (((source-limit < length s) × (f ≡ LONG) × (p ≡ source-limit)) ⊎ ((length s ≤ source-limit) × Least s (refused f p)))
+unfolding outcome
+refused-exactly s f p = go (leb (length s) source-limit) (leb-decides (length s) source-limit)
+  where
+    go : (b : Bool) → Decides b (length s ≤ source-limit)
+        → (cond b (scan start 0 0 s) (refused LONG source-limit) ≡ refused f p) ↔ (((source-limit < length s) × (f ≡ LONG) × (p ≡ source-limit)) ⊎ ((length s ≤ source-limit) × Least s (refused f p)))
+    go true u = (λ e. inr (u .sound tt, scan-refused s f p .0 e), ⊎-elim (λ (h, x, y). absurd (let k = u .sound tt in omega arith)) (λ (h, x). scan-refused s f p .1 x))
+    go false u = (
+      λ e. inl (⊎-elim (λ h. absurd (u .complete h)) (λ h. h) (le-or-lt (length s) source-limit), cc, cc),
+      ⊎-elim (λ (h, x, y). cc) (λ (h, x). absurd (u .complete h)),
+    )

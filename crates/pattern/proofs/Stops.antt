@@ -1,4 +1,4 @@
--- Theorem C: the place of FORM, without the automaton. Assumes nothing.
+-- The place of FORM, without the automaton. Assumes nothing.
 use mathlib.Core.Path.{_≡_, refl, sym, ap, _∙_}
 use mathlib.Core.Logic.{_↔_, _⊎_, inl, inr, ⊎-elim}
 use mathlib.Core.Bool.{Bool, true, false}
@@ -7,19 +7,18 @@ use mathlib.Core.Option.{Option, none, some, Option·none-ne-some}
 use Prim.Native.Nat.{ℕ, zero, suc, _+_, _≤_, _<_}
 use native.Mathlib.Omega.{arith}
 use lib.Dec.{T, ltb, leb→le}
-use lib.ListN.{length, take}
+use lib.ListN.{length, take, drop}
 use Rattle.pattern.specs.Numbers.{FORM}
 use Rattle.pattern.specs.Bytes.{Bytes}
 use Rattle.pattern.specs.Syntax.{pattern, Syntax}
 use Rattle.pattern.specs.Spelling.{Starter, letter, quote, opening, Kind, counts, starts, ends, kind, Spells}
 use Rattle.pattern.specs.Reading.{Run, empty, first, pointed, second, Place, counting, inside, after, Around, State, step, finish, read-from, start, read}
-use Rattle.pattern.specs.Places.{place-after}
-use Rattle.pattern.specs.Scan.{Outcome, refused, depth, Begins, an-atom, a-second, a-code, a-group, nothing, begins, begun, refuse, atom-fault, fault, scan}
-use Rattle.pattern.specs.Faults.{Viable, Stops, found, fault-from, fault-at, Least}
+use Rattle.pattern.specs.Places.{place-after, begun-at}
+use Rattle.pattern.specs.Scan.{depth, Begins, an-atom, a-second, a-code, a-group, nothing, begins, refuse, atom-fault, fault}
+use Rattle.pattern.specs.Faults.{Viable, Stops, found, fault-there, fault-at}
 use Rattle.pattern.proofs.Tests.{On}
 use Rattle.pattern.proofs.SpeltReads.{Leads, by-step, _⨾_, reads-on, complete}
 use Rattle.pattern.proofs.Form.{form, viable, not-viable}
-use Rattle.pattern.proofs.Least.{refused-exactly}
 
 -- no fault of a byte is FORM
 abbrev Other : List (Bool × ℕ) → Type 0
@@ -81,28 +80,29 @@ module _ (u : Bytes) (q : State) (h : Leads start u q) where
     λ (v, y). absurd (⊎-elim (λ (l, z). z (viable (u ++ c ∷ []) q′ (h ⨾ by-step c e))) (λ (l, z). omega arith) y),
   )
 
-  at-later : (c : ℕ) (s : Bytes) (n j : ℕ) (o : Option State) → step q c ≡ o
-      → ((q′ : State) → Leads start (u ++ c ∷ []) q′ → (fault-from q′ n s j ≡ some FORM) ↔ Stopping (u ++ c ∷ []) s j)
-      → (_≡_ {A = Option ℕ} (elim o [ none ↦ none | some q′ ↦ fault-from q′ n s j ]) (some FORM)) ↔ Stopping u (c ∷ s) (suc j)
-  at-later c s n j none e g = (
+  at-later : (c : ℕ) (s : Bytes) (j : ℕ) (o : Option State) → step q c ≡ o
+      → ((q′ : State) → Leads start (u ++ c ∷ []) q′ → (fault-there (place-after q′ (take j s)) (drop j s) ≡ some FORM) ↔ Stopping (u ++ c ∷ []) s j)
+      → (fault-there (elim o [ none ↦ none | some q′ ↦ place-after q′ (take j s) ]) (drop j s) ≡ some FORM) ↔ Stopping u (c ∷ s) (suc j)
+  unfolding fault-there
+  at-later c s j none e g = (
     λ x. absurd (Option·none-ne-some FORM x),
     λ x. absurd (not-viable u q c h e (shorter (u ++ c ∷ []) (take j s) (unfold Stopping in rw append-assoc (x .0)))),
   )
-  at-later c s n j (some q′) e g =
+  at-later c s j (some q′) e g =
       let a = g q′ (h ⨾ by-step c e) in
       let b = shift u c s j in
       (λ x. b .0 (a .0 x), λ x. a .1 (b .1 x))
 
-stops-from : (s : Bytes) (q : State) (n : ℕ) (u : Bytes) → Leads start u q → (j : ℕ) → (fault-from q n s j ≡ some FORM) ↔ Stopping u s j
-unfolding fault-from found read-from
-stops-from [] q n u h zero = at-end u q h (finish (q .0) (q .1)) refl
-stops-from [] q n u h (suc j) =
-    (λ x. absurd (Option·none-ne-some FORM x), unfold Stopping in λ (v, x). absurd (⊎-elim (λ (l, y). omega arith) (λ (l, y). omega arith) x))
-stops-from (c ∷ s) q n u h zero = at-byte u q h c s (step q c) refl (fault (begins (q .0) (kind c)) (depth (q .1)) n c s) (fault-other (begins (q .0) (kind c)) (depth (q .1)) n c s)
-stops-from (c ∷ s) q n u h (suc j) =
-    at-later u q h c s (begun (begins (q .0) (kind c)) n) j (step q c) refl (λ q′ g. stops-from s q′ (begun (begins (q .0) (kind c)) n) (u ++ c ∷ []) g j)
+stops-from : (s : Bytes) (q : State) (u : Bytes) → Leads start u q → (j : ℕ) → j ≤ length s → (fault-there (place-after q (take j s)) (drop j s) ≡ some FORM) ↔ Stopping u s j
+unfolding fault-there found place-after read-from
+stops-from [] q u h zero l = at-end u q h (finish (q .0) (q .1)) refl
+stops-from [] q u h (suc j) l = absurd (omega arith)
+stops-from (c ∷ s) q u h zero l =
+    let n : ℕ = begun-at (q .0) (q .1) in
+    at-byte u q h c s (step q c) refl (fault (begins (q .0) (kind c)) (depth (q .1)) n c s) (fault-other (begins (q .0) (kind c)) (depth (q .1)) n c s)
+stops-from (c ∷ s) q u h (suc j) l = at-later u q h c s j (step q c) refl (λ q′ g. stops-from s q′ (u ++ c ∷ []) g j (omega arith))
 
--- Theorem C: the fault at a position is FORM just where the form stops there
-pub stops : (s : Bytes) (p : ℕ) → (fault-at s p ≡ some FORM) ↔ Stops s p
+-- the fault at a position is FORM just where the form stops there
+pub stops : (s : Bytes) (p : ℕ) → p ≤ length s → (fault-at s p ≡ some FORM) ↔ Stops s p
 unfolding Stops Stopping fault-at
-stops s p = stops-from s start 0 [] (record { to = unfold place-after in refl }) p
+stops s p l = stops-from s start [] (record { to = unfold place-after in refl }) p l

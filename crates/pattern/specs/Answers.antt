@@ -35,26 +35,29 @@ pub record Output : Type 0 where
   pub answer : Answer
   pub bytes : Bytes
 
--- a result in lent bytes, or ROOM at this position
+-- a result in lent bytes that it fits, or ROOM at this position
+unfoldable pub put-if : Bool → (position : ℕ) → (written lent : Bytes) → Output
+put-if true position written lent = record { answer = result (length written) 0; bytes = over written lent }
+put-if false position written lent = record { answer = refusal ROOM position; bytes = lent }
+
 unfoldable pub put : (position : ℕ) → (written lent : Bytes) → Output
-put position written lent = elim (leb (length written) (length lent)) [
-  | true ↦ record { answer = result (length written) 0; bytes = over written lent }
-  | false ↦ record { answer = refusal ROOM position; bytes = lent }
-]
+put position written lent = put-if (leb (length written) (length lent)) position written lent
 
 -- compiling: 1 to 7, then ROOM at the source length
+unfoldable pub compiled : Outcome → (source table : Bytes) → Output
+compiled (refused number position) source table = record { answer = refusal number position; bytes = table }
+compiled (accepted t) source table = put (length source) (encode t) table
+
 unfoldable pub compileOf : (source table : Bytes) → Output
-compileOf source table = elim (outcome source) [
-  | refused number position ↦ record { answer = refusal number position; bytes = table }
-  | accepted t ↦ put (length source) (encode t) table
-]
+compileOf source table = compiled (outcome source) source table
 
 -- writing back: TABLE, then ROOM at 0
+unfoldable pub written-back : Option (Syntax pattern) → (source : Bytes) → Output
+written-back none source = record { answer = refusal TABLE 0; bytes = source }
+written-back (some t) source = put 0 (print t) source
+
 unfoldable pub writeOf : (table source : Bytes) → Output
-writeOf table source = elim (decode table) [
-  | none ↦ record { answer = refusal TABLE 0; bytes = source }
-  | some t ↦ put 0 (print t) source
-]
+writeOf table source = written-back (decode table) source
 
 -- an answer to a match, and scratch and parts afterwards
 pub record Matched : Type 0 where
@@ -84,25 +87,36 @@ lent-fault t label scratch parts =
     ∷ [])
 
 -- a verdict with its parts on yes
-unfoldable pub judged : Syntax pattern → (label scratch parts : Bytes) → Option (List ℕ) → Matched
-judged t label scratch parts none =
-    record { answer = result 0 (trials label t); scratch = cleared t (length label) scratch; parts = parts }
-judged t label scratch parts (some ends) =
+unfoldable pub judged : Option (List ℕ) → Syntax pattern → (label scratch parts : Bytes) → Matched
+judged none t label scratch parts = record { answer = result 0 (trials label t); scratch = cleared t (length label) scratch; parts = parts }
+judged (some ends) t label scratch parts =
     record { answer = result 1 (trials label t); scratch = cleared t (length label) scratch; parts = over (part-bytes ends) parts }
 
--- a match under a budget: a verdict "exactly when that count is within the caller's budget", else BUDGET "which reports the budget"
-unfoldable pub tried : Syntax pattern → (label scratch parts : Bytes) → (budget : ℕ) → Matched
-tried t label scratch parts budget = elim (leb (trials label t) budget) [
-  | true ↦ judged t label scratch parts (verdict label t)
-  | false ↦ record { answer = record { number = BUDGET; position = 0; value = 0; trials = budget }; scratch = cleared t (length label) scratch; parts = parts }
-]
+-- "which reports the budget"
+abbrev pub exhausted : Syntax pattern → (label scratch parts : Bytes) → (budget : ℕ) → Matched
+exhausted t label scratch parts budget =
+    record { answer = record { number = BUDGET; position = 0; value = 0; trials = budget }; scratch = cleared t (length label) scratch; parts = parts }
 
--- matching: 11 to 15 in order
+-- "a verdict is given exactly when that count is within the caller's budget; otherwise the answer is refusal 15"
+unfoldable pub tried-if : Bool → Syntax pattern → (label scratch parts : Bytes) → (budget : ℕ) → Matched
+tried-if true t label scratch parts budget = judged (verdict label t) t label scratch parts
+tried-if false t label scratch parts budget = exhausted t label scratch parts budget
+
+unfoldable pub tried : Syntax pattern → (label scratch parts : Bytes) → (budget : ℕ) → Matched
+tried t label scratch parts budget = tried-if (leb (trials label t) budget) t label scratch parts budget
+
+-- a match that is refused before any trial
+abbrev pub turned-away : ℕ → (scratch parts : Bytes) → Matched
+turned-away number scratch parts = record { answer = refusal number 0; scratch = scratch; parts = parts }
+
+-- matching: 11, then 12 to 14, then the trials
+unfoldable pub lent-to : Option ℕ → Syntax pattern → (label scratch parts : Bytes) → (budget : ℕ) → Matched
+lent-to (some number) t label scratch parts budget = turned-away number scratch parts
+lent-to none t label scratch parts budget = tried t label scratch parts budget
+
+unfoldable pub matched : Option (Syntax pattern) → (label scratch parts : Bytes) → (budget : ℕ) → Matched
+matched none label scratch parts budget = turned-away TABLE scratch parts
+matched (some t) label scratch parts budget = lent-to (lent-fault t label scratch parts) t label scratch parts budget
+
 unfoldable pub matchOf : (table label scratch parts : Bytes) → (budget : ℕ) → Matched
-matchOf table label scratch parts budget = elim (decode table) [
-  | none ↦ record { answer = refusal TABLE 0; scratch = scratch; parts = parts }
-  | some t ↦ elim (lent-fault t label scratch parts) [
-    | some f ↦ record { answer = refusal f 0; scratch = scratch; parts = parts }
-    | none ↦ tried t label scratch parts budget
-  ]
-]
+matchOf table label scratch parts budget = matched (decode table) label scratch parts budget

@@ -2,9 +2,10 @@
 use mathlib.Core.Path.{_≡_}
 use mathlib.Core.List.{List, [], _∷_, _++_}
 use mathlib.Core.Option.{Option, none, some}
+use Prim.Native.Nat.{ℕ, suc, _+_}
 use Rattle.pattern.specs.Numbers.{opening-byte, comma-byte, point-byte}
 use Rattle.pattern.specs.Bytes.{Bytes}
-use Rattle.pattern.specs.Syntax.{pattern, atom, Syntax, repeat}
+use Rattle.pattern.specs.Syntax.{pattern, atom, Syntax, repeat, size}
 use Rattle.pattern.specs.Meaning.{Cut}
 use Rattle.pattern.specs.Spelling.{Number, Low, Count, Quoted, Spells}
 use Rattle.pattern.specs.Reading.{Run, empty, first, pointed, second, Place, counting, inside, after, Around, top, within, State, step}
@@ -47,3 +48,25 @@ unfoldable pub Spelt : Place → Around → Bytes → Type 0
 Spelt (counting r) k u = Cut (Stands k) (Runs k r) u
 Spelt (inside low high value) k u = Cut (Stands k) (Cut (Count low high) (Quoted value)) u
 Spelt (after low high b) k u = Cut (Stands k) (Spells (repeat low high b)) u
+
+-- how many atoms the atoms before, the branches before and all that stands before have
+unfoldable pub before-size : List (Syntax atom) → ℕ
+before-size [] = 0
+before-size (a ∷ before) = size a + before-size before
+
+unfoldable pub others-size : List (Syntax pattern) → ℕ
+others-size [] = 0
+others-size (p ∷ others) = size p + others-size others
+
+unfoldable pub around-size : Around → ℕ
+around-size (top before) = before-size before
+around-size (within k l h others before) = suc (around-size k) + others-size others + before-size before
+
+-- how many atoms have begun before a place
+unfoldable pub begun-at : Place → Around → ℕ
+begun-at (counting empty) k = around-size k
+begun-at (counting (first n)) k = suc (around-size k)
+begun-at (counting (pointed n)) k = suc (around-size k)
+begun-at (counting (second n m)) k = suc (around-size k)
+begun-at (inside l h value) k = suc (around-size k)
+begun-at (after l h b) k = suc (size b) + around-size k
