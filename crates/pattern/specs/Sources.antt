@@ -79,16 +79,28 @@ rewrite s =
     let w : Output = writeOf (take (c .answer .value) (c .bytes)) (replicate 128 7) in
     take (w .answer .value) (w .bytes)
 
--- the 18 bytes of 2N in lent bytes one longer, ROOM in bytes one shorter, and TABLE and ROOM of a write-back
+-- the 18 bytes of 2N
 abbrev Table-2N : Bytes
 Table-2N = 0x4D ∷ 0x50 ∷ 0x54 ∷ 0x01 ∷ 0x00 ∷ 0x01 ∷ 0x00 ∷ 0x00 ∷ 0x01 ∷ 0x01 ∷ 0x02 ∷ 0x00 ∷ 0x02 ∷ 0x00 ∷ 0x10 ∷ 0x00 ∷ 0x00 ∷ 0x00 ∷ []
 
-pub table-2N : (compileOf (bytes "2N") (replicate 19 7) .bytes ≡ Table-2N ++ 7 ∷ [])
+-- the bytes of .300(1"a""b",12.AN).5""
+abbrev Table-group : Bytes
+Table-group =
+    77 ∷ 80 ∷ 84 ∷ 1 ∷ 0 ∷ 4 ∷ 3 ∷ 0
+    ∷ 3 ∷ 0 ∷ 0 ∷ 0 ∷ 44 ∷ 1 ∷ 2 ∷ 0 ∷ 3 ∷ 0
+    ∷ 2 ∷ 1 ∷ 1 ∷ 0 ∷ 1 ∷ 0 ∷ 0 ∷ 0 ∷ 3 ∷ 0
+    ∷ 1 ∷ 1 ∷ 12 ∷ 0 ∷ 255 ∷ 255 ∷ 17 ∷ 0 ∷ 0 ∷ 0
+    ∷ 2 ∷ 1 ∷ 0 ∷ 0 ∷ 5 ∷ 0 ∷ 3 ∷ 0 ∷ 0 ∷ 0
+    ∷ 97 ∷ 34 ∷ 98 ∷ []
+
+-- tables in lent bytes that are longer, ROOM in shorter ones, TABLE and ROOM of a write-back
+pub tables-hold : (compileOf (bytes "2N") (replicate 19 7) .bytes ≡ Table-2N ++ 7 ∷ [])
+    × (compileOf (bytes ".300(1\"a\"\"b\",12.AN).5\"\"") (replicate 52 7) .bytes ≡ Table-group ++ 7 ∷ [])
     × (compileOf (bytes "2N") (replicate 17 7) ≡ record { answer = refusal ROOM 2; bytes = replicate 17 7 })
     × (writeOf (Table-2N ++ 0 ∷ []) (7 ∷ []) ≡ record { answer = refusal TABLE 0; bytes = 7 ∷ [] })
     × (writeOf Table-2N (7 ∷ []) ≡ record { answer = refusal ROOM 0; bytes = 7 ∷ [] })
 unfolding between same over bytes all-codes bit-among bit size kind text join fork next enter extend leave quoted grow counted move step finish low high ahead depth body-begins begins begun large falls refuse atom-fault fault scan outcome decimal-of decimal print-low print-count print-set double print pool choices kind-field a-field b-field records flat header encode high-of pattern-at tree-of compiled-to decode put-if put compiled compileOf written-back writeOf
-table-2N = (refl, refl, refl, refl)
+tables-hold = (refl, refl, refl, refl, refl)
 
 pub sources-hold : map (λ e. refusal-of (e .0)) sources ≡ map (λ e. (e .1, e .2)) sources
 unfolding between same over bytes all-codes bit-among bit size kind text join fork next enter extend leave quoted grow counted move step finish low high ahead depth body-begins begins begun large falls refuse atom-fault fault scan outcome decimal-of decimal print-low print-count print-set double print pool choices kind-field a-field b-field records flat header encode high-of pattern-at tree-of compiled-to decode put-if put compiled compileOf written-back writeOf times sources refusal-of
