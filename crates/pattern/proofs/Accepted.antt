@@ -1,13 +1,13 @@
 -- A source is accepted just where it is not too long and spells a tree within the limits. Assumes nothing.
 use mathlib.Core.Path.{_≡_, refl, sym, ap}
-use mathlib.Core.Logic.{_↔_, _⊎_, inl, inr, ⊎-elim}
+use mathlib.Core.Logic.{_↔_, ⊎-elim}
 use mathlib.Core.Bool.{Bool, true, false, _&&_, cond}
 use mathlib.Core.List.{List, [], _∷_}
 use mathlib.Core.Option.{Option, none, some, Option·some-ne-none, Option·none-ne-some}
-use Prim.Native.Nat.{ℕ, zero, suc, _+_, _-_, _≤_, _<_}
+use Prim.Native.Nat.{ℕ, suc, _+_, _-_, _≤_, _<_}
 use native.Mathlib.Omega.{arith}
 use lib.Bits.{bitOr, or-lt, or-add-and, and-le-l, and-le-r}
-use lib.Dec.{T, leb, ltb, leb→le, le→leb}
+use lib.Dec.{leb, leb→le, le→leb}
 use lib.ListN.{length}
 use Rattle.pattern.specs.Numbers.{source-limit, atom-limit, depth-limit, number-limit, set-limit, LONG, FORM, CODE, NUMBER, RANGE, ATOMS, DEPTH}
 use Rattle.pattern.specs.Bytes.{Bytes}
@@ -17,7 +17,7 @@ use Rattle.pattern.specs.Meaning.{UpTo}
 use Rattle.pattern.specs.Spelling.{Starter, letter, quote, opening, Ender, closing, comma, neither, Mark, digit, point, Kind, counts, starts, ends, kind, Text, plain, quoting, barred, text, Spells}
 use Rattle.pattern.specs.Reading.{Run, empty, first, pointed, second, Place, counting, inside, after, Around, top, within, join, fork, next, State, enter, extend, leave, quoted, grow, counted, move, step, finish, read-from, start, read}
 use Rattle.pattern.specs.Places.{before-size, others-size, around-size, begun-at}
-use Rattle.pattern.specs.Scan.{low, high, ahead, depth, body-begins, Begins, an-atom, begins, begun, large, falls, refuse, atom-fault, fault, Outcome, refused, accepted, scan, outcome}
+use Rattle.pattern.specs.Scan.{low, high, ahead, depth, body-begins, an-atom, begins, begun, large, falls, refuse, atom-fault, fault, Outcome, refused, accepted, scan, outcome}
 use Rattle.pattern.specs.Within.{Small, Fits, Good, Limited}
 use Rattle.pattern.proofs.Tests.{Decides, On, le-or-lt, leb-decides, both, no-test}
 use Rattle.pattern.proofs.Begun.{join-size, held-next, leave-count, move-count}

@@ -1,10 +1,9 @@
 -- What the owner's demands say of the three calls. Assumes nothing.
 use mathlib.Core.Path.{_≡_, refl, sym, ap, _∙_}
-use mathlib.Core.Logic.{_↔_, _⊎_, inl, inr, ⊎-elim}
 use mathlib.Core.Bool.{Bool, true, false}
-use mathlib.Core.List.{List, [], _∷_, _++_}
-use mathlib.Core.Option.{Option, none, some, Option·none-ne-some}
-use Prim.Native.Nat.{ℕ, zero, suc, _+_, _≤_, _<_}
+use mathlib.Core.List.{List}
+use mathlib.Core.Option.{Option, none, some}
+use Prim.Native.Nat.{ℕ, suc, _≤_, _<_}
 use native.Mathlib.Omega.{arith}
 use lib.Dec.{leb}
 use lib.ListN.{length, take}
@@ -13,8 +12,7 @@ use borrow.Author.Tests.{le-leb, lt-leb}
 use Rattle.pattern.specs.Numbers.{TABLE, BUDGET}
 use Rattle.pattern.specs.Bytes.{Bytes, over}
 use Rattle.pattern.specs.Syntax.{Sort, pattern, Syntax, last, then, repeat, codes, literal, group, only, or, size}
-use Rattle.pattern.specs.Meaning.{Satisfies}
-use Rattle.pattern.specs.Parts.{Partition, Lex, Means, verdict}
+use Rattle.pattern.specs.Parts.{Means, verdict}
 use Rattle.pattern.specs.Trials.{trials, trial-bound}
 use Rattle.pattern.specs.Scan.{Outcome, refused, accepted, outcome}
 use Rattle.pattern.specs.Within.{Ordered, Good}

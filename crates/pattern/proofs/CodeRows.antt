@@ -1,16 +1,15 @@
 -- A table's rule, by one test over the whole table; and the codes after the first k of them. Assumes nothing.
-use mathlib.Core.Path.{_≡_, refl, sym, ap, _∙_}
-use mathlib.Core.Logic.{_⊎_, inl, inr, ⊎-elim}
+use mathlib.Core.Path.{_≡_, refl, _∙_}
 use mathlib.Core.Bool.{Bool, true, false, _&&_, _||_, cond}
 use mathlib.Core.List.{List, [], _∷_, _++_, map}
 use Prim.Native.Nat.{ℕ, zero, suc, _+_, _*_, _/_, _%_, _^_, _<_, _≤_}
-use native.Mathlib.Nat.{add-zero, add-suc, suc-add}
+use native.Mathlib.Nat.{add-zero}
 use native.Mathlib.Omega.{arith}
 use lib.Dec.{T, leb, leb→le, eqb}
 use borrow.Author.Tests.{eq-eqb, ne-eqb}
 use lib.ListN.{length, getD, take, drop}
 use Rattle.pattern.specs.Bytes.{Bytes, between}
-use Rattle.pattern.specs.Codes.{Code, all-codes, ranged, coded, in-set, bit-among, bit}
+use Rattle.pattern.specs.Codes.{Code, all-codes, ranged, coded, bit-among}
 use Rattle.pattern.specs.declared.codes.Code.{Code as Row}
 use Rattle.pattern.specs.Rows.{letter-at, ranges-at, in-four}
 use Rattle.pattern.proofs.Tests.{and-both, all, all-at}

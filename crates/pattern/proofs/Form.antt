@@ -1,20 +1,16 @@
 -- Form: a source is read just where some tree spells it; the bytes before the place where reading stops can go on to such a source, and with the next byte they cannot. Assumes nothing.
-use mathlib.Core.Path.{_≡_, refl, sym, ap, _∙_}
+use mathlib.Core.Path.{_≡_, refl, _∙_}
 use mathlib.Core.Logic.{_↔_}
-use mathlib.Core.List.{List, [], _∷_, _++_, append-assoc, append-nil}
+use mathlib.Core.List.{[], _∷_, _++_, append-assoc}
 use mathlib.Core.Option.{Option, none, some, Option·none-ne-some}
-use Prim.Native.Nat.{ℕ, suc, _+_, _≤_, _<_}
-use native.Mathlib.Omega.{arith}
-use lib.ListN.{length}
-use Rattle.pattern.specs.Numbers.{FORM}
+use Prim.Native.Nat.{ℕ}
 use Rattle.pattern.specs.Bytes.{Bytes, between}
-use Rattle.pattern.specs.Syntax.{pattern, atom, body, Syntax, repeat, group, literal, codes}
+use Rattle.pattern.specs.Syntax.{pattern, body, Syntax, literal}
 use Rattle.pattern.specs.Spelling.{kind, text, Spells}
-use Rattle.pattern.specs.Reading.{Run, empty, first, pointed, second, Place, counting, inside, after, Around, top, within, next, State, enter, extend, leave, quoted, grow, counted, move, step, finish, read-from, start, read}
+use Rattle.pattern.specs.Reading.{empty, first, pointed, second, Place, counting, inside, after, Around, top, within, State, enter, leave, quoted, grow, counted, move, step, finish, read-from, start, read}
 use Rattle.pattern.specs.Faults.{Viable}
-use Rattle.pattern.proofs.Tests.{On}
 use Rattle.pattern.proofs.ReadSpells.{sound}
-use Rattle.pattern.proofs.SpeltReads.{Leads, by-step, _⨾_, reads-on, complete}
+use Rattle.pattern.proofs.SpeltReads.{Leads, reads-on, complete}
 
 -- Theorem B: a source is read as a tree just where it spells it
 pub form : (s : Bytes) (t : Syntax pattern) → (read s ≡ some t) ↔ Spells t s

@@ -1,20 +1,18 @@
 -- The printed source spells the tree. Assumes nothing.
-use mathlib.Core.Path.{_≡_, refl, sym, ap, _∙_}
-use mathlib.Core.Logic.{_↔_, _⊎_, inl, inr, ⊎-elim}
-use mathlib.Core.Bool.{Bool, true, false, cond, not, _&&_, _||_}
+use mathlib.Core.Path.{_≡_, refl, sym}
+use mathlib.Core.Bool.{Bool, true, false, _&&_, _||_}
 use mathlib.Core.List.{List, [], _∷_, _++_, append-assoc, append-nil}
 use mathlib.Core.Option.{Option, none, some}
 use Prim.Native.Nat.{ℕ, zero, suc, _+_, _-_, _*_, _/_, _%_, _≤_, _<_}
 use native.Mathlib.Omega.{arith}
 use lib.Bits.{bitOr, or-add-and, and-le-r}
-use lib.Dec.{T, T-not, leb, ltb, eqb, leb→le, le→leb, eqb→eq, eqb-refl}
-use lib.ListN.{length, length-append}
+use lib.Dec.{T, leb, ltb, eqb, leb→le, le→leb, eqb→eq}
 use Rattle.pattern.specs.Numbers.{number-limit, set-limit}
 use Rattle.pattern.specs.Bytes.{Bytes, between}
 use Rattle.pattern.specs.Codes.{Code, all-codes, bit-among, bit}
 use Rattle.pattern.specs.Syntax.{Sort, Syntax, last, then, repeat, codes, literal, group, only, or}
 use Rattle.pattern.specs.Meaning.{Cut}
-use Rattle.pattern.specs.Spelling.{Starter, letter, quote as quote-starts, opening, digit, Kind, counts, starts, ends, kind, plain, text, Number, Low, missing, given, Count, exact, from, range, Letters, Quoted, start, byte, Spells}
+use Rattle.pattern.specs.Spelling.{letter, quote as quote-starts, opening, digit, Kind, counts, starts, ends, kind, plain, text, Number, Low, missing, given, Count, exact, from, range, Letters, Quoted, start, byte, Spells}
 use Rattle.pattern.specs.Within.{Small, Fits, Good}
 use Rattle.pattern.specs.Print.{decimal-of, decimal, print-low, print-count, print-set, double, print}
 use Rattle.pattern.proofs.Tests.{and-both, passed, cond-case, all, all-at}

@@ -3,26 +3,25 @@ use mathlib.Core.Path.{_≡_, refl, sym, ap, ap₂, _∙_}
 use mathlib.Core.Logic.{_↔_}
 use mathlib.Core.Bool.{Bool, true, false}
 use mathlib.Core.Option.{Option, none, some, Option·none-ne-some}
-use mathlib.Core.List.{List, [], _∷_, _++_, append-nil}
-use Prim.Native.Nat.{ℕ, zero, suc, _+_, _*_, _<_, _≤_, pred}
+use mathlib.Core.List.{[], append-nil}
+use Prim.Native.Nat.{ℕ, zero, suc, _+_, _*_, _<_, _≤_}
 use native.Mathlib.Omega.{arith}
-use lib.Dec.{T, eqb}
 use borrow.Author.Tests.{eq-eqb, ne-eqb}
-use lib.ListN.{length, getD, take, drop}
+use lib.ListN.{length, take}
 use lib.Seq.{take-append-seam}
-use Rattle.pattern.specs.Numbers.{number-limit, header-size, record-size, open-high}
+use Rattle.pattern.specs.Numbers.{header-size, record-size, open-high}
 use Rattle.pattern.specs.Bytes.{Bytes, same}
 use Rattle.pattern.specs.Syntax.{Sort, pattern, atom, body, branches, Syntax, last, then, repeat, codes, literal, group, only, or, size}
 use Rattle.pattern.specs.Scan.{Outcome, refused, accepted, outcome}
 use Rattle.pattern.specs.Within.{Small, Good}
 use Rattle.pattern.specs.Print.{print}
-use Rattle.pattern.specs.Table.{pool, choices, high-field, kind-field, a-field, b-field, Rec, rec, records, flat, header, encode}
+use Rattle.pattern.specs.Table.{pool, choices, high-field, kind-field, a-field, b-field, Rec, rec, records, header, encode}
 use Rattle.pattern.specs.Decode.{Layout, layout, high-of, its, pattern-at, atom-at, body-at, branches-at, tree-of, compiled-to, decode}
 use Rattle.pattern.proofs.Tests.{Decides, if-true, if-false}
 use Rattle.pattern.proofs.Agree.{same-decides}
 use Rattle.pattern.proofs.Accepted.{accepted-exactly}
 use Rattle.pattern.proofs.Shortest.{good-tree}
-use Rattle.pattern.proofs.Records.{length-flat, count-records, Stands, Placed, head-there, tail-there, then-there, or-there, next-there}
+use Rattle.pattern.proofs.Records.{length-flat, count-records, Placed, head-there, tail-there, then-there, or-there, next-there}
 
 pub some-atom : (a : Syntax atom) → 0 < size a
 unfolding size

@@ -1,20 +1,20 @@
 -- No source of a good tree is shorter than the printed one. Assumes nothing.
-use mathlib.Core.Path.{_≡_, refl, sym, ap, _∙_}
-use mathlib.Core.Logic.{_↔_, _⊎_, inl, inr, ⊎-elim}
+use mathlib.Core.Path.{_≡_, refl, ap}
+use mathlib.Core.Logic.{_↔_}
 use mathlib.Core.Bool.{Bool, true, false, cond, _||_}
 use mathlib.Core.List.{List, [], _∷_, _++_}
-use mathlib.Core.Option.{Option, none, some}
+use mathlib.Core.Option.{Option}
 use Prim.Native.Nat.{ℕ, zero, suc, _+_, _-_, _*_, _/_, _%_, _^_, _≤_, _<_}
 use native.Mathlib.Omega.{arith}
 use lib.Bits.{bitOr, or-add-and, and-le-l, and-le-r}
-use lib.Dec.{T, T-not, leb, ltb, eqb, leb→le, le→leb, eqb→eq, eqb-refl}
+use lib.Dec.{T, leb, ltb, eqb, leb→le, le→leb, eqb→eq, eqb-refl}
 use lib.ListN.{length, length-append}
-use Rattle.pattern.specs.Numbers.{number-limit, set-limit, source-limit}
+use Rattle.pattern.specs.Numbers.{set-limit}
 use Rattle.pattern.specs.Bytes.{Bytes, between}
 use Rattle.pattern.specs.Codes.{Code, all-codes, bit-among, bit}
 use Rattle.pattern.specs.Syntax.{Sort, pattern, Syntax, last, then, repeat, codes, literal, group, only, or}
 use Rattle.pattern.specs.Meaning.{Cut}
-use Rattle.pattern.specs.Spelling.{digit, counts, kind, plain, quoting, barred, text, Number, Low, missing, given, Count, exact, from, range, Letters, Quoted, start, byte, Spells}
+use Rattle.pattern.specs.Spelling.{plain, quoting, barred, text, Number, Low, missing, given, Count, exact, from, range, Letters, Quoted, start, byte, Spells}
 use Rattle.pattern.specs.Scan.{accepted, outcome}
 use Rattle.pattern.specs.Within.{Good}
 use Rattle.pattern.specs.Print.{decimal-of, decimal, print-low, print-count, print-set, double, print}

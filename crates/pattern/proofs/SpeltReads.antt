@@ -1,16 +1,15 @@
 -- The automaton reads every source that spells a tree, and reads that tree. Assumes nothing.
-use mathlib.Core.Path.{_≡_, refl, sym, ap, _∙_}
+use mathlib.Core.Path.{_≡_, refl, ap, _∙_}
 use mathlib.Core.List.{List, [], _∷_, _++_, append-assoc, append-nil}
 use mathlib.Core.Logic.{_↔_}
 use mathlib.Core.Option.{Option, none, some, Option·none-ne-some}
-use Prim.Native.Nat.{ℕ, _+_, _-_, _*_}
+use Prim.Native.Nat.{ℕ}
 use native.Mathlib.Omega.{arith}
 use Rattle.pattern.specs.Bytes.{Bytes, between}
-use Rattle.pattern.specs.Codes.{bit}
 use Rattle.pattern.specs.Syntax.{Sort, pattern, atom, body, branches, Syntax, last, then, repeat, codes, literal, group, only, or}
 use Rattle.pattern.specs.Meaning.{Cut}
-use Rattle.pattern.specs.Spelling.{Starter, letter, quote, opening, Ender, closing, comma, neither, Mark, digit, point, Kind, counts, starts, ends, kind, Text, plain, quoting, barred, text, Number, Low, missing, given, Count, exact, from, range, Letters, Quoted, start as opened, byte, quote as doubled, Spells}
-use Rattle.pattern.specs.Reading.{Run, empty, first, pointed, second, Place, counting, inside, after, Around, top, within, join, fork, next, State, enter, extend, leave, quoted, grow, counted, move, step, finish, read-from, start, read}
+use Rattle.pattern.specs.Spelling.{Starter, letter, quote, opening, Mark, digit, point, counts, starts, kind, text, Number, Low, missing, given, Count, exact, from, range, Letters, Quoted, start as opened, byte, quote as doubled, Spells}
+use Rattle.pattern.specs.Reading.{empty, first, pointed, second, Place, counting, inside, after, Around, top, within, join, fork, next, State, enter, extend, leave, quoted, grow, counted, move, step, finish, read-from, start, read}
 use Rattle.pattern.specs.Places.{place-after, Before, Others, Opens, Runs, Stands, Spelt}
 use Rattle.pattern.proofs.ReadSpells.{read-on, read-after, reached-spells}
 

@@ -1,18 +1,18 @@
 -- The place of FORM, without the automaton. Assumes nothing.
-use mathlib.Core.Path.{_≡_, refl, sym, ap, _∙_}
+use mathlib.Core.Path.{_≡_, refl, _∙_}
 use mathlib.Core.Logic.{_↔_, _⊎_, inl, inr, ⊎-elim}
 use mathlib.Core.Bool.{Bool, true, false}
 use mathlib.Core.List.{List, [], _∷_, _++_, append-assoc, append-nil}
 use mathlib.Core.Option.{Option, none, some, Option·none-ne-some}
-use Prim.Native.Nat.{ℕ, zero, suc, _+_, _≤_, _<_}
+use Prim.Native.Nat.{ℕ, zero, suc, _≤_, _<_}
 use native.Mathlib.Omega.{arith}
 use lib.Dec.{T, ltb, leb→le}
 use lib.ListN.{length, take, drop}
 use Rattle.pattern.specs.Numbers.{FORM}
 use Rattle.pattern.specs.Bytes.{Bytes}
 use Rattle.pattern.specs.Syntax.{pattern, Syntax}
-use Rattle.pattern.specs.Spelling.{Starter, letter, quote, opening, Kind, counts, starts, ends, kind, Spells}
-use Rattle.pattern.specs.Reading.{Run, empty, first, pointed, second, Place, counting, inside, after, Around, State, step, finish, read-from, start, read}
+use Rattle.pattern.specs.Spelling.{kind, Spells}
+use Rattle.pattern.specs.Reading.{State, step, finish, read-from, start, read}
 use Rattle.pattern.specs.Places.{place-after, begun-at}
 use Rattle.pattern.specs.Scan.{depth, Begins, an-atom, a-second, a-code, a-group, nothing, begins, refuse, atom-fault, fault}
 use Rattle.pattern.specs.Faults.{Viable, Stops, found, fault-there, fault-at}

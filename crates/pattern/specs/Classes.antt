@@ -4,7 +4,7 @@ use mathlib.Core.Bool.{cond}
 use mathlib.Core.List.{List, [], _∷_, _++_, map}
 use Prim.Native.Nat.{ℕ, zero, suc, _+_}
 use lib.ListN.{replicate}
-use Rattle.pattern.specs.Bytes.{Bytes, between}
+use Rattle.pattern.specs.Bytes.{between}
 use Rattle.pattern.specs.Codes.{all-codes, ranged, coded, in-set}
 
 -- the set of a byte's classes, with the bits of A C E L N P U

@@ -15,7 +15,7 @@ use Rattle.pattern.specs.Spelling.{kind, text}
 use Rattle.pattern.specs.Reading.{join as join-atoms, fork, next, enter, extend, leave, quoted, grow, counted, move, step, finish}
 use Rattle.pattern.specs.Scan.{low, high, ahead, depth, body-begins, begins, begun, large, falls, refuse, atom-fault, fault, scan, outcome}
 use Rattle.pattern.specs.Print.{decimal-of, decimal, print-low, print-count, print-set, double, print}
-use Rattle.pattern.specs.Table.{pool, choices, high-field, kind-field, a-field, b-field, records, flat, header, encode}
+use Rattle.pattern.specs.Table.{pool, choices, kind-field, a-field, b-field, records, flat, header, encode}
 use Rattle.pattern.specs.Decode.{high-of, pattern-at, tree-of, compiled-to, decode}
 use Rattle.pattern.specs.Answers.{Output, put-if, put, compiled, compileOf, Matched, cleared, part-bytes, lent-fault, judged, tried-if, tried, lent-to, matched, matchOf}
 

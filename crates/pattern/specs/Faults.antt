@@ -1,9 +1,9 @@
 -- The refusals as the paper lists them: where the form stops, and what fault stands at each position. Assumes nothing.
 use mathlib.Core.Path.{_≡_}
 use mathlib.Core.Logic.{_⊎_}
-use mathlib.Core.List.{List, [], _∷_, _++_}
+use mathlib.Core.List.{[], _∷_, _++_}
 use mathlib.Core.Option.{Option, none, some}
-use Prim.Native.Nat.{ℕ, zero, suc, _≤_, _<_}
+use Prim.Native.Nat.{ℕ, suc, _<_}
 use lib.ListN.{length, take, drop}
 use Rattle.pattern.specs.Numbers.{FORM}
 use Rattle.pattern.specs.Bytes.{Bytes}

@@ -1,7 +1,7 @@
 -- Reading: an automaton over the bytes of a source, with the tree read so far. Assumes nothing.
 use mathlib.Core.List.{List, [], _∷_, _++_}
 use mathlib.Core.Option.{Option, none, some}
-use Prim.Native.Nat.{ℕ, zero, suc, _+_, _-_, _*_}
+use Prim.Native.Nat.{ℕ, _+_, _-_, _*_}
 use lib.Bits.{bitOr}
 use Rattle.pattern.specs.Numbers.{quote-byte, zero-byte}
 use Rattle.pattern.specs.Bytes.{Bytes}

@@ -1,9 +1,9 @@
 -- In which ways a source may spell a tree: the grammar. Any letter counts as a code here, and no number is limited. Assumes nothing.
 use mathlib.Core.Path.{_≡_}
-use mathlib.Core.Bool.{Bool, true, false, _||_, cond}
-use mathlib.Core.List.{List, [], _∷_, _++_}
+use mathlib.Core.Bool.{_||_, cond}
+use mathlib.Core.List.{[], _∷_, _++_}
 use mathlib.Core.Option.{Option, none, some}
-use Prim.Native.Nat.{ℕ, zero, suc, _+_, _-_, _*_}
+use Prim.Native.Nat.{ℕ, _+_, _-_, _*_}
 use lib.Bits.{bitOr}
 use lib.Dec.{eqb}
 use Rattle.pattern.specs.Numbers.{quote-byte, opening-byte, closing-byte, comma-byte, point-byte, zero-byte}

@@ -7,7 +7,6 @@ use native.Mathlib.Omega.{arith}
 use borrow.Author.Needs.{needs}
 use lib.ListN.{drop}
 use Rattle.pattern.specs.Codes.{all-codes, bit-among, bit}
-use Rattle.pattern.specs.Rows.{letter-at}
 use Rattle.pattern.proofs.CodeRows.{bit-capital, bit-small, bit-later, letter-small, power-small, bit-end}
 use Rattle.pattern.proofs.codes.bit.Statement.{statement}
 use Rattle.pattern.proofs.codes.bit.Tie as tie
