@@ -1,0 +1,4 @@
+pub mod Stores
+pub mod Decimals
+pub mod Lines
+pub mod Digits

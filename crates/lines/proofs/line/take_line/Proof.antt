@@ -1,0 +1,110 @@
+-- `line::take_line` meets its contract: taking from here on is taking from the start. What is left of the chunk falls. Assumes nothing.
+use mathlib.Core.Path.{_≡_, refl, sym, ap, _∙_}
+use mathlib.Core.Bool.{true, false}
+use Prim.Native.Nat.{_≤_, _-_, _+_}
+use native.Mathlib.Omega.{arith}
+use lib.ListN.{length, getD, take, drop, set, length-set}
+use Rattle.pattern.specs.Bytes.{Bytes}
+use Rattle.lines.specs.Sizes.{held-limit}
+use Rattle.lines.specs.Output.{taken}
+use Rattle.lines.specs.Held.{rest-if}
+use Rattle.lines.proofs.Lines.{taken-newline, taken-none, turn-room, turn-full}
+use Rattle.lines.proofs.line.take_line.Statement.{statement}
+use Rattle.lines.proofs.line.take_line.Tie as tie
+
+abbrev Inv-loop : tie.InvT-loop
+Inv-loop chunk from line₀ held at₀ n₀ line at n = (from ≤ at) × (at ≤ length chunk) × (n ≤ held-limit) × (length line ≡ length line₀) × (taken (take n line) (drop at chunk) ≡ taken (take held line₀) (drop from chunk))
+
+abbrev μ-loop : tie.MeasureT-loop
+μ-loop chunk from line₀ held at₀ n₀ line at n = length chunk - at
+
+loop-holds : tie.Need-loop-holds Inv-loop μ-loop
+loop-holds c = (omega arith, omega arith, omega arith, refl, refl)
+
+shared-slice-read-b : tie.Need-shared-slice-read-b Inv-loop μ-loop
+shared-slice-read-b c = omega arith
+
+add-at : tie.Need-add-at Inv-loop μ-loop
+add-at c = omega arith
+
+same-length : tie.Need-same-length Inv-loop μ-loop
+same-length c = c .before .before .before .loop .inv .3
+
+returns : tie.Need-returns Inv-loop μ-loop
+unfolding rest-if
+returns c =
+    let k = c .before .before .before in
+    record {
+      equal = sym (taken-newline _ _ _ (c .before .before .loop-test .taken) (c .if1 .taken)) ∙ k .loop .inv .4;
+      size = k .loop .inv .3;
+      held-fits = k .loop .inv .2;
+      next-fits = omega arith;
+      moves = λ m. omega arith;
+    }
+
+slice-write-line : tie.Need-slice-write-line Inv-loop μ-loop
+slice-write-line c = omega arith
+
+add-n : tie.Need-add-n Inv-loop μ-loop
+add-n c = omega arith
+
+loop-less : tie.Need-loop-less Inv-loop μ-loop
+loop-less c = omega arith
+
+loop-again : tie.Need-loop-again Inv-loop μ-loop
+loop-again c =
+    let k = c .before .before .before .before in (
+      omega arith,
+      omega arith,
+      omega arith,
+      simp length-set (k .loop .inv .3),
+      turn-room _ _ _ _ (c .before .before .before .loop-test .taken) (c .before .if1 .left) (c .if2 .taken) (omega arith) ∙ k .loop .inv .4,
+    )
+
+loop-less-2 : tie.Need-loop-less-2 Inv-loop μ-loop
+loop-less-2 c = omega arith
+
+loop-again-2 : tie.Need-loop-again-2 Inv-loop μ-loop
+loop-again-2 c =
+    let k = c .before .before .before .before in (
+      omega arith,
+      omega arith,
+      omega arith,
+      k .loop .inv .3,
+      turn-full _ _ _ _ (c .before .before .before .loop-test .taken) (c .before .if1 .left) (c .if2 .left) (omega arith) ∙ k .loop .inv .4,
+    )
+
+same-length-2 : tie.Need-same-length-2 Inv-loop μ-loop
+same-length-2 c = c .before .loop .inv .3
+
+returns-2 : tie.Need-returns-2 Inv-loop μ-loop
+unfolding rest-if
+returns-2 c =
+    let k = c .before in
+    record {
+      equal = sym (taken-none _ _ _ (c .loop-test .left)) ∙ k .loop .inv .4;
+      size = k .loop .inv .3;
+      held-fits = k .loop .inv .2;
+      next-fits = k .loop .inv .1;
+      moves = λ m. omega arith;
+    }
+
+pub take-line-spec : {M : Type 1} → statement M
+take-line-spec =
+    tie.close
+    (tie.spec
+    Inv-loop
+    μ-loop
+    loop-holds
+    shared-slice-read-b
+    add-at
+    same-length
+    returns
+    slice-write-line
+    add-n
+    loop-less
+    loop-again
+    loop-less-2
+    loop-again-2
+    same-length-2
+    returns-2)

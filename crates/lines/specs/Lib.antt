@@ -1,0 +1,6 @@
+pub mod Sizes
+pub mod Text
+pub mod Reply
+pub mod Output
+pub mod Stores
+pub mod Held

@@ -1,0 +1,3 @@
+// What the line tool answers to a line, and how it takes lines out of chunks of input.
+pub mod line;
+pub mod text;

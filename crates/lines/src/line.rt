@@ -1,0 +1,64 @@
+// Lines: where the first tab stands, and how a line is taken out of a chunk of input.
+ghost use mathlib.Core.Path.{_≡_};
+ghost use Prim.Native.Nat.{_≤_};
+ghost use lib.ListN.{length};
+ghost use Rattle.lines.specs.Sizes.{held-limit, tab-byte};
+ghost use Rattle.lines.specs.Reply.{first};
+ghost use Rattle.lines.specs.Held.{Took};
+
+// Of a line no more is held: enough to see that it is too long.
+pub const HELD_LIMIT: usize = 1025;
+
+const TAB: u8 = b'\t';
+
+const NEWLINE: u8 = b'\n';
+
+// How many bytes of a line are held, where to go on in the chunk, and whether the line ended.
+pub struct Taken {
+    pub held: usize,
+    pub next: usize,
+    pub ended: bool,
+}
+
+// Where the first tab stands, the length if there is none.
+pub fn tab_at(line: &[u8]) -> usize
+    ensures { λ r. ⌜ r ≡ first tab-byte (now (line .entry)) ⌝ }
+{
+    let mut i = 0;
+    while i < line.len() {
+        if line[i] == TAB {
+            return i;
+        }
+        i += 1;
+    }
+    i
+}
+
+// The bytes of a chunk up to a newline, put after the held ones of a line.
+pub fn take_line(chunk: &[u8], from: usize, line: &mut [u8], held: usize) -> Taken
+    requires { ⌜ (from ≤ length (now chunk)) × (length (now line) ≡ held-limit) × (held ≤ held-limit) ⌝ }
+    ensures { λ r. ⌜ Took (now (chunk .entry)) from (now (line .entry)) held (now (line .exit)) r ⌝ }
+{
+    let mut at = from;
+    let mut n = held;
+    while at < chunk.len() {
+        let b = chunk[at];
+        at += 1;
+        if b == NEWLINE {
+            return Taken {
+                held: n,
+                next: at,
+                ended: true,
+            };
+        }
+        if n < HELD_LIMIT {
+            line[n] = b;
+            n += 1;
+        }
+    }
+    Taken {
+        held: n,
+        next: at,
+        ended: false,
+    }
+}
