@@ -4,10 +4,10 @@ use mathlib.Core.List.{List, [], _∷_, _++_}
 use Prim.Native.Nat.{ℕ, suc, _+_, _<_}
 use native.Mathlib.Omega.{arith}
 use native.Mathlib.Numerals.{add-one}
-use lib.ListN.{length, set}
+use lib.ListN.{length, set, length-append}
 use lib.Seq.{sets, length-sets, set-comm}
 use Rattle.pattern.specs.Bytes.{Bytes}
-use Rattle.lines.specs.Stores.{stored}
+use Rattle.lines.specs.Stores.{stored, Stored}
 
 pub length-stored : (l : Bytes) (at : ℕ) (v : Bytes) → length (stored l at v) ≡ length l
 unfolding stored
@@ -40,3 +40,18 @@ late l at k a (b ∷ v) h =
 pub stored-last : (l : Bytes) (at a : ℕ) (v : Bytes) → stored l at (v ++ a ∷ []) ≡ stored (set l (at + length v) a) at v
 unfolding stored
 stored-last l at a v = stored-append l at v (a ∷ []) ∙ sym (late l at (at + length v) a v (omega arith))
+
+-- a text stored after another
+pub stored-join : {v w l m n : Bytes} {i j k : ℕ} → Stored v l i m j → Stored w m j n k → Stored (v ++ w) l i n k
+stored-join {v} {w} {l} {m} {n} {i} {j} {k} a b = record {
+  bytes = b .bytes ∙ ap (λ x. stored x j w) (a .bytes) ∙ ap (λ x. stored (stored l i v) x w) (a .ends) ∙ sym (stored-append l i v w);
+  ends = omega (arith, a .ends, b .ends, length-append v w);
+}
+
+-- it leaves the length
+pub stored-length : {v l m : Bytes} {i j : ℕ} → Stored v l i m j → length m ≡ length l
+stored-length {v} {l} {m} {i} {j} a = ap length (a .bytes) ∙ length-stored l i v
+
+-- an empty text
+pub stored-empty : {v : Bytes} → v ≡ [] → (l : Bytes) (i : ℕ) → Stored v l i l i
+stored-empty e l i = rw e (record { bytes = sym (stored-none l i); ends = omega arith })

@@ -12,13 +12,17 @@ use Rattle.lines.specs.Sizes.{unset, space-byte}
 unfoldable pub decimal : ℕ → Bytes
 decimal n = decimal-of n n
 
+-- a letter, a space and a number
+unfoldable pub coded-text : (letter number : ℕ) → Bytes
+coded-text letter number = letter ∷ space-byte ∷ decimal number
+
 -- "R number position"
 unfoldable pub refused-text : (number position : ℕ) → Bytes
-refused-text number position = bytes "R " ++ decimal number ++ space-byte ∷ decimal position
+refused-text number position = coded-text 82 number ++ space-byte ∷ decimal position
 
 -- "M number"
 unfoldable pub unmatched-text : (number : ℕ) → Bytes
-unmatched-text number = bytes "M " ++ decimal number
+unmatched-text number = coded-text 77 number
 
 -- the ends that a match wrote into parts that held unset bytes before
 unfoldable pub ends-in : Bytes → List ℕ

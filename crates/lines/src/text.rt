@@ -1,8 +1,9 @@
 // The texts of an answer, written into lent bytes.
 ghost use mathlib.Core.Path.{_≡_};
-ghost use Prim.Native.Nat.{_+_, _*_, _≤_};
+ghost use mathlib.Core.List.{[], _∷_};
+ghost use Prim.Native.Nat.{_+_, _*_, _≤_, _<_};
 ghost use lib.ListN.{length};
-ghost use Rattle.lines.specs.Text.{decimal, refused-text, unmatched-text, matched-text};
+ghost use Rattle.lines.specs.Text.{decimal, coded-text, refused-text, unmatched-text, matched-text};
 ghost use Rattle.lines.specs.Stores.{Stored};
 
 // What a byte of the lent parts holds where no end was written.
@@ -38,16 +39,33 @@ pub fn put_number(x: u64, out: &mut [u8], at: usize) -> usize
     end
 }
 
+// One byte.
+pub fn put_byte(b: u8, out: &mut [u8], at: usize) -> usize
+    requires { ⌜ at + 1 ≤ length (now out) ⌝ }
+    ensures { λ r. ⌜ Stored (b ∷ []) (now (out .entry)) at (now (out .exit)) r ⌝ }
+{
+    out[at] = b;
+    at + 1
+}
+
+// A letter, a space and a number.
+fn put_coded(letter: u8, number: u64, out: &mut [u8], at: usize) -> usize
+    requires { ⌜ at + 22 ≤ length (now out) ⌝ }
+    ensures { λ r. ⌜ Stored (coded-text letter number) (now (out .entry)) at (now (out .exit)) r ⌝ }
+{
+    let space = put_byte(letter, out, at);
+    let start = put_byte(b' ', out, space);
+    put_number(number, out, start)
+}
+
 // A refusal from compiling.
 pub fn put_refused(number: u64, position: u64, out: &mut [u8], at: usize) -> usize
     requires { ⌜ at + 43 ≤ length (now out) ⌝ }
     ensures { λ r. ⌜ Stored (refused-text number position) (now (out .entry)) at (now (out .exit)) r ⌝ }
 {
-    out[at] = b'R';
-    out[at + 1] = b' ';
-    let end = put_number(number, out, at + 2);
-    out[end] = b' ';
-    put_number(position, out, end + 1)
+    let space = put_coded(b'R', number, out, at);
+    let start = put_byte(b' ', out, space);
+    put_number(position, out, start)
 }
 
 // A refusal from matching.
@@ -55,9 +73,16 @@ pub fn put_unmatched(number: u64, out: &mut [u8], at: usize) -> usize
     requires { ⌜ at + 22 ≤ length (now out) ⌝ }
     ensures { λ r. ⌜ Stored (unmatched-text number) (now (out .entry)) at (now (out .exit)) r ⌝ }
 {
-    out[at] = b'M';
-    out[at + 1] = b' ';
-    put_number(number, out, at + 2)
+    put_coded(b'M', number, out, at)
+}
+
+// A 16-bit number, its lower byte first, after a byte that parts it from what is before.
+fn put_part(before: u8, low: u8, high: u8, out: &mut [u8], at: usize) -> usize
+    requires { ⌜ at + 6 ≤ length (now out) ⌝ }
+    ensures { λ r. ⌜ Stored (before ∷ decimal (low + 256 * high)) (now (out .entry)) at (now (out .exit)) r ⌝ }
+{
+    let start = put_byte(before, out, at);
+    put_number(low as u64 + 256 * high as u64, out, start)
 }
 
 // A verdict of yes with its parts.
@@ -65,20 +90,18 @@ pub fn put_matched(parts: &[u8], out: &mut [u8], at: usize) -> usize
     requires { ⌜ at + 1 + 3 * length (now parts) ≤ length (now out) ⌝ }
     ensures { λ r. ⌜ Stored (matched-text (now (parts .entry))) (now (out .entry)) at (now (out .exit)) r ⌝ }
 {
-    out[at] = b'1';
-    let mut o = at + 1;
+    let mut end = put_byte(b'1', out, at);
     let mut i = 0;
     let mut before = b' ';
     while i + 1 < parts.len() {
         let low = parts[i];
         let high = parts[i + 1];
         if high == UNSET {
-            return o;
+            return end;
         }
-        out[o] = before;
-        o = put_number((low as u64) + 256 * (high as u64), out, o + 1);
+        end = put_part(before, low, high, out, end);
         before = b',';
         i += 2;
     }
-    o
+    end
 }
