@@ -4,3 +4,4 @@ pub mod Reply
 pub mod Output
 pub mod Stores
 pub mod Held
+pub mod Examples
