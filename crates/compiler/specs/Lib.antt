@@ -1,0 +1,5 @@
+pub mod Places
+pub mod Scans
+pub mod Buffers
+pub mod Bodies
+pub mod Counts

@@ -1,0 +1,5 @@
+// Compiling pattern source to a table.
+pub mod body;
+pub mod copy;
+pub mod cursor;
+pub mod refusal;
