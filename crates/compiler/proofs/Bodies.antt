@@ -21,10 +21,10 @@ use Rattle.compiler.specs.declared.cursor.Text.{Text}
 use Rattle.compiler.specs.declared.cursor.Text.the-variants as texts
 use Rattle.compiler.specs.declared.body.Letters.the-variants as sets
 use Rattle.compiler.specs.declared.body.Literal.the-variants as literals
-use Rattle.compiler.specs.Places.{kind-at, LetterRead}
+use Rattle.compiler.specs.Places.{Onward, kind-at, LetterRead}
 use Rattle.compiler.specs.Scans.{scanned}
 use Rattle.compiler.specs.Buffers.{stored}
-use Rattle.compiler.specs.Bodies.{Onward, Passes, Refuses, in-codes, in-literal, TextRead, CodesRead, LiteralIs, LiteralRead}
+use Rattle.compiler.specs.Bodies.{Passes, Refuses, in-codes, in-literal, TextRead, CodesRead, LiteralIs, LiteralRead}
 use Rattle.compiler.proofs.Steps.{onward, faulty}
 use Rattle.compiler.proofs.Puts.{stored-none, stored-more}
 

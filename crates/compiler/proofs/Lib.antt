@@ -4,3 +4,6 @@ pub mod Steps
 pub mod Texts
 pub mod Puts
 pub mod Bodies
+pub mod Numbers
+pub mod Runs
+pub mod Counts

@@ -55,11 +55,11 @@ module _ (r : Run) (m : Mark) (c : ℕ) (s : Bytes) (k : Around) (e : kind c ≡
   unfolding step move counted
   run-step = rw e (rw g)
 
-  run-ahead : ahead r (c ∷ s) ≡ ahead r′ s
+  pub run-ahead : ahead r (c ∷ s) ≡ ahead r′ s
   unfolding ahead
   run-ahead = rw (e, ahead) (rw g)
 
-  run-extent : extent r (c ∷ s) ≡ suc (extent r′ s)
+  pub run-extent : extent r (c ∷ s) ≡ suc (extent r′ s)
   unfolding extent
   run-extent = rw (e, extent) (rw g)
 
@@ -68,12 +68,12 @@ Passes : Run → Bytes → Around → ℕ → ℕ → Type 0
 Passes r s k i n = scan (counting r, k) i n s ≡ scan (counting (ahead r s), k) (i + extent r s) n (drop (extent r s) s)
 
 -- the byte does not belong to the run
-Halts : Run → Kind → ℕ → Type 0
+unfoldable pub Halts : Run → Kind → ℕ → Type 0
 Halts r (counts m) c = grow r m c ≡ none
 Halts r (starts b) c = Unit {0}
 Halts r (ends e) c = Unit {0}
 
-halted : (r : Run) (c : ℕ) (s : Bytes) (x : Kind) → kind c ≡ x → Halts r x c → (ahead r (c ∷ s) ≡ r) × (extent r (c ∷ s) ≡ 0)
+pub halted : (r : Run) (c : ℕ) (s : Bytes) (x : Kind) → kind c ≡ x → Halts r x c → (ahead r (c ∷ s) ≡ r) × (extent r (c ∷ s) ≡ 0)
 unfolding Halts ahead extent
 halted r c s (counts m) e g = (rw (e, ahead) (rw g), rw (e, extent) (rw g))
 halted r c s (starts b) e g = (rw (e, ahead), rw (e, extent))

@@ -15,9 +15,9 @@ use Rattle.pattern.specs.Scan.{begins, begun, body-begins, fault, refused}
 use Rattle.pattern.proofs.Notation.{text-byte}
 use Rattle.compiler.specs.declared.cursor.Cursor.{Cursor}
 use Rattle.compiler.specs.declared.cursor.Text.the-variants as read
-use Rattle.compiler.specs.Places.{kind-at, is-plain, plain-text, ByteIs, Kind-not}
+use Rattle.compiler.specs.Places.{Onward, kind-at, is-plain, plain-text, ByteIs, Kind-not}
 use Rattle.compiler.specs.Scans.{scanned}
-use Rattle.compiler.specs.Bodies.{Onward, Passes, Refuses, in-literal, past-literal, TextRead}
+use Rattle.compiler.specs.Bodies.{Passes, Refuses, in-literal, past-literal, TextRead}
 use Rattle.compiler.proofs.Steps.{onward, stuck, short}
 
 plain-is : (b : ℕ) → is-plain b ≡ true → text b ≡ plain

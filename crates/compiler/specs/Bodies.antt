@@ -17,14 +17,9 @@ use Rattle.compiler.specs.declared.body.Letters.{Letters}
 use Rattle.compiler.specs.declared.body.Letters.the-variants as letters
 use Rattle.compiler.specs.declared.body.Literal.{Literal}
 use Rattle.compiler.specs.declared.body.Literal.the-variants as literals
-use Rattle.compiler.specs.Places.{Kind-not}
+use Rattle.compiler.specs.Places.{Onward, Kind-not}
 use Rattle.compiler.specs.Scans.{scanned}
 use Rattle.compiler.specs.Buffers.{stored}
-
--- a cursor past a place, within the source
-pub record Onward (s : Bytes) (at : ℕ) (next : Cursor) : Type 0 where
-  pub on : at < next .at
-  pub within : next .at ≤ length s
 
 -- a place in a body, after a count and inside groups
 abbrev pub Inside : Type 0

@@ -61,6 +61,11 @@ count-flag (ends e) = 1
 unfoldable pub flag : Bytes → ℕ → ℕ
 flag s at = cond (ltb at (length s)) (count-flag (kind-at s at)) 1
 
+-- a cursor past a place, within the source
+pub record Onward (s : Bytes) (at : ℕ) (next : Cursor) : Type 0 where
+  pub on : at < next .at
+  pub within : next .at ≤ length s
+
 -- the byte at a place is c, and this is the cursor past it
 pub record ByteIs (s : Bytes) (at c : ℕ) (next : Cursor) : Type 0 where
   pub within : at < length s

@@ -1,5 +1,6 @@
 // Compiling pattern source to a table.
 pub mod body;
 pub mod copy;
+pub mod count;
 pub mod cursor;
 pub mod refusal;
