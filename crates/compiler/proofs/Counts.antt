@@ -15,7 +15,7 @@ use Rattle.pattern.specs.Bytes.{Bytes}
 use Rattle.pattern.specs.Table.{high-field}
 use Rattle.pattern.specs.Repeats.{repeat-of}
 use Rattle.pattern.specs.Spelling.{Mark, digit, point, Kind, counts, starts, ends, kind}
-use Rattle.pattern.specs.Reading.{Run, empty, first, pointed, second, counting, Around, move, step, finish}
+use Rattle.pattern.specs.Reading.{Run, empty, first, pointed, second, counting, Around, grow, move, step, finish}
 use Rattle.pattern.specs.Scan.{low, high, ahead, large, falls, refuse, atom-fault, refused}
 use Rattle.pattern.specs.declared.repeat.Repeat.{Repeat}
 use Rattle.pattern.proofs.Tests.{le-or-lt}
@@ -31,7 +31,7 @@ use Rattle.compiler.specs.Counts.{lead, number, cap, large-number, Numbe
 use Rattle.compiler.proofs.Pass.{extent, over, past-count, count-scan, ending-refused, ending-passed}
 use Rattle.compiler.proofs.Steps.{stuck, short}
 use Rattle.compiler.proofs.Numbers.{cap-small, cap-large, cap-least, lead-more}
-use Rattle.compiler.proofs.Runs.{Runs, digit-begins, runs-exact, runs-open, runs-closed}
+use Rattle.compiler.proofs.Runs.{Runs, Stops, run-stops, digit-begins, runs-exact, runs-open, runs-closed}
 
 -- a high number, held
 abbrev cap-high : Option ℕ → Option ℕ
@@ -135,6 +135,12 @@ module _ (s : Bytes) (i n : ℕ) (x : Mark) (w : i < length s) (e : kind-at s i 
       counted-scan k
       ∙ rw (same-fault none h, past-count) (ending-passed (ahead empty (drop i s)) k _ _ _ _ (rw (runs .run) o) ∙ rw (runs .run, runs .size, drop-drop))
 
+  stops-there : (j : ℕ) → j ≡ i + m → j < length s → (y : Mark) → kind-at s j ≡ counts y → grow r y (getD s j 0) ≡ none
+  stops-there j g v y k =
+      let a : drop m (drop i s) ≡ getD s j 0 ∷ drop (suc j) s = drop-drop m i s ∙ ap (λ x. drop x s) (sym g) ∙ drop-cons s j 0 v in
+      let b : Stops r (getD s j 0 ∷ drop (suc j) s) = rw (runs .run, runs .size, a) at (run-stops (drop i s) empty) in
+      b y k
+
   pub judged-right : (rep : Repeat) (from : ℕ) (end : Cursor) → rep .low ≡ cap (low r) → rep .high ≡ high-field (cap-high (high r))
       → (over r ≡ true → from ≡ i + suc (lead (drop i s))) → end .at ≡ i + m → 0 < m → end .at ≤ length s → ¬ (r ≡ empty)
       → CountRead s i n (judge rep n i from end)
@@ -150,6 +156,7 @@ module _ (s : Bytes) (i n : ℕ) (x : Mark) (w : i < length s) (e : kind-at s i 
             rep-is = λ j. record { low = (l ∙ cap-small (low r) a) j; high = (h ∙ same-high r a o) j };
             onward = record { on = omega arith; within = t };
             room = b;
+            stops = λ y v k. stops-there (end .at) g v y k;
             scan = λ k. rw g (passed u o k);
           }
 

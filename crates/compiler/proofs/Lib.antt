@@ -7,3 +7,7 @@ pub mod Bodies
 pub mod Numbers
 pub mod Runs
 pub mod Counts
+pub mod Leaves
+pub mod Descent
+pub mod Written
+pub mod Readers

@@ -2,13 +2,13 @@
 use mathlib.Core.Path.{_≡_, refl, sym, ap, _∙_}
 use mathlib.Core.Logic.{⊎-elim}
 use mathlib.Core.List.{List, [], _∷_}
-use mathlib.Core.Option.{none, some}
+use mathlib.Core.Option.{Option, none, some}
 use Prim.Native.Nat.{ℕ, zero, suc, _+_, _-_, _*_, _≤_, _<_}
 use native.Mathlib.Omega.{arith}
 use lib.ListN.{length, drop, getD, drop-of-length-le}
 use lib.Seq.{drop-cons, drop-drop}
 use Rattle.pattern.specs.Bytes.{Bytes}
-use Rattle.pattern.specs.Spelling.{digit, point, Kind, counts, starts, ends, kind}
+use Rattle.pattern.specs.Spelling.{Mark, digit, point, Kind, counts, starts, ends, kind}
 use Rattle.pattern.specs.Reading.{Run, empty, first, pointed, second, top, grow}
 use Rattle.pattern.specs.Scan.{ahead}
 use Rattle.pattern.proofs.Tests.{le-or-lt}
@@ -38,6 +38,31 @@ module _ {r₀ : Run} {l : Bytes} {n : ℕ} (r : Run) (c : ℕ) (r′ : Run) (h 
 -- one that doesn't
 runs-halt : (r : Run) (c : ℕ) (l : Bytes) (x : Kind) → kind c ≡ x → Halts r x c → Runs r (c ∷ l) r 0
 runs-halt r c l x e h = let (a, b) = halted r c l x e h in record { run = a; size = b }
+
+-- no count goes on at the head of a list
+abbrev pub Stops : Run → Bytes → Type 0
+Stops r [] = Unit {0}
+Stops r (c ∷ l) = (m : Mark) → kind c ≡ counts m → grow r m c ≡ none
+
+-- the longest run stops where it ends
+pub run-stops : (l : Bytes) (r : Run) → Stops (ahead r l) (drop (extent r l) l)
+run-stops [] r = unfold ahead extent in tt
+run-stops (c ∷ l) r = go (λ r′. run-stops l r′) (kind c) refl
+  where
+    more : ((r′ : Run) → Stops (ahead r′ l) (drop (extent r′ l) l)) → (m : Mark) → kind c ≡ counts m → (o : Option Run) → grow r m c ≡ o → Stops (ahead r (c ∷ l)) (drop (extent r (c ∷ l)) (c ∷ l))
+    more h m e none g =
+        let (a, b) = halted r c l (counts m) e (unfold Halts in g) in
+        rw (a, b) (λ m′ e′. let z : counts m ≡ counts m′ = sym e ∙ e′ in let y : m ≡ m′ = cc in rw y at g)
+    more h m e (some r′) g = rw (run-ahead r m c l (top []) e r′ g, run-extent r m c l (top []) e r′ g) (h r′)
+
+    go : ((r′ : Run) → Stops (ahead r′ l) (drop (extent r′ l) l)) → (x : Kind) → kind c ≡ x → Stops (ahead r (c ∷ l)) (drop (extent r (c ∷ l)) (c ∷ l))
+    go h (counts m) e = more h m e (grow r m c) refl
+    go h (starts b) e =
+        let (a, d) = halted r c l (starts b) e (unfold Halts in tt) in
+        rw (a, d) (λ m e′. let z : starts b ≡ counts m = sym e ∙ e′ in let y : _≡_ {A = ℕ} 0 1 = cc in absurd (omega arith))
+    go h (ends b) e =
+        let (a, d) = halted r c l (ends b) e (unfold Halts in tt) in
+        rw (a, d) (λ m e′. let z : ends b ≡ counts m = sym e ∙ e′ in let y : _≡_ {A = ℕ} 0 1 = cc in absurd (omega arith))
 
 -- a second number ends with its digits
 second-halts : (x y c : ℕ) (l : Bytes) → ¬ (kind c ≡ counts digit) → Runs (second x y) (c ∷ l) (second x y) 0

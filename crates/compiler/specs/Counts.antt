@@ -2,21 +2,22 @@
 use mathlib.Core.Path.{_≡_}
 use mathlib.Core.Bool.{Bool, true, false, cond}
 use mathlib.Core.List.{List, [], _∷_}
+use mathlib.Core.Option.{none}
 use Prim.Native.Nat.{ℕ, suc, _+_, _-_, _*_, _≤_, _<_}
 use lib.Dec.{leb, ltb, eqb}
-use lib.ListN.{length, drop}
+use lib.ListN.{length, drop, getD}
 use Rattle.pattern.specs.Numbers.{zero-byte, number-limit, atom-limit, NUMBER, RANGE, ATOMS}
 use Rattle.pattern.specs.Bytes.{Bytes}
 use Rattle.pattern.specs.Repeats.{repeat-of}
-use Rattle.pattern.specs.Spelling.{digit, point, counts, starts, ends, kind}
-use Rattle.pattern.specs.Reading.{Run, empty, counting, Around}
+use Rattle.pattern.specs.Spelling.{Mark, digit, point, counts, starts, ends, kind}
+use Rattle.pattern.specs.Reading.{Run, empty, counting, Around, grow}
 use Rattle.pattern.specs.Scan.{low, high, refused}
 use Rattle.pattern.specs.declared.repeat.Repeat.{Repeat}
 use Rattle.compiler.specs.declared.cursor.Cursor.{Cursor}
 use Rattle.compiler.specs.declared.count.Number.{Number}
 use Rattle.compiler.specs.declared.count.Counted.{Counted}
 use Rattle.compiler.specs.declared.count.Counted.the-variants as counted
-use Rattle.compiler.specs.Places.{Onward}
+use Rattle.compiler.specs.Places.{Onward, kind-at}
 use Rattle.compiler.specs.Scans.{scanned}
 
 -- how many digits come first
@@ -57,6 +58,7 @@ pub record CountIs (s : Bytes) (i n : ℕ) (rep : Repeat) (next : Cursor) : Type
   pub rep-is : rep ≡ repeat-of (low run) (high run)
   pub onward : Onward s i next
   pub room : n < atom-limit
+  pub stops : (m : Mark) → next .at < length s → kind-at s (next .at) ≡ counts m → grow run m (getD s (next .at) 0) ≡ none
   pub scan : (k : Around) → scanned s (counting empty, k) i n ≡ scanned s (counting run, k) (next .at) (suc n)
 
 pub record CountRefused (s : Bytes) (i n f p : ℕ) : Type 0 where

@@ -3,3 +3,4 @@ pub mod Scans
 pub mod Buffers
 pub mod Bodies
 pub mod Counts
+pub mod Readers

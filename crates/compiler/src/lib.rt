@@ -3,4 +3,5 @@ pub mod body;
 pub mod copy;
 pub mod count;
 pub mod cursor;
+pub mod reader;
 pub mod refusal;
