@@ -11,3 +11,4 @@ pub mod Leaves
 pub mod Descent
 pub mod Written
 pub mod Readers
+pub mod Emits

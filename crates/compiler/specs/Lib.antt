@@ -4,3 +4,4 @@ pub mod Buffers
 pub mod Bodies
 pub mod Counts
 pub mod Readers
+pub mod Compiling

@@ -1,7 +1,6 @@
 // The table of what was read: header, records and pool.
 ghost use mathlib.Core.Path.{_≡_};
 ghost use Rattle.compiler.specs.Compiling.{answer-of, Emits, emitted};
-
 use crate::copy::copy;
 use crate::copy::put16;
 use crate::refusal;
@@ -14,7 +13,14 @@ pub enum Compiled {
 }
 
 // A table of these records and this pool, or ROOM at the source's length.
-pub fn emit(size: usize, atoms: usize, text: usize, recs: &[u8], pool: &[u8], table: &mut [u8]) -> Compiled
+pub fn emit(
+    size: usize,
+    atoms: usize,
+    text: usize,
+    recs: &[u8],
+    pool: &[u8],
+    table: &mut [u8],
+) -> Compiled
     requires { ⌜ Emits atoms text (now recs) (now pool) ⌝ }
     ensures { λ r. ⌜ record { answer = answer-of r; bytes = now (table .exit) } ≡ emitted size atoms text (now (recs .entry)) (now (pool .entry)) (now (table .entry)) ⌝ }
 {
@@ -27,7 +33,12 @@ pub fn emit(size: usize, atoms: usize, text: usize, recs: &[u8], pool: &[u8], ta
     copy(&mark, 5, table, 0);
     table[5] = atoms as u8;
     put16(table, 6, text as u16);
-    copy(recs, limits::RECORD_SIZE * atoms, table, limits::HEADER_SIZE);
+    copy(
+        recs,
+        limits::RECORD_SIZE * atoms,
+        table,
+        limits::HEADER_SIZE,
+    );
     copy(pool, text, table, from);
     Compiled::Table(total)
 }
