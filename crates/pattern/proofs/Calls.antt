@@ -19,7 +19,7 @@ use Rattle.pattern.specs.Within.{Ordered, Good}
 use Rattle.pattern.specs.Print.{print}
 use Rattle.pattern.specs.Table.{encode}
 use Rattle.pattern.specs.Decode.{decode}
-use Rattle.pattern.specs.Answers.{Answer, result, Output, put-if, put, compiled, compileOf, written-back, writeOf, Matched, cleared, lent-fault, judged, tried-if, tried, turned-away, lent-to, matched, matchOf}
+use Rattle.pattern.specs.Answers.{Answer, result, Output, put-if, put, compiled, compileOf, written-back, writeOf, Matched, cleared, lent-fault, judged, tried-if, tried, untried, tried-unless, matched, matchOf}
 use Rattle.pattern.proofs.Longest.{verdict-means}
 use Rattle.pattern.proofs.Bound.{bound}
 use Rattle.pattern.proofs.Accepted.{accepted-exactly}
@@ -91,8 +91,8 @@ write-compile table source room e h =
 module _ (table label scratch parts : Bytes) (t : Syntax pattern) (good : decode table ≡ some t) (lent : lent-fault t label scratch parts ≡ none) where
   -- the call makes the trials of the table's tree
   match-tried : (budget : ℕ) → matchOf table label scratch parts budget ≡ tried t label scratch parts budget
-  unfolding matchOf matched lent-to
-  match-tried budget = ap (λ o. matched o label scratch parts budget) good ∙ ap (λ o. lent-to o t label scratch parts budget) lent
+  unfolding matchOf matched tried-unless
+  match-tried budget = ap (λ o. matched o label scratch parts budget) good ∙ ap (λ o. tried-unless o t label scratch parts budget) lent
 
   -- demand 3: a verdict, with the defined count, where the count is within the budget
   pub within-budget : (budget : ℕ) → trials label t ≤ budget → matchOf table label scratch parts budget ≡ judged (verdict label t) t label scratch parts
@@ -154,13 +154,13 @@ module _ (label scratch parts : Bytes) where
   tried-untouched false t budget = record { kept-parts = λ e. refl; kept-scratch = λ e f. absurd (f refl) }
 
   pub match-untouched : (table : Bytes) (budget : ℕ) → Untouched scratch parts (matchOf table label scratch parts budget)
-  unfolding matchOf matched lent-to tried
+  unfolding matchOf matched tried-unless tried
   match-untouched table budget = go (decode table)
     where
-      away : (number : ℕ) → Untouched scratch parts (turned-away number scratch parts)
+      away : (number : ℕ) → Untouched scratch parts (untried number scratch parts)
       away number = record { kept-parts = λ e. refl; kept-scratch = λ e f. refl }
 
-      lent : (o : Option ℕ) (t : Syntax pattern) → Untouched scratch parts (lent-to o t label scratch parts budget)
+      lent : (o : Option ℕ) (t : Syntax pattern) → Untouched scratch parts (tried-unless o t label scratch parts budget)
       lent (some number) t = away number
       lent none t = tried-untouched _ t budget
 
@@ -177,7 +177,7 @@ shown m = (m .answer, m .parts)
 -- demand 3: what the scratch held before does not matter
 pub scratch-blind : (table label scratch other parts : Bytes) (budget : ℕ) → length scratch ≡ length other
     → shown (matchOf table label scratch parts budget) ≡ shown (matchOf table label other parts budget)
-unfolding matchOf matched lent-to lent-fault tried tried-if judged
+unfolding matchOf matched tried-unless lent-fault tried tried-if judged
 scratch-blind table label scratch other parts budget e = go (decode table)
   where
     verdicts : (v : Option (List ℕ)) (t : Syntax pattern) → shown (judged v t label scratch parts) ≡ shown (judged v t label other parts)
@@ -188,7 +188,7 @@ scratch-blind table label scratch other parts budget e = go (decode table)
     trying true t = verdicts (verdict label t) t
     trying false t = refl
 
-    lent : (o : Option ℕ) (t : Syntax pattern) → shown (lent-to o t label scratch parts budget) ≡ shown (lent-to o t label other parts budget)
+    lent : (o : Option ℕ) (t : Syntax pattern) → shown (tried-unless o t label scratch parts budget) ≡ shown (tried-unless o t label other parts budget)
     lent (some number) t = refl
     lent none t = trying (leb (trials label t) budget) t
 
@@ -197,4 +197,4 @@ scratch-blind table label scratch other parts budget e = go (decode table)
 
     go : (o : Option (Syntax pattern)) → shown (matched o label scratch parts budget) ≡ shown (matched o label other parts budget)
     go none = refl
-    go (some t) = ap (λ f. shown (lent-to f t label scratch parts budget)) (same-lent t) ∙ lent (lent-fault t label other parts) t
+    go (some t) = ap (λ f. shown (tried-unless f t label scratch parts budget)) (same-lent t) ∙ lent (lent-fault t label other parts) t

@@ -106,17 +106,18 @@ unfoldable pub tried : Syntax pattern → (label scratch parts : Bytes) → (bud
 tried t label scratch parts budget = tried-if (leb (trials label t) budget) t label scratch parts budget
 
 -- a match that is refused before any trial
-abbrev pub turned-away : ℕ → (scratch parts : Bytes) → Matched
-turned-away number scratch parts = record { answer = refusal number 0; scratch = scratch; parts = parts }
+abbrev pub untried : ℕ → (scratch parts : Bytes) → Matched
+untried number scratch parts = record { answer = refusal number 0; scratch = scratch; parts = parts }
 
--- matching: 11, then 12 to 14, then the trials
-unfoldable pub lent-to : Option ℕ → Syntax pattern → (label scratch parts : Bytes) → (budget : ℕ) → Matched
-lent-to (some number) t label scratch parts budget = turned-away number scratch parts
-lent-to none t label scratch parts budget = tried t label scratch parts budget
+-- matching: 12 to 14 in order, then the trials
+unfoldable pub tried-unless : Option ℕ → Syntax pattern → (label scratch parts : Bytes) → (budget : ℕ) → Matched
+tried-unless (some number) t label scratch parts budget = untried number scratch parts
+tried-unless none t label scratch parts budget = tried t label scratch parts budget
 
+-- 11 before all
 unfoldable pub matched : Option (Syntax pattern) → (label scratch parts : Bytes) → (budget : ℕ) → Matched
-matched none label scratch parts budget = turned-away TABLE scratch parts
-matched (some t) label scratch parts budget = lent-to (lent-fault t label scratch parts) t label scratch parts budget
+matched none label scratch parts budget = untried TABLE scratch parts
+matched (some t) label scratch parts budget = tried-unless (lent-fault t label scratch parts) t label scratch parts budget
 
 unfoldable pub matchOf : (table label scratch parts : Bytes) → (budget : ℕ) → Matched
 matchOf table label scratch parts budget = matched (decode table) label scratch parts budget

@@ -17,7 +17,7 @@ use Rattle.pattern.specs.Scan.{low, high, ahead, depth, body-begins, beg
 use Rattle.pattern.specs.Print.{decimal-of, decimal, print-low, print-count, print-set, double, print}
 use Rattle.pattern.specs.Table.{pool, choices, kind-field, a-field, b-field, records, flat, header, encode}
 use Rattle.pattern.specs.Decode.{high-of, pattern-at, tree-of, compiled-to, decode}
-use Rattle.pattern.specs.Answers.{Output, put-if, put, compiled, compileOf, Matched, cleared, part-bytes, lent-fault, judged, tried-if, tried, lent-to, matched, matchOf}
+use Rattle.pattern.specs.Answers.{Output, put-if, put, compiled, compileOf, Matched, cleared, part-bytes, lent-fault, judged, tried-if, tried, tried-unless, matched, matchOf}
 
 -- what a source and a label give under a budget: compiled into 64 bytes, then matched with 1,024 bytes of scratch and 8 of parts
 unfoldable pub run : Bytes → Bytes → ℕ → Matched
@@ -85,5 +85,5 @@ due e = (e .number, e .value, over (part-bytes (e .ends)) (replicate 8 7), e .co
 
 -- P1 to P14 together, and the easy errors together
 pub examples-hold : (map found examples ≡ map due examples) × (map found easy-errors ≡ map due easy-errors)
-unfolding between same over bytes all-codes ranged coded in-set bit-among bit size top-size nodes any trial join made most repeated one decide longest end parts verdict tries sum stretches joins repeats own total trials kind text join-atoms fork next enter extend leave quoted grow counted move step finish low high ahead depth body-begins begins begun large falls refuse atom-fault fault scan outcome decimal-of decimal print-low print-count print-set double print pool choices kind-field a-field b-field records flat header encode high-of pattern-at tree-of compiled-to decode put-if put compiled compileOf cleared part-bytes lent-fault judged tried-if tried lent-to matched matchOf run examples easy-errors found due
+unfolding between same over bytes all-codes ranged coded in-set bit-among bit size top-size nodes any trial join made most repeated one decide longest end parts verdict tries sum stretches joins repeats own total trials kind text join-atoms fork next enter extend leave quoted grow counted move step finish low high ahead depth body-begins begins begun large falls refuse atom-fault fault scan outcome decimal-of decimal print-low print-count print-set double print pool choices kind-field a-field b-field records flat header encode high-of pattern-at tree-of compiled-to decode put-if put compiled compileOf cleared part-bytes lent-fault judged tried-if tried tried-unless matched matchOf run examples easy-errors found due
 examples-hold = (refl, refl)
