@@ -4,3 +4,4 @@ pub mod Lines
 pub mod Digits
 pub mod Parts
 pub mod Chunks
+pub mod Refusals
