@@ -12,7 +12,7 @@ use Rattle.pattern.specs.Bytes.{Bytes, over}
 use Rattle.pattern.specs.Syntax.{pattern, Syntax}
 use Rattle.pattern.specs.Spelling.{kind}
 use Rattle.pattern.specs.Reading.{State, step, finish, start}
-use Rattle.pattern.specs.Scan.{Begins, an-atom, a-second, a-code, a-group, nothing, Run, refuse, atom-fault, fault, depth, begins, begun, Outcome, refused, accepted, scan, outcome}
+use Rattle.pattern.specs.Scan.{Begins, an-atom, a-second, a-code, a-group, nothing, refuse, atom-fault, fault, depth, begins, begun, Outcome, refused, accepted, scan, outcome}
 use Rattle.pattern.specs.Table.{header, encode}
 use Rattle.pattern.specs.Answers.{Output, put-if, put, compiled, compileOf}
 
