@@ -15,10 +15,11 @@ use Rattle.pattern.specs.Syntax.{pattern, Syntax}
 use Rattle.pattern.specs.Spelling.{kind}
 use Rattle.pattern.specs.Reading.{State, move, step, finish, start}
 use Rattle.pattern.specs.Places.{place-after, before-size, around-size, begun-at}
-use Rattle.pattern.specs.Scan.{depth, begins, fault, begun, Outcome, refused, accepted, scan, outcome}
-use Rattle.pattern.specs.Faults.{found, fault-there, fault-at, Least}
+use Rattle.pattern.specs.Scan.{depth, begins, fault, begun, refuse, Outcome, refused, accepted, scan, outcome}
+use Rattle.pattern.specs.Faults.{rows-there, rows-at, Applies, Least}
 use Rattle.pattern.proofs.Tests.{Decides, On, leb-decides, le-or-lt}
 use Rattle.pattern.proofs.Begun.{move-count}
+use Rattle.pattern.proofs.TableRows.{refuse-applies, refuse-none, refuse-lowest, found, found-there, found-rows, rows-ascend}
 
 -- the same for faults that are found by f, and positions counted from i on
 From : (ℕ → Option ℕ) → ℕ → Outcome → Type 0
@@ -37,7 +38,7 @@ first-of f i x e = (0, omega arith, e, λ j l. absurd (omega arith))
 
 -- the faults from a place on
 faults : State → Bytes → ℕ → Option ℕ
-faults q s j = fault-there (place-after q (take j s)) (drop j s)
+faults q s j = found-there (place-after q (take j s)) (drop j s)
 
 at-end : (o : Option (Syntax pattern)) (f : ℕ → Option ℕ) (i : ℕ) → ((j : ℕ) → f j ≡ elim o [ none ↦ some FORM | some t ↦ none ]) → From f i (elim o [ none ↦ refused FORM i | some t ↦ accepted t ])
 unfolding From
@@ -45,7 +46,7 @@ at-end none f i e = first-of f i FORM (e 0)
 at-end (some t) f i e = e
 
 at-byte : (o : Option State) (x : Option ℕ) (f : ℕ → Option ℕ) (i n : ℕ) (s : Bytes)
-    → f zero ≡ elim o [ none ↦ some FORM | some q ↦ x ] → ((j : ℕ) → f (suc j) ≡ fault-there (elim o [ none ↦ none | some q ↦ place-after q (take j s) ]) (drop j s))
+    → f zero ≡ elim o [ none ↦ some FORM | some q ↦ x ] → ((j : ℕ) → f (suc j) ≡ found-there (elim o [ none ↦ none | some q ↦ place-after q (take j s) ]) (drop j s))
     → On o (λ q. begun-at (q .0) (q .1) ≡ n) → ((q : State) → From (faults q s) (suc i) (scan q (suc i) (begun-at (q .0) (q .1)) s))
     → From f i (elim o [ none ↦ refused FORM i | some q ↦ elim x [ some y ↦ refused y i | none ↦ scan q (suc i) n s ] ])
 unfolding faults
@@ -53,8 +54,8 @@ at-byte none x f i n s e h c g = first-of f i FORM e
 at-byte (some q) none f i n s e h c g = later f (faults q s) i (scan q (suc i) n s) e h (rw c at (g q))
 at-byte (some q) (some y) f i n s e h c g = first-of f i y e
 
-same-end : (q : State) (j : ℕ) → faults q [] j ≡ found q (begun-at (q .0) (q .1)) []
-unfolding faults fault-there place-after
+same-end : (q : State) (j : ℕ) → faults q [] j ≡ found q []
+unfolding faults found-there place-after
 same-end q zero = refl
 same-end q (suc j) = refl
 
@@ -64,12 +65,27 @@ least-from [] q i = at-end (finish (q .0) (q .1)) (faults q []) i (same-end q)
 least-from (c ∷ s) q i =
     let n : ℕ = begun-at (q .0) (q .1) in
     at-byte (move (q .0) (q .1) (kind c) c) (fault (begins (q .0) (kind c)) (depth (q .1)) n c s) (faults q (c ∷ s)) i (begun (begins (q .0) (kind c)) n) s
-    (unfold faults fault-there place-after in refl) (λ j. unfold faults place-after in refl) (move-count (q .0) (q .1) (kind c) c) (λ q′. least-from s q′ (suc i))
+    (unfold faults found-there place-after in refl) (λ j. unfold faults place-after in refl) (move-count (q .0) (q .1) (kind c) c) (λ q′. least-from s q′ (suc i))
+
+-- what is found is the lowest row that applies
+lowest : (s : Bytes) (p f : ℕ) → faults start s p ≡ some f → Applies (rows-at s p) f × ((g : ℕ) → Applies (rows-at s p) g → f ≤ g)
+unfolding faults rows-at
+lowest s p f e =
+    let o = place-after start (take p s) in
+    let r : refuse (rows-there o (drop p s)) ≡ some f = found-rows o (drop p s) ∙ e in
+    (refuse-applies _ f r, λ g a. refuse-lowest _ 0 f g (rows-ascend o (drop p s)) r a)
+
+nowhere : (s : Bytes) (p g : ℕ) → faults start s p ≡ none → ¬ Applies (rows-at s p) g
+unfolding faults rows-at
+nowhere s p g e = let o = place-after start (take p s) in refuse-none _ g (found-rows o (drop p s) ∙ e)
 
 from-start : (s : Bytes) (o : Outcome) → From (faults start s) 0 o → Least s o
-unfolding From Least fault-at faults
-from-start s (refused f p) (d, e, h, k) = let a : p ≡ d = omega arith in rw a (h, k)
-from-start s (accepted t) h = h
+unfolding From Least
+from-start s (refused f p) (d, e, h, k) =
+    let a : p ≡ d = omega arith in
+    let (x, y) = lowest s d f h in
+    rw a (x, y, λ j g l. nowhere s j g (k j l))
+from-start s (accepted t) h = λ j g. nowhere s j g (h j)
 
 pub least : (s : Bytes) → Least s (scan start 0 0 s)
 unfolding begun-at around-size before-size
@@ -78,12 +94,15 @@ least s = from-start s (scan start 0 0 s) (least-from s start 0)
 -- the least fault is one
 least-one : (s : Bytes) (o : Outcome) (f p : ℕ) → Least s o → Least s (refused f p) → o ≡ refused f p
 unfolding Least
-least-one s (refused g r) f p (a, h) (b, k) =
+least-one s (refused g r) f p (a, b, c) (x, y, z) =
     ⊎-elim
-    (λ c. ⊎-elim (λ e. let d : some g ≡ some f = sym a ∙ ap (fault-at s) e ∙ b in cc) (λ d. absurd (Option·none-ne-some g (sym (k r d) ∙ a))) (eq-or-lt-of-le c))
-    (λ d. absurd (Option·none-ne-some f (sym (h p d) ∙ b)))
+    (λ h. ⊎-elim
+    (λ e. let u : g ≤ f = b f (rw e x) in let v : f ≤ g = y g (rw e at a) in let w : g ≡ f = omega arith in cc)
+    (λ d. absurd (z r g d a))
+    (eq-or-lt-of-le h))
+    (λ d. absurd (c p f d x))
     (le-or-lt r p)
-least-one s (accepted t) f p h (b, k) = absurd (Option·none-ne-some f (sym (h p) ∙ b))
+least-one s (accepted t) f p h (x, y, z) = absurd (h p f x)
 
 -- the scan refuses so just where this is the least fault
 pub scan-refused : (s : Bytes) (f p : ℕ) → (scan start 0 0 s ≡ refused f p) ↔ Least s (refused f p)

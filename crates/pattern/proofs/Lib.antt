@@ -8,6 +8,7 @@ pub mod Notation
 pub mod ReadSpells
 pub mod SpeltReads
 pub mod Form
+pub mod TableRows
 pub mod Least
 pub mod Stops
 pub mod Begun

@@ -1,13 +1,13 @@
 -- The place of FORM, without the automaton. Assumes nothing.
-use mathlib.Core.Path.{_≡_, refl, _∙_}
+use mathlib.Core.Path.{_≡_, refl, sym, ap, _∙_}
 use mathlib.Core.Logic.{_↔_, _⊎_, inl, inr, ⊎-elim}
 use mathlib.Core.Bool.{Bool, true, false}
 use mathlib.Core.List.{List, [], _∷_, _++_, append-assoc, append-nil}
-use mathlib.Core.Option.{Option, none, some, Option·none-ne-some}
+use mathlib.Core.Option.{Option, none, some, Option·none-ne-some, Option·some-ne-none}
 use Prim.Native.Nat.{ℕ, zero, suc, _≤_, _<_}
 use native.Mathlib.Omega.{arith}
 use lib.Dec.{T, ltb, leb→le}
-use lib.ListN.{length, take, drop}
+use lib.ListN.{length, take, drop, take-append-drop}
 use Rattle.pattern.specs.Numbers.{FORM}
 use Rattle.pattern.specs.Bytes.{Bytes}
 use Rattle.pattern.specs.Syntax.{pattern, Syntax}
@@ -15,9 +15,10 @@ use Rattle.pattern.specs.Spelling.{kind, Spells}
 use Rattle.pattern.specs.Reading.{State, step, finish, read-from, start, read}
 use Rattle.pattern.specs.Places.{place-after, begun-at}
 use Rattle.pattern.specs.Scan.{depth, Begins, an-atom, a-second, a-code, a-group, nothing, begins, refuse, atom-fault, fault}
-use Rattle.pattern.specs.Faults.{Viable, Stops, found, fault-there, fault-at}
+use Rattle.pattern.specs.Faults.{Viable, Stops, later-rows, rows-there, rows-at, Applies}
 use Rattle.pattern.proofs.Tests.{On}
 use Rattle.pattern.proofs.SpeltReads.{Leads, by-step, _⨾_, reads-on, complete}
+use Rattle.pattern.proofs.TableRows.{refuse-applies, refuse-none, refuse-lowest, found, found-there, found-rows, rows-ascend}
 use Rattle.pattern.proofs.Form.{form, viable, not-viable}
 
 -- no fault of a byte is FORM
@@ -81,9 +82,9 @@ module _ (u : Bytes) (q : State) (h : Leads start u q) where
   )
 
   at-later : (c : ℕ) (s : Bytes) (j : ℕ) (o : Option State) → step q c ≡ o
-      → ((q′ : State) → Leads start (u ++ c ∷ []) q′ → (fault-there (place-after q′ (take j s)) (drop j s) ≡ some FORM) ↔ Stopping (u ++ c ∷ []) s j)
-      → (fault-there (elim o [ none ↦ none | some q′ ↦ place-after q′ (take j s) ]) (drop j s) ≡ some FORM) ↔ Stopping u (c ∷ s) (suc j)
-  unfolding fault-there
+      → ((q′ : State) → Leads start (u ++ c ∷ []) q′ → (found-there (place-after q′ (take j s)) (drop j s) ≡ some FORM) ↔ Stopping (u ++ c ∷ []) s j)
+      → (found-there (elim o [ none ↦ none | some q′ ↦ place-after q′ (take j s) ]) (drop j s) ≡ some FORM) ↔ Stopping u (c ∷ s) (suc j)
+  unfolding found-there
   at-later c s j none e g = (
     λ x. absurd (Option·none-ne-some FORM x),
     λ x. absurd (not-viable u q c h e (shorter (u ++ c ∷ []) (take j s) (unfold Stopping in rw append-assoc (x .0)))),
@@ -93,8 +94,32 @@ module _ (u : Bytes) (q : State) (h : Leads start u q) where
       let b = shift u c s j in
       (λ x. b .0 (a .0 x), λ x. a .1 (b .1 x))
 
-stops-from : (s : Bytes) (q : State) (u : Bytes) → Leads start u q → (j : ℕ) → j ≤ length s → (fault-there (place-after q (take j s)) (drop j s) ≡ some FORM) ↔ Stopping u s j
-unfolding fault-there found place-after read-from
+-- what is not read stops somewhere
+stuck-from : (s : Bytes) (q : State) → read-from q s ≡ none → (j : ℕ) × (j ≤ length s) × (found-there (place-after q (take j s)) (drop j s) ≡ some FORM)
+unfolding read-from found-there found place-after
+stuck-from [] q e = (0, omega arith, go (finish (q .0) (q .1)) e)
+  where
+    go : (o : Option (Syntax pattern)) → o ≡ none → _≡_ {A = Option ℕ} (elim o [ none ↦ some FORM | some t ↦ none ]) (some FORM)
+    go none e = refl
+    go (some t) e = absurd (Option·some-ne-none t e)
+stuck-from (c ∷ s) q e = go (step q c) refl e (λ q′ h. stuck-from s q′ h)
+  where
+    go : (o : Option State) → step q c ≡ o → _≡_ {A = Option (Syntax pattern)} (elim o [ none ↦ none | some q′ ↦ read-from q′ s ]) none
+        → ((q′ : State) → read-from q′ s ≡ none → (j : ℕ) × (j ≤ length s) × (found-there (place-after q′ (take j s)) (drop j s) ≡ some FORM))
+        → (j : ℕ) × (j ≤ length (c ∷ s)) × (found-there (place-after q (take j (c ∷ s))) (drop j (c ∷ s)) ≡ some FORM)
+    go none z e f = (0, omega arith, rw (z, found-there, found))
+    go (some q′) z e f = let (j, l, h) = f q′ e in (suc j, omega arith, rw (z, place-after) h)
+
+-- no row has a number below FORM
+lowest-form : (o : Option State) (s : Bytes) (f : ℕ) → Applies (rows-there o s) f → FORM ≤ f
+unfolding rows-there later-rows Applies
+lowest-form none s f a = absurd a
+lowest-form (some q) [] f a = ⊎-elim (λ (x, y). omega arith) (λ b. absurd b) a
+lowest-form (some q) (c ∷ s) f a =
+    ⊎-elim (λ (x, y). omega arith) (⊎-elim (λ (x, y). omega arith) (⊎-elim (λ (x, y). omega arith) (⊎-elim (λ (x, y). omega arith) (⊎-elim (λ (x, y). omega arith) (⊎-elim (λ (x, y). omega arith) (λ b. absurd b)))))) a
+
+stops-from : (s : Bytes) (q : State) (u : Bytes) → Leads start u q → (j : ℕ) → j ≤ length s → (found-there (place-after q (take j s)) (drop j s) ≡ some FORM) ↔ Stopping u s j
+unfolding found-there found place-after read-from
 stops-from [] q u h zero l = at-end u q h (finish (q .0) (q .1)) refl
 stops-from [] q u h (suc j) l = absurd (omega arith)
 stops-from (c ∷ s) q u h zero l =
@@ -102,7 +127,41 @@ stops-from (c ∷ s) q u h zero l =
     at-byte u q h c s (step q c) refl (fault (begins (q .0) (kind c)) (depth (q .1)) n c s) (fault-other (begins (q .0) (kind c)) (depth (q .1)) n c s)
 stops-from (c ∷ s) q u h (suc j) l = at-later u q h c s j (step q c) refl (λ q′ g. stops-from s q′ (u ++ c ∷ []) g j (omega arith))
 
--- the fault at a position is FORM just where the form stops there
-pub stops : (s : Bytes) (p : ℕ) → p ≤ length s → (fault-at s p ≡ some FORM) ↔ Stops s p
-unfolding Stops Stopping fault-at
-stops s p l = stops-from s start [] (record { to = unfold place-after in refl }) p l
+-- FORM applies at a position just where the form stops there
+form-found : (s : Bytes) (p : ℕ) → (found-there (place-after start (take p s)) (drop p s) ≡ some FORM) ↔ Applies (rows-at s p) FORM
+unfolding rows-at
+form-found s p =
+    let o = place-after start (take p s) in
+    let e = found-rows o (drop p s) in (
+      λ h. refuse-applies _ FORM (e ∙ h),
+      λ a. go (refuse (rows-there o (drop p s))) refl a,
+    )
+  where
+    go : (x : Option ℕ) → refuse (rows-there (place-after start (take p s)) (drop p s)) ≡ x → Applies (rows-there (place-after start (take p s)) (drop p s)) FORM
+        → found-there (place-after start (take p s)) (drop p s) ≡ some FORM
+    go none r a = absurd (refuse-none _ FORM r a)
+    go (some f) r a =
+        let u : f ≤ FORM = refuse-lowest _ 0 f FORM (rows-ascend _ _) r a in
+        let v : FORM ≤ f = lowest-form _ _ f (refuse-applies _ f r) in
+        let w : f ≡ FORM = omega arith in
+        sym (found-rows _ (drop p s)) ∙ r ∙ ap some w
+
+pub stops : (s : Bytes) (p : ℕ) → p ≤ length s → Applies (rows-at s p) FORM ↔ Stops s p
+unfolding Stops Stopping
+stops s p l =
+    let a = form-found s p in
+    let b = stops-from s start [] (record { to = unfold place-after in refl }) p l in
+    (λ x. b .0 (a .1 x), λ x. a .0 (b .1 x))
+
+-- a source that is no pattern stops somewhere, and a pattern nowhere
+pub no-pattern : (s : Bytes) → (¬ ((t : Syntax pattern) × Spells t s)) ↔ ((p : ℕ) × (p ≤ length s) × Stops s p)
+unfolding Stops Viable read
+no-pattern s = (
+  λ n. let (p, l, e) = stuck-from s start (go n (read s) refl) in (p, l, stops s p l .0 (form-found s p .0 e)),
+  λ (p, l, (v, y)) (t, h).
+      ⊎-elim (λ (k, z). z (drop (suc p) s, t, rw (take-append-drop (suc p) s) h)) (λ (k, z). z (t, h)) y,
+)
+  where
+    go : ¬ ((t : Syntax pattern) × Spells t s) → (o : Option (Syntax pattern)) → read s ≡ o → read-from start s ≡ none
+    go n none e = e
+    go n (some t) e = absurd (n (t, form s t .0 e))

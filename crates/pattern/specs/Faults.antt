@@ -1,17 +1,20 @@
--- The refusals as the paper lists them: where the form stops, and what fault stands at each position. Assumes nothing.
+-- The refusals of a source as the paper lists them: where the form stops, and which rows of the table apply at each position. Assumes nothing.
 use mathlib.Core.Path.{_≡_}
 use mathlib.Core.Logic.{_⊎_}
-use mathlib.Core.List.{[], _∷_, _++_}
+use mathlib.Core.Bool.{Bool, true, false, not, _&&_, _||_}
+use mathlib.Core.List.{List, [], _∷_, _++_}
 use mathlib.Core.Option.{Option, none, some}
-use Prim.Native.Nat.{ℕ, suc, _<_}
+use Prim.Native.Nat.{ℕ, suc, _≤_, _<_}
+use lib.Dec.{T, leb, ltb}
 use lib.ListN.{length, take, drop}
-use Rattle.pattern.specs.Numbers.{FORM}
+use Rattle.pattern.specs.Numbers.{atom-limit, depth-limit, number-limit, set-limit, FORM, CODE, NUMBER, RANGE, ATOMS, DEPTH}
 use Rattle.pattern.specs.Bytes.{Bytes}
+use Rattle.pattern.specs.Codes.{bit}
 use Rattle.pattern.specs.Syntax.{pattern, Syntax}
-use Rattle.pattern.specs.Spelling.{kind, Spells}
-use Rattle.pattern.specs.Reading.{State, step, finish, start}
-use Rattle.pattern.specs.Places.{place-after, begun-at}
-use Rattle.pattern.specs.Scan.{depth, begins, fault, Outcome, refused, accepted}
+use Rattle.pattern.specs.Spelling.{Mark, counts, kind, Spells}
+use Rattle.pattern.specs.Reading.{Run, empty, pointed, top, State, grow, step, finish, start}
+use Rattle.pattern.specs.Places.{place-after, Runs, begun-at}
+use Rattle.pattern.specs.Scan.{low, high, ahead, depth, Begins, an-atom, a-second, a-code, a-group, nothing, begins, large, falls, Outcome, refused, accepted}
 
 -- bytes that some pattern begins with
 unfoldable pub Viable : Bytes → Type 0
@@ -21,20 +24,76 @@ Viable u = (w : Bytes) × (t : Syntax pattern) × Spells t (u ++ w)
 unfoldable pub Stops : Bytes → ℕ → Type 0
 Stops s p = Viable (take p s) × (((p < length s) × ¬ Viable (take (suc p) s)) ⊎ ((p ≡ length s) × ¬ ((t : Syntax pattern) × Spells t s)))
 
--- the lowest fault at a place, with the source s from there on
-unfoldable pub found : State → ℕ → Bytes → Option ℕ
-found q n [] = elim (finish (q .0) (q .1)) [ none ↦ some FORM | some t ↦ none ]
-found q n (c ∷ s) = elim (step q c) [ none ↦ some FORM | some q′ ↦ fault (begins (q .0) (kind c)) (depth (q .1)) n c s ]
+-- what begins with a byte is an atom, a code letter, a group
+unfoldable pub begins-atom : Begins → Bool
+begins-atom an-atom = true
+begins-atom (a-second n) = false
+begins-atom a-code = false
+begins-atom a-group = false
+begins-atom nothing = false
 
-unfoldable pub fault-there : Option State → Bytes → Option ℕ
-fault-there none s = none
-fault-there (some q) s = found q (begun-at (q .0) (q .1)) s
+unfoldable pub begins-code : Begins → Bool
+begins-code an-atom = false
+begins-code (a-second n) = false
+begins-code a-code = true
+begins-code a-group = false
+begins-code nothing = false
 
--- the lowest fault at a position: that at the place which the bytes before it spell; none past the place of FORM
-unfoldable pub fault-at : Bytes → ℕ → Option ℕ
-fault-at s p = fault-there (place-after start (take p s)) (drop p s)
+unfoldable pub begins-group : Begins → Bool
+begins-group an-atom = false
+begins-group (a-second n) = false
+begins-group a-code = false
+begins-group a-group = true
+begins-group nothing = false
 
--- the least position with a fault, and the lowest number there; or no fault at all
+-- a second number begins, and it is over 9,999
+unfoldable pub second-large : Begins → Bytes → Bool
+second-large an-atom s = false
+second-large (a-second n) s = large (high (ahead (pointed n) s))
+second-large a-code s = false
+second-large a-group s = false
+second-large nothing s = false
+
+-- no pattern continues so
+unfoldable pub stuck : {A : Type 0} → Option A → Bool
+stuck none = true
+stuck (some x) = false
+
+-- rows 3 to 7 of the refusal table at a place, each a test of its own; c is the byte there, s the source after it, and b what begins with c
+unfoldable pub later-rows : State → Begins → ℕ → Bytes → List (Bool × ℕ)
+later-rows q b c s =
+    let r : Run = ahead empty (c ∷ s) in
+    (begins-code b && leb set-limit (bit c), CODE)
+    ∷ (begins-atom b && ltb number-limit (low r) || second-large b (c ∷ s), NUMBER)
+    ∷ (begins-atom b && (leb (low r) number-limit && not (large (high r)) && falls (low r) (high r)), RANGE)
+    ∷ (begins-atom b && leb atom-limit (begun-at (q .0) (q .1)), ATOMS)
+    ∷ (begins-group b && leb depth-limit (depth (q .1)), DEPTH)
+    ∷ []
+
+-- rows 2 to 7 at a place with the source s from there on, FORM also at the end
+unfoldable pub rows-there : Option State → Bytes → List (Bool × ℕ)
+rows-there none s = []
+rows-there (some q) [] = (stuck (finish (q .0) (q .1)), FORM) ∷ []
+rows-there (some q) (c ∷ s) = (stuck (step q c), FORM) ∷ later-rows q (begins (q .0) (kind c)) c s
+
+-- the rows at a position: those of the place which the bytes before it spell; none where the form has stopped before
+unfoldable pub rows-at : Bytes → ℕ → List (Bool × ℕ)
+rows-at s p = rows-there (place-after start (take p s)) (drop p s)
+
+-- one of the rows applies, and this is its number
+unfoldable pub Applies : List (Bool × ℕ) → ℕ → Type 0
+Applies [] f = ⊥
+Applies (t ∷ ts) f = (T (t .0) × (t .1 ≡ f)) ⊎ Applies ts f
+
+-- "the one with the least position, and at one position the lower number"; or no row applies anywhere
 unfoldable pub Least : Bytes → Outcome → Type 0
-Least s (refused f p) = (fault-at s p ≡ some f) × ((j : ℕ) → j < p → fault-at s j ≡ none)
-Least s (accepted t) = (j : ℕ) → fault-at s j ≡ none
+Least s (refused f p) = Applies (rows-at s p) f × ((g : ℕ) → Applies (rows-at s p) g → f ≤ g) × ((j g : ℕ) → j < p → ¬ Applies (rows-at s j) g)
+Least s (accepted t) = (j g : ℕ) → ¬ Applies (rows-at s j) g
+
+-- "taken as the longest run": the first bytes of s spell the run, and the next one does not go on with it
+unfoldable pub Halts : Run → Bytes → Type 0
+Halts r [] = Unit {0}
+Halts r (c ∷ s) = (m : Mark) → kind c ≡ counts m → grow r m c ≡ none
+
+unfoldable pub LongestRun : Run → Bytes → Type 0
+LongestRun r s = (w rest : Bytes) × (s ≡ w ++ rest) × Runs (top []) r w × Halts r rest

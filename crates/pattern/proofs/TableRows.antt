@@ -1,0 +1,119 @@
+-- The scan's fault at a place is the lowest of the table's rows that apply there. Assumes nothing.
+use mathlib.Core.Path.{_≡_, refl, sym, ap, _∙_}
+use mathlib.Core.Logic.{_⊎_, inl, inr, ⊎-elim}
+use mathlib.Core.Bool.{Bool, true, false, not, _&&_, _||_}
+use mathlib.Core.List.{List, [], _∷_}
+use mathlib.Core.Option.{Option, none, some, Option·none-ne-some, Option·some-ne-none}
+use Prim.Native.Nat.{ℕ, suc, _≤_, _<_}
+use native.Mathlib.Omega.{arith}
+use lib.Dec.{T, leb, ltb, leb→le}
+use borrow.Author.Tests.{lt-leb}
+use Rattle.pattern.specs.Numbers.{number-limit, FORM, NUMBER, RANGE, ATOMS, DEPTH}
+use Rattle.pattern.specs.Bytes.{Bytes}
+use Rattle.pattern.specs.Syntax.{pattern, Syntax}
+use Rattle.pattern.specs.Spelling.{kind}
+use Rattle.pattern.specs.Reading.{empty, State, step, finish}
+use Rattle.pattern.specs.Places.{begun-at}
+use Rattle.pattern.specs.Scan.{low, high, ahead, depth, Begins, an-atom, a-second, a-code, a-group, nothing, begins, large, falls, refuse, atom-fault, fault}
+use Rattle.pattern.specs.Faults.{begins-atom, begins-code, begins-group, second-large, stuck, later-rows, rows-there, Applies}
+
+-- ---- the first test that passes
+
+pub refuse-applies : (ts : List (Bool × ℕ)) (f : ℕ) → refuse ts ≡ some f → Applies ts f
+unfolding refuse Applies
+refuse-applies [] f e = absurd (Option·none-ne-some f e)
+refuse-applies (t ∷ ts) f e = go (t .0) (refuse-applies ts f) e
+  where
+    go : (b : Bool) → (refuse ts ≡ some f → Applies ts f) → _≡_ {A = Option ℕ} (elim b [ true ↦ some (t .1) | false ↦ refuse ts ]) (some f) → (T b × (t .1 ≡ f)) ⊎ Applies ts f
+    go true h e = inl (tt, cc)
+    go false h e = inr (h e)
+
+pub refuse-none : (ts : List (Bool × ℕ)) (g : ℕ) → refuse ts ≡ none → ¬ Applies ts g
+unfolding refuse Applies
+refuse-none [] g e a = a
+refuse-none (t ∷ ts) g e a = go (t .0) (refuse-none ts g) e a
+  where
+    go : (b : Bool) → (refuse ts ≡ none → ¬ Applies ts g) → _≡_ {A = Option ℕ} (elim b [ true ↦ some (t .1) | false ↦ refuse ts ]) none → ¬ ((T b × (t .1 ≡ g)) ⊎ Applies ts g)
+    go true h e a = Option·some-ne-none (t .1) e
+    go false h e a = ⊎-elim (λ (x, y). x) (h e) a
+
+-- the numbers of the tests ascend
+abbrev pub Above : ℕ → List (Bool × ℕ) → Type 0
+Above f [] = Unit {0}
+Above f (t ∷ ts) = T (ltb f (t .1)) × Above (t .1) ts
+
+above-applies : (ts : List (Bool × ℕ)) (f g : ℕ) → Above f ts → Applies ts g → f < g
+unfolding Applies
+above-applies [] f g h a = absurd a
+above-applies (t ∷ ts) f g (h, k) a =
+    let l = leb→le (suc f) (t .1) h in
+    ⊎-elim (λ (x, y). omega arith) (λ b. let m = above-applies ts (t .1) g k b in omega arith) a
+
+pub refuse-lowest : (ts : List (Bool × ℕ)) (d f g : ℕ) → Above d ts → refuse ts ≡ some f → Applies ts g → f ≤ g
+unfolding refuse Applies
+refuse-lowest [] d f g h e a = absurd a
+refuse-lowest (t ∷ ts) d f g (h, k) e a = go (t .0) (refuse-lowest ts (t .1) f g k) e a
+  where
+    go : (b : Bool) → (refuse ts ≡ some f → Applies ts g → f ≤ g) → _≡_ {A = Option ℕ} (elim b [ true ↦ some (t .1) | false ↦ refuse ts ]) (some f) → (T b × (t .1 ≡ g)) ⊎ Applies ts g → f ≤ g
+    go true i e a = let z : t .1 ≡ f = cc in ⊎-elim (λ (x, y). omega arith) (λ b. let m = above-applies ts (t .1) g k b in omega arith) a
+    go false i e a = ⊎-elim (λ (x, y). absurd x) (i e) a
+
+-- ---- the rows in the scan's order
+
+or-false : (b : Bool) → b || false ≡ b
+or-false true = refl
+or-false false = refl
+
+-- where the first number fits and the second is less, both fit
+range-row : (l : ℕ) (h : Option ℕ) → leb l number-limit && not (large h) && falls l h ≡ leb l number-limit && falls l h
+unfolding large falls
+range-row l none = go (leb l number-limit)
+  where
+    go : (b : Bool) → b && true && false ≡ b && false
+    go true = refl
+    go false = refl
+range-row l (some m) = go (leb l number-limit) (ltb number-limit m) (ltb m l) (leb→le l number-limit) (leb→le (suc number-limit) m) (leb→le (suc m) l)
+  where
+    go : (a b c : Bool) → (T a → l ≤ number-limit) → (T b → number-limit < m) → (T c → m < l) → a && not b && c ≡ a && c
+    go false b c f g h = refl
+    go true false c f g h = refl
+    go true true false f g h = refl
+    go true true true f g h = absurd (let x = f tt in let y = g tt in let z = h tt in omega arith)
+
+later-fault : (q : State) (b : Begins) (c : ℕ) (s : Bytes) → refuse (later-rows q b c s) ≡ fault b (depth (q .1)) (begun-at (q .0) (q .1)) c s
+unfolding later-rows begins-atom begins-code begins-group second-large fault atom-fault refuse
+later-fault q an-atom c s = rw (or-false, range-row (low (ahead empty (c ∷ s))) (high (ahead empty (c ∷ s))))
+later-fault q (a-second x) c s = refl
+later-fault q a-code c s = refl
+later-fault q a-group c s = refl
+later-fault q nothing c s = refl
+
+-- the lowest fault at a place, in the scan's order
+unfoldable pub found : State → Bytes → Option ℕ
+found q [] = elim (finish (q .0) (q .1)) [ none ↦ some FORM | some t ↦ none ]
+found q (c ∷ s) = elim (step q c) [ none ↦ some FORM | some q′ ↦ fault (begins (q .0) (kind c)) (depth (q .1)) (begun-at (q .0) (q .1)) c s ]
+
+unfoldable pub found-there : Option State → Bytes → Option ℕ
+found-there none s = none
+found-there (some q) s = found q s
+
+pub found-rows : (o : Option State) (s : Bytes) → refuse (rows-there o s) ≡ found-there o s
+unfolding rows-there found-there found refuse
+found-rows none s = refl
+found-rows (some q) [] = go (finish (q .0) (q .1))
+  where
+    go : (o : Option (Syntax pattern)) → _≡_ {A = Option ℕ} (elim (stuck o) [ true ↦ some FORM | false ↦ none ]) (elim o [ none ↦ some FORM | some t ↦ none ])
+    go none = unfold stuck in refl
+    go (some t) = unfold stuck in refl
+found-rows (some q) (c ∷ s) = go (step q c) (later-fault q (begins (q .0) (kind c)) c s)
+  where
+    go : (o : Option State) {x y : Option ℕ} → x ≡ y → _≡_ {A = Option ℕ} (elim (stuck o) [ true ↦ some FORM | false ↦ x ]) (elim o [ none ↦ some FORM | some q′ ↦ y ])
+    go none e = unfold stuck in refl
+    go (some q′) e = unfold stuck in e
+
+-- the numbers of the rows ascend
+pub rows-ascend : (o : Option State) (s : Bytes) → Above 0 (rows-there o s)
+unfolding rows-there later-rows
+rows-ascend none s = tt
+rows-ascend (some q) [] = (tt, tt)
+rows-ascend (some q) (c ∷ s) = (tt, (tt, (tt, (tt, (tt, (tt, tt))))))
