@@ -1,0 +1,5 @@
+pub mod Planes
+pub mod Counting
+pub mod Relations
+pub mod Seeking
+pub mod Joining

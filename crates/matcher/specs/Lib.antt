@@ -1,0 +1,4 @@
+pub mod Cells
+pub mod Budget
+pub mod Seek
+pub mod Joined

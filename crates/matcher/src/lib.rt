@@ -1,0 +1,3 @@
+// Matching a label against a table, each trial counted against a budget.
+mod cells;
+mod join;
