@@ -102,6 +102,10 @@ read-kept e k f h = record { room = rw e (h .room); flags = plane-flags (plane-k
 pub room-of : (s : List ℕ) (w p q : ℕ) → p < q → q * w * w ≤ length s → InRoom s w p
 room-of s w p q h room = let fewer : p + 1 ≤ q = omega arith in omega (arith, mul-le-mul-right w (mul-le-mul-right w fewer))
 
+-- planes are no more than their bytes
+pub planes-le : (w q : ℕ) → 1 ≤ w → q ≤ q * w * w
+planes-le w q h = omega (arith, mul-le-mul-left q h, mul-one q, mul-le-mul-left (q * w) h, mul-one (q * w))
+
 -- ---- a trial on two planes is the test `&` of two cells
 
 both-set : (x y : Bool) → (bitAnd (bitOf x) (bitOf y) ≡ 0 → ⊥) → x && y ≡ true

@@ -2,3 +2,5 @@ pub mod Cells
 pub mod Budget
 pub mod Seek
 pub mod Joined
+pub mod Filled
+pub mod Made

@@ -1,3 +1,5 @@
 // Matching a label against a table, each trial counted against a budget.
 mod cells;
+mod fill;
 mod join;
+mod made;
