@@ -1,0 +1,45 @@
+// Tables: the fields of a record, the header, and the test whether bytes are a good table.
+ghost use mathlib.Core.Path.{_≡_};
+ghost use Prim.Native.Nat.{_+_, _≤_, _<_};
+ghost use lib.ListN.{length};
+ghost use Rattle.pattern.specs.Decode.{field, rec-at};
+ghost use Rattle.table.specs.Fields.{record-of};
+
+// What a record says.
+pub struct Record {
+    pub kind: u8,
+    pub ends: u8,
+    pub low: u16,
+    pub high: u16,
+    pub a: u16,
+    pub b: u16,
+}
+
+fn wide(x: u8) -> u16
+    ensures { λ r. ⌜ (r ≡ x) × (r < 256) ⌝ }
+{
+    x as u16
+}
+
+// The 16 bits at a place, the lower byte first.
+fn word(table: &[u8], at: usize) -> u16
+    requires { ⌜ at + 2 ≤ length (now table) ⌝ }
+    ensures { λ r. ⌜ r ≡ field (now (table .entry)) at ⌝ }
+{
+    wide(table[at]) + 256 * wide(table[at + 1])
+}
+
+// The record at a place.
+pub fn fields(table: &[u8], at: usize) -> Record
+    requires { ⌜ at + 10 ≤ length (now table) ⌝ }
+    ensures { λ r. ⌜ r ≡ record-of (rec-at (now (table .entry)) at) ⌝ }
+{
+    Record {
+        kind: table[at],
+        ends: table[at + 1],
+        low: word(table, at + 2),
+        high: word(table, at + 4),
+        a: word(table, at + 6),
+        b: word(table, at + 8),
+    }
+}
