@@ -6,3 +6,4 @@ pub mod Joining
 pub mod Slices
 pub mod Filling
 pub mod Bodies
+pub mod Views

@@ -4,3 +4,4 @@ pub mod Seek
 pub mod Joined
 pub mod Filled
 pub mod Made
+pub mod Atoms
