@@ -232,3 +232,12 @@ module _ (table : Bytes) (good : GoodTable table) (x : ℕ) (h : x < atoms table
     told-count =
         let l : v .low ≡ r .low = sym (ap (λ (z : Record). z .low) said) in
         (v .high, v .heads ∙ ap₂ (λ (k : ℕ) (b : Syntax body). repeat k (v .high) b) l (sym inside-is), sym (ap (λ (z : Record). z .high) said))
+
+    -- where its branch ends
+    pub branch-last : r .ends ≡ 1 → size (node table x) ≡ size (head (node table x))
+    unfolding size
+    branch-last e = ap size (ends-last e)
+
+    pub branch-then : (r .ends ≡ 1 → ⊥) → size (node table x) ≡ size (head (node table x)) + size (node table (x + size (head (node table x))))
+    unfolding size
+    branch-then n = ap size (ends-then n .0)

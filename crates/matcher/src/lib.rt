@@ -3,3 +3,4 @@ mod cells;
 mod fill;
 mod join;
 mod made;
+mod walk;
