@@ -7,3 +7,4 @@ pub mod Slices
 pub mod Filling
 pub mod Bodies
 pub mod Views
+pub mod Groups

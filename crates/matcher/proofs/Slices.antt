@@ -31,7 +31,7 @@ module _ (set : ℕ) (l : Bytes) (i j : ℕ) (hj : j ≤ length l) where
   pub one-not : (j - i ≡ 1 → ⊥) → one set (slice i j l) ≡ false
   one-not h = one-short set (slice i j l) (λ e. h (sym (length-slice i j l hj) ∙ e))
 
-same-false : (s v : Bytes) → (s ≡ v → ⊥) → same s v ≡ false
+pub same-false : (s v : Bytes) → (s ≡ v → ⊥) → same s v ≡ false
 same-false s v h = go (same s v) (same-decides s v)
   where
     go : (b : Bool) → Decides b (s ≡ v) → b ≡ false

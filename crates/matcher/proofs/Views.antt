@@ -142,6 +142,10 @@ group-size : (b : Syntax body) (bs : Syntax branches) → b ≡ group bs → siz
 unfolding size
 group-size b bs e = ap size e
 
+-- a good table has its header
+pub header-in : (table : Bytes) → GoodTable table → header-size ≤ length table
+header-in table good = omega (arith, ap length (decoded-encode table (tree-of table) (good .decoded)), encode-length (tree-of table))
+
 module _ (table : Bytes) (good : GoodTable table) (x : ℕ) (h : x < atoms table) where
   -- the record lies in the table
   pub record-in : header-size + record-size * x + 10 ≤ length table
@@ -218,9 +222,10 @@ module _ (table : Bytes) (good : GoodTable table) (x : ℕ) (h : x < atoms table
         let (p, q, s) = told-words e in
         let from : ℕ = layout table .pool + r .a in
         let w : drop from table ≡ pool (v .bodied) ++ v .over = ap (λ (k : ℕ). drop (layout table .pool + k) table) s ∙ v .words in
-        let z : from + r .b - from ≡ length (pool (v .bodied)) = omega arith in
-        (p ∙ ap literal (sym (slice-take table from (from + r .b) ∙ ap₂ take z w ∙ take-append-seam (pool (v .bodied)) (v .over))),
-        omega (arith, simp (length-drop, length-append) at (ap length w)))
+        let z : from + r .b - from ≡ length (pool (v .bodied)) = omega arith in (
+          p ∙ ap literal (sym (slice-take table from (from + r .b) ∙ ap₂ take z w ∙ take-append-seam (pool (v .bodied)) (v .over))),
+          omega (arith, simp (length-drop, length-append) at (ap length w)),
+        )
 
     pub told-group : (r .kind ≡ 1 → ⊥) → (r .kind ≡ 2 → ⊥) → Branches table x (r .a) (r .b) (inside (head (node table x)))
     told-group n m =

@@ -5,3 +5,4 @@ pub mod Joined
 pub mod Filled
 pub mod Made
 pub mod Atoms
+pub mod Bodied

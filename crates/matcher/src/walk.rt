@@ -5,8 +5,8 @@ ghost use Rattle.pattern.specs.Syntax.{size};
 ghost use Rattle.pattern.specs.Decode.{layout, its};
 ghost use Rattle.table.specs.Fields.{record-of};
 ghost use Rattle.matcher.specs.Atoms.{GoodTable, atoms, node, head};
-
-use pattern::limits::{HEADER_SIZE, RECORD_SIZE};
+use pattern::limits::HEADER_SIZE;
+use pattern::limits::RECORD_SIZE;
 use table::Record;
 
 // The record of atom x.
