@@ -8,3 +8,5 @@ pub mod Filling
 pub mod Bodies
 pub mod Views
 pub mod Groups
+pub mod Settling
+pub mod Following

@@ -6,3 +6,4 @@ pub mod Filled
 pub mod Made
 pub mod Atoms
 pub mod Bodied
+pub mod Steps
