@@ -10,3 +10,4 @@ pub mod Views
 pub mod Groups
 pub mod Settling
 pub mod Following
+pub mod Ends

@@ -7,3 +7,4 @@ pub mod Made
 pub mod Atoms
 pub mod Bodied
 pub mod Steps
+pub mod Parted

@@ -2,7 +2,9 @@
 mod atom;
 mod body;
 mod cells;
+mod clear;
 mod fill;
 mod join;
 mod made;
+mod parts;
 mod walk;
