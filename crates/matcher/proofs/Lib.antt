@@ -11,3 +11,5 @@ pub mod Groups
 pub mod Settling
 pub mod Following
 pub mod Ends
+pub mod Runs
+pub mod Refusals

@@ -8,3 +8,4 @@ pub mod Atoms
 pub mod Bodied
 pub mod Steps
 pub mod Parted
+pub mod Answered
