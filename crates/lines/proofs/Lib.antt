@@ -5,3 +5,5 @@ pub mod Digits
 pub mod Parts
 pub mod Chunks
 pub mod Refusals
+pub mod Replies
+pub mod Told

@@ -41,9 +41,12 @@ table-reply c label =
       | false ↦ refused-text (c .answer .number) (c .answer .position)
     ]
 
+unfoldable pub source-reply : (source label : Bytes) → Bytes
+source-reply source label = table-reply (compileOf source (replicate table-room 0)) label
+
 unfoldable pub cut-reply : Option (Bytes × Bytes) → Bytes
 cut-reply none = bytes "T"
-cut-reply (some (source, label)) = table-reply (compileOf source (replicate table-room 0)) label
+cut-reply (some (source, label)) = source-reply source label
 
 -- "L for too long (looked at first)"
 unfoldable pub reply : Bytes → Bytes

@@ -1,6 +1,6 @@
 -- Lent bytes after a text is stored in them. Assumes nothing.
 use mathlib.Core.Path.{_≡_}
-use Prim.Native.Nat.{ℕ, _+_}
+use Prim.Native.Nat.{ℕ, _+_, _≤_}
 use lib.ListN.{length}
 use lib.Seq.{sets}
 use Rattle.pattern.specs.Bytes.{Bytes}
@@ -13,3 +13,8 @@ stored out at text = sets out at text
 pub record Stored (text out : Bytes) (at : ℕ) (after : Bytes) (end : ℕ) : Type 0 where
   pub bytes : after ≡ stored out at text
   pub ends : end ≡ at + length text
+
+-- and it ends within so many bytes
+pub record Within (room : ℕ) (text out : Bytes) (at : ℕ) (after : Bytes) (end : ℕ) : Type 0 where
+  pub stores : Stored text out at after end
+  pub short : end ≤ at + room

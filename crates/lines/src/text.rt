@@ -4,7 +4,7 @@ ghost use mathlib.Core.List.{[], _∷_};
 ghost use Prim.Native.Nat.{_+_, _*_, _≤_, _<_};
 ghost use lib.ListN.{length};
 ghost use Rattle.lines.specs.Text.{decimal, coded-text, refused-text, unmatched-text, matched-text};
-ghost use Rattle.lines.specs.Stores.{Stored};
+ghost use Rattle.lines.specs.Stores.{Stored, Within};
 
 // What a byte of the lent parts holds where no end was written.
 pub const UNSET: u8 = 255;
@@ -88,7 +88,7 @@ fn put_part(before: u8, low: u8, high: u8, out: &mut [u8], at: usize) -> usize
 // A verdict of yes with its parts.
 pub fn put_matched(parts: &[u8], out: &mut [u8], at: usize) -> usize
     requires { ⌜ at + 1 + 3 * length (now parts) ≤ length (now out) ⌝ }
-    ensures { λ r. ⌜ Stored (matched-text (now (parts .entry))) (now (out .entry)) at (now (out .exit)) r ⌝ }
+    ensures { λ r. ⌜ Within (1 + 3 * length (now (parts .entry))) (matched-text (now (parts .entry))) (now (out .entry)) at (now (out .exit)) r ⌝ }
 {
     let mut end = put_byte(b'1', out, at);
     let mut i = 0;

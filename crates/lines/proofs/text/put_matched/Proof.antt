@@ -17,7 +17,7 @@ use Rattle.lines.proofs.text.put_part.Reads as put-part-reads
 
 abbrev Inv-loop : tie.InvT-loop
 Inv-loop parts out₀ at end₀ i₀ before₀ out end i before =
-    (i ≤ length parts) × (end + 3 * (length parts - i) ≤ length out) × (length out ≡ length out₀)
+    (i ≤ length parts) × (end + 3 * (length parts - i) ≤ end₀ + 3 * length parts) × (length out ≡ length out₀)
     × ((m : Bytes) (k : ℕ) → Stored (listed before (ends-in (drop i parts))) out end m k → Stored (listed space-byte (ends-in parts)) out₀ end₀ m k)
 
 abbrev μ-loop : tie.MeasureT-loop
@@ -48,10 +48,15 @@ returns : tie.Need-returns Inv-loop μ-loop
 unfolding bytes matched-text
 returns c =
     let k = c .before .before .before .before in
-    stored-join (c .before .before .before .before .before .before .before .put-byte .ensures) (k .loop .inv .3 _ _ (stored-empty (listed-unset _ _ _ (c .before .before .before .loop-test .taken) (c .if1 .taken)) _ _))
+    let b = c .before .before .before .before .before .before .before .put-byte .ensures in
+    record {
+      stores = stored-join b (k .loop .inv .3 _ _ (stored-empty (listed-unset _ _ _ (c .before .before .before .loop-test .taken) (c .if1 .taken)) _ _));
+      short = omega (arith, b .ends) }
 
 put-part-requires : tie.Need-put-part-requires Inv-loop μ-loop
-put-part-requires c κs = omega arith
+put-part-requires c κs =
+    let b = c .before .before .before .before .before .before .before .before .put-byte .ensures in
+    omega (arith, b .ends, stored-length b)
 
 add-i : tie.Need-add-i Inv-loop μ-loop
 add-i c = omega arith
@@ -77,7 +82,8 @@ returns-2 : tie.Need-returns-2 Inv-loop μ-loop
 unfolding bytes matched-text
 returns-2 c =
     let k = c .before in
-    stored-join (c .before .before .before .before .put-byte .ensures) (k .loop .inv .3 _ _ (stored-empty (listed-none _ _ _ (c .loop-test .left)) _ _))
+    let b = c .before .before .before .before .put-byte .ensures in
+    record { stores = stored-join b (k .loop .inv .3 _ _ (stored-empty (listed-none _ _ _ (c .loop-test .left)) _ _)); short = omega (arith, b .ends) }
 
 pub put-matched-spec : {M : Type 1} → statement M
 put-matched-spec =

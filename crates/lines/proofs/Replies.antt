@@ -1,0 +1,106 @@
+-- The reply to a line from what compiling and matching answer. Assumes nothing.
+use mathlib.Core.Path.{_≡_, refl, sym, ap, _∙_}
+use mathlib.Core.Bool.{true, false}
+use mathlib.Core.List.{List, [], _∷_, _++_}
+use mathlib.Core.Option.{Option, none, some}
+use Prim.Native.Nat.{ℕ, suc, _+_, _≤_, _<_}
+use native.Mathlib.Numerals.{add-one}
+use native.Mathlib.Omega.{arith}
+use lib.ListN.{length, take, drop, replicate, length-replicate}
+use borrow.Author.Tests.{ne-eqb, lt-ltb, le-ltb}
+use Rattle.pattern.specs.Bytes.{Bytes, bytes}
+use Rattle.pattern.specs.Answers.{Answer, refusal, result, Output, compileOf, Matched, matchOf}
+use Rattle.pattern.proofs.Tests.{if-true, if-false}
+use Rattle.pattern.proofs.Calls.{shown, scratch-blind}
+use Rattle.lines.specs.Sizes.{line-limit, scratch-size, budget, table-room, parts-room, unset, tab-byte}
+use Rattle.lines.specs.Text.{refused-text, unmatched-text, matched-text}
+use Rattle.lines.specs.Reply.{first, cut-at, cut, verdict-text, match-text, label-reply, table-reply, source-reply, cut-reply, reply}
+use Rattle.lines.specs.Stores.{Stored, Within}
+use Rattle.lines.proofs.Refusals.{compile-refuses}
+
+-- what is stored is another text if the two are the same
+pub within-same : {room : ℕ} {v w l m : Bytes} {i j : ℕ} → v ≡ w → Within room v l i m j → Within room w l i m j
+within-same {room} {v} {w} {l} {m} {i} {j} e s = rw e at s
+
+pub stored-within : {v l m : Bytes} {i j : ℕ} (room : ℕ) → length v ≤ room → Stored v l i m j → Within room v l i m j
+stored-within room h s = record { stores = s; short = omega (arith, s .ends) }
+
+-- ---- matching
+
+-- the text of an answer and parts
+abbrev shown-text : Answer × Bytes → Bytes
+shown-text x = match-text (record { answer = x .0; scratch = []; parts = x .1 })
+
+shows : (m : Matched) → match-text m ≡ shown-text (shown m)
+unfolding match-text verdict-text
+shows m = refl
+
+-- what the lent scratch held does not matter
+pub label-replied : (table label scratch : Bytes) → length scratch ≡ scratch-size → (m : Matched) → m ≡ matchOf table label scratch (replicate parts-room unset) budget
+    → match-text m ≡ label-reply table label
+unfolding label-reply
+label-replied table label scratch h m e =
+    ap match-text e ∙ shows (matchOf table label scratch (replicate parts-room unset) budget)
+    ∙ ap shown-text (scratch-blind table label scratch (replicate scratch-size 0) (replicate parts-room unset) budget (h ∙ sym (length-replicate {A = ℕ} scratch-size 0)))
+    ∙ sym (shows (matchOf table label (replicate scratch-size 0) (replicate parts-room unset) budget))
+
+-- the four answers
+module _ (scratch parts : Bytes) where
+  abbrev matching : Answer → Matched
+  matching a = record { answer = a; scratch = scratch; parts = parts }
+
+  pub yes-text : (trials : ℕ) → matched-text parts ≡ match-text (matching (result 1 trials))
+  unfolding match-text verdict-text
+  yes-text trials = refl
+
+  pub no-text : (trials : ℕ) → 48 ∷ [] ≡ match-text (matching (result 0 trials))
+  unfolding match-text verdict-text bytes
+  no-text trials = refl
+
+  pub exhausted-text : (trials : ℕ) → unmatched-text 15 ≡ match-text (matching (record { number = 15; position = 0; value = 0; trials = trials }))
+  unfolding match-text
+  exhausted-text trials = refl
+
+  pub refusal-text : (number : ℕ) → ¬ (number ≡ 0) → unmatched-text number ≡ match-text (matching (refusal number 0))
+  unfolding match-text
+  refusal-text number f = sym (if-false _ _ _ (ne-eqb number 0 f))
+
+  pub no-refusal-text : (number : ℕ) → number ≡ 0 → 48 ∷ [] ≡ match-text (matching (refusal number 0))
+  unfolding match-text verdict-text bytes
+  no-refusal-text number e = rw e
+
+-- ---- compiling
+
+module _ (source label table : Bytes) where
+  abbrev compiling : Answer → Output
+  compiling a = record { answer = a; bytes = table }
+
+  pub table-replied : (n : ℕ) → compiling (result n 0) ≡ compileOf source (replicate table-room 0) → label-reply (take n table) label ≡ source-reply source label
+  unfolding source-reply table-reply
+  table-replied n e = ap (λ o. table-reply o label) e
+
+  pub refused-replied : (number position : ℕ) → compiling (refusal number position) ≡ compileOf source (replicate table-room 0) → refused-text number position ≡ source-reply source label
+  unfolding source-reply table-reply
+  refused-replied number position e =
+      let f : ¬ (number ≡ 0) = λ z. let o = compile-refuses source (replicate table-room 0) (sym (ap (λ o. o .answer .number) e) ∙ z) in omega (arith, ap (λ o. o .answer .value) e) in
+      sym (if-false _ _ _ (ne-eqb number 0 f)) ∙ ap (λ o. table-reply o label) e
+
+-- ---- cutting
+
+module _ (line : Bytes) where
+  pub long-reply : line-limit < length line → 76 ∷ [] ≡ reply line
+  unfolding reply bytes
+  long-reply h = sym (if-true _ _ _ (lt-ltb _ _ h))
+
+  module _ (h : length line ≤ line-limit) (k : ℕ) (e : k ≡ first tab-byte line) where
+    short-reply : cut-reply (cut-at k line) ≡ reply line
+    unfolding reply cut
+    short-reply = ap (λ i. cut-reply (cut-at i line)) e ∙ sym (if-false _ _ _ (le-ltb _ _ h))
+
+    pub whole-reply : length line ≤ k → 84 ∷ [] ≡ reply line
+    unfolding cut-at cut-reply bytes
+    whole-reply l = sym (ap cut-reply (if-false _ _ _ (le-ltb k (length line) l))) ∙ short-reply
+
+    pub cut-replied : k < length line → source-reply (take k line) (drop (k + 1) line) ≡ reply line
+    unfolding cut-at cut-reply
+    cut-replied l = ap (λ i. source-reply (take k line) (drop i line)) (add-one k) ∙ sym (ap cut-reply (if-true _ _ _ (lt-ltb k (length line) l))) ∙ short-reply

@@ -1,0 +1,71 @@
+-- What a chunk tells and keeps, line by line. Assumes nothing.
+use mathlib.Core.Path.{_≡_, refl, sym, ap, _∙_}
+use mathlib.Core.Bool.{Bool, true, false}
+use mathlib.Core.List.{List, [], _∷_, _++_, append-assoc}
+use mathlib.Core.Option.{Option, none, some}
+use Prim.Native.Nat.{ℕ, _+_, _≤_, _<_}
+use native.Mathlib.Omega.{arith}
+use lib.Dec.{eqb}
+use lib.ListN.{length, take, drop, length-append}
+use lib.Seq.{sets-eq, take-at, length-take-le}
+use Rattle.pattern.specs.Bytes.{Bytes}
+use Rattle.lines.specs.Sizes.{newline-byte}
+use Rattle.lines.specs.Reply.{reply}
+use Rattle.lines.specs.Output.{last-line, replies, hold, taken, told, kept}
+use Rattle.lines.specs.Stores.{stored, Stored}
+
+-- what is told and kept once bytes are taken up to a newline
+abbrev told-of : Bytes × Option Bytes → Bytes
+told-of x = elim (x .1) [ none ↦ [] | some s ↦ reply (x .0) ++ newline-byte ∷ told [] s ]
+
+abbrev kept-of : Bytes × Option Bytes → Bytes
+kept-of x = elim (x .1) [ none ↦ x .0 | some s ↦ kept [] s ]
+
+told-taken : (held s : Bytes) → told held s ≡ told-of (taken held s)
+unfolding told taken
+told-taken held [] = refl
+told-taken held (c ∷ s) = go (eqb c newline-byte) (told-taken (hold held c) s)
+  where
+    go : (b : Bool) → told (hold held c) s ≡ told-of (taken (hold held c) s)
+        → (elim b [ true ↦ reply held ++ newline-byte ∷ told [] s | false ↦ told (hold held c) s ]) ≡ told-of (elim b [ true ↦ (held, some s) | false ↦ taken (hold held c) s ])
+    go true h = refl
+    go false h = h
+
+kept-taken : (held s : Bytes) → kept held s ≡ kept-of (taken held s)
+unfolding kept taken
+kept-taken held [] = refl
+kept-taken held (c ∷ s) = go (eqb c newline-byte) (kept-taken (hold held c) s)
+  where
+    go : (b : Bool) → kept (hold held c) s ≡ kept-of (taken (hold held c) s)
+        → (elim b [ true ↦ kept [] s | false ↦ kept (hold held c) s ]) ≡ kept-of (elim b [ true ↦ (held, some s) | false ↦ taken (hold held c) s ])
+    go true h = refl
+    go false h = h
+
+module _ (held s line rest : Bytes) where
+  -- a line that ended
+  pub told-ended : (line, some rest) ≡ taken held s → (reply line ++ newline-byte ∷ []) ++ told [] rest ≡ told held s
+  told-ended e = append-assoc (reply line) (newline-byte ∷ []) (told [] rest) ∙ ap told-of e ∙ sym (told-taken held s)
+
+  pub kept-ended : (line, some rest) ≡ taken held s → kept [] rest ≡ kept held s
+  kept-ended e = ap kept-of e ∙ sym (kept-taken held s)
+
+module _ (held s line : Bytes) where
+  -- one that did not
+  pub told-held : (line, none) ≡ taken held s → [] ≡ told held s
+  told-held e = ap told-of e ∙ sym (told-taken held s)
+
+  pub kept-held : (line, none) ≡ taken held s → line ≡ kept held s
+  kept-held e = ap kept-of e ∙ sym (kept-taken held s)
+
+-- the bytes up to where a text ends are those before it and the text
+pub take-stored : {v l m : Bytes} {i j : ℕ} → i + length v ≤ length l → Stored v l i m j → take j m ≡ take i l ++ v
+unfolding stored
+take-stored {v} {l} {m} {i} {j} h s =
+    let n : length (take i l) ≡ i = length-take-le i l (omega arith) in
+    ap (take j) (s .bytes ∙ sets-eq v l i h) ∙ take-at (take i l ++ v) (drop (i + length v) l) j (length-append (take i l) v ∙ ap (λ k. k + length v) n ∙ sym (s .ends))
+
+-- the reply to a last line with bytes
+pub last-replied : (line : Bytes) → ¬ (length line ≡ 0) → reply line ++ newline-byte ∷ [] ≡ replies (last-line line)
+unfolding last-line replies
+last-replied [] f = absurd (f refl)
+last-replied (c ∷ s) f = refl
