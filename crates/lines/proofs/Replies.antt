@@ -3,20 +3,28 @@ use mathlib.Core.Path.{_≡_, refl, sym, ap, _∙_}
 use mathlib.Core.Bool.{true, false}
 use mathlib.Core.List.{List, [], _∷_, _++_}
 use mathlib.Core.Option.{Option, none, some}
-use Prim.Native.Nat.{ℕ, suc, _+_, _≤_, _<_}
+use Prim.Native.Nat.{ℕ, suc, _+_, _-_, _^_, _≤_, _<_}
 use native.Mathlib.Numerals.{add-one}
 use native.Mathlib.Omega.{arith}
-use lib.ListN.{length, take, drop, replicate, length-replicate}
+use lib.ListN.{length, take, drop, replicate, length-append, length-drop, length-replicate}
+use lib.Seq.{take-all}
 use borrow.Author.Tests.{ne-eqb, lt-ltb, le-ltb}
 use Rattle.pattern.specs.Bytes.{Bytes, bytes}
 use Rattle.pattern.specs.Answers.{Answer, refusal, result, Output, compileOf, Matched, matchOf}
 use Rattle.pattern.proofs.Tests.{if-true, if-false}
 use Rattle.pattern.proofs.Calls.{shown, scratch-blind}
 use Rattle.lines.specs.Sizes.{line-limit, scratch-size, budget, table-room, parts-room, unset, tab-byte}
-use Rattle.lines.specs.Text.{refused-text, unmatched-text, matched-text}
+use Rattle.lines.specs.Text.{decimal, coded-text, refused-text, unmatched-text, matched-text}
 use Rattle.lines.specs.Reply.{first, cut-at, cut, verdict-text, match-text, label-reply, table-reply, source-reply, cut-reply, reply}
 use Rattle.lines.specs.Stores.{Stored, Within}
-use Rattle.lines.proofs.Refusals.{compile-refuses}
+use Rattle.matcher.specs.declared.Matched as call
+use Rattle.matcher.specs.declared.Matched.the-variants as variant
+use Rattle.matcher.specs.Answered.{outcome-of}
+use Rattle.compiler.specs.declared.emit.Compiled as compiler
+use Rattle.compiler.specs.declared.emit.Compiled.the-variants as outcome
+use Rattle.compiler.specs.Compiling.{answer-of}
+use Rattle.lines.proofs.Decimals.{decimal-short}
+use Rattle.lines.proofs.Refusals.{compile-fits, compile-refuses}
 
 -- what is stored is another text if the two are the same
 pub within-same : {room : ℕ} {v w l m : Bytes} {i j : ℕ} → v ≡ w → Within room v l i m j → Within room w l i m j
@@ -24,6 +32,19 @@ within-same {room} {v} {w} {l} {m} {i} {j} e s = rw e at s
 
 pub stored-within : {v l m : Bytes} {i j : ℕ} (room : ℕ) → length v ≤ room → Stored v l i m j → Within room v l i m j
 stored-within room h s = record { stores = s; short = omega (arith, s .ends) }
+
+-- in more room
+pub within-more : {room more : ℕ} {v l m : Bytes} {i j : ℕ} → room ≤ more → Within room v l i m j → Within more v l i m j
+within-more h s = record { stores = s .stores; short = omega (arith, s .short) }
+
+-- the longest texts of a refusal
+pub unmatched-short : (n : ℕ) → n < 10 ^ 20 → length (unmatched-text n) ≤ 22
+unfolding unmatched-text coded-text
+unmatched-short n h = omega (arith, decimal-short 19 n h)
+
+pub refused-short : (n p : ℕ) → n < 10 ^ 20 → p < 10 ^ 20 → length (refused-text n p) ≤ 43
+unfolding refused-text coded-text
+refused-short n p h k = omega (arith, decimal-short 19 n h, decimal-short 19 p k, length-append (coded-text 82 n) (32 ∷ decimal p))
 
 -- ---- matching
 
@@ -69,6 +90,26 @@ module _ (scratch parts : Bytes) where
   unfolding match-text verdict-text bytes
   no-refusal-text number e = rw e
 
+-- what the matching call answers, under any scratch that is long enough
+module _ (table label scratch : Bytes) (h : length scratch ≡ scratch-size) (r : call.Matched) (s p : Bytes) (e : outcome-of budget r s p ≡ matchOf table label scratch (replicate parts-room unset) budget) where
+  replied-by : (q : call.Matched) → r ≡ q → match-text (outcome-of budget q s p) ≡ label-reply table label
+  replied-by q d = label-replied table label scratch h (outcome-of budget q s p) (ap (λ x. outcome-of budget x s p) (sym d) ∙ e)
+
+  pub yes-reply : (t : ℕ) → r ≡ variant.Yes t → matched-text p ≡ label-reply table label
+  yes-reply t d = yes-text s p t ∙ replied-by (variant.Yes t) d
+
+  pub no-reply : (t : ℕ) → r ≡ variant.No t → 48 ∷ [] ≡ label-reply table label
+  no-reply t d = no-text s p t ∙ replied-by (variant.No t) d
+
+  pub exhausted-reply : r ≡ variant.Exhausted → unmatched-text 15 ≡ label-reply table label
+  exhausted-reply d = exhausted-text s p budget ∙ replied-by variant.Exhausted d
+
+  pub refusal-reply : (number : ℕ) → r ≡ variant.Refused number → ¬ (number ≡ 0) → unmatched-text number ≡ label-reply table label
+  refusal-reply number d f = refusal-text s p number f ∙ replied-by (variant.Refused number) d
+
+  pub no-refusal-reply : (number : ℕ) → r ≡ variant.Refused number → number ≡ 0 → 48 ∷ [] ≡ label-reply table label
+  no-refusal-reply number d z = no-refusal-text s p number z ∙ replied-by (variant.Refused number) d
+
 -- ---- compiling
 
 module _ (source label table : Bytes) where
@@ -84,6 +125,23 @@ module _ (source label table : Bytes) where
   refused-replied number position e =
       let f : ¬ (number ≡ 0) = λ z. let o = compile-refuses source (replicate table-room 0) (sym (ap (λ o. o .answer .number) e) ∙ z) in omega (arith, ap (λ o. o .answer .value) e) in
       sym (if-false _ _ _ (ne-eqb number 0 f)) ∙ ap (λ o. table-reply o label) e
+
+-- what the compiling call answers
+module _ (source label : Bytes) (r : compiler.Compiled) (t : Bytes) (e : record { answer = answer-of r; bytes = t } ≡ compileOf source (replicate table-room 0)) where
+  compiled-by : (q : compiler.Compiled) → r ≡ q → compiling source label t (answer-of q) ≡ compileOf source (replicate table-room 0)
+  compiled-by q d = ap (λ x. compiling source label t (answer-of x)) (sym d) ∙ e
+
+  pub table-fits : (n : ℕ) → r ≡ outcome.Table n → n ≤ length t
+  table-fits n d =
+      let c = compiled-by (outcome.Table n) d in
+      let f = compile-fits source (replicate table-room 0) in
+      rw (ap (λ o. o .answer .value) c, ap (λ o. length (o .bytes)) c) f
+
+  pub table-reply-is : (n : ℕ) → r ≡ outcome.Table n → label-reply (take n t) label ≡ source-reply source label
+  table-reply-is n d = table-replied source label t n (compiled-by (outcome.Table n) d)
+
+  pub refused-reply-is : (number position : ℕ) → r ≡ outcome.Refused number position → refused-text number position ≡ source-reply source label
+  refused-reply-is number position d = refused-replied source label t number position (compiled-by (outcome.Refused number position) d)
 
 -- ---- cutting
 
@@ -101,6 +159,8 @@ module _ (line : Bytes) where
     unfolding cut-at cut-reply bytes
     whole-reply l = sym (ap cut-reply (if-false _ _ _ (le-ltb k (length line) l))) ∙ short-reply
 
-    pub cut-replied : k < length line → source-reply (take k line) (drop (k + 1) line) ≡ reply line
+    pub cut-replied : k < length line → source-reply (take k line) (take (length line - (k + 1)) (drop (k + 1) line)) ≡ reply line
     unfolding cut-at cut-reply
-    cut-replied l = ap (λ i. source-reply (take k line) (drop i line)) (add-one k) ∙ sym (ap cut-reply (if-true _ _ _ (lt-ltb k (length line) l))) ∙ short-reply
+    cut-replied l =
+        ap (source-reply (take k line)) (take-all (length line - (k + 1)) (drop (k + 1) line) (omega (arith, length-drop (k + 1) line)))
+        ∙ ap (λ i. source-reply (take k line) (drop i line)) (add-one k) ∙ sym (ap cut-reply (if-true _ _ _ (lt-ltb k (length line) l))) ∙ short-reply

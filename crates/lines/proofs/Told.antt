@@ -6,13 +6,15 @@ use mathlib.Core.Option.{Option, none, some}
 use Prim.Native.Nat.{ℕ, _+_, _≤_, _<_}
 use native.Mathlib.Omega.{arith}
 use lib.Dec.{eqb}
-use lib.ListN.{length, take, drop, length-append}
+use lib.ListN.{length, take, drop, length-append, drop-of-length-le}
 use lib.Seq.{sets-eq, take-at, length-take-le}
 use Rattle.pattern.specs.Bytes.{Bytes}
 use Rattle.lines.specs.Sizes.{newline-byte}
 use Rattle.lines.specs.Reply.{reply}
 use Rattle.lines.specs.Output.{last-line, replies, hold, taken, told, kept}
 use Rattle.lines.specs.Stores.{stored, Stored}
+use Rattle.lines.specs.Held.{rest-if, Took}
+use Rattle.lines.specs.declared.line.Taken.{Taken}
 
 -- what is told and kept once bytes are taken up to a newline
 abbrev told-of : Bytes × Option Bytes → Bytes
@@ -69,3 +71,35 @@ pub last-replied : (line : Bytes) → ¬ (length line ≡ 0) → reply line ++ n
 unfolding last-line replies
 last-replied [] f = absurd (f refl)
 last-replied (c ∷ s) f = refl
+
+pub last-none : (line : Bytes) → length line ≡ 0 → replies (last-line line) ≡ []
+unfolding last-line replies
+last-none [] e = refl
+last-none (c ∷ s) e = absurd (omega arith)
+
+-- ---- turns over a chunk
+
+module _ {chunk line after : Bytes} {from held : ℕ} {r : Taken} (t : Took chunk from line held after r) where
+  pub took-ended : r .ended ≡ true → (take (r .held) after, some (drop (r .next) chunk)) ≡ taken (take held line) (drop from chunk)
+  unfolding rest-if
+  took-ended e = ap (λ b. (take (r .held) after, rest-if b (drop (r .next) chunk))) (sym e) ∙ t .equal
+
+  pub took-held : r .ended ≡ false → (take (r .held) after, none) ≡ taken (take held line) (drop from chunk)
+  unfolding rest-if
+  took-held e = ap (λ b. (take (r .held) after, rest-if b (drop (r .next) chunk))) (sym e) ∙ t .equal
+
+  -- a line that did not end is held at the chunk's end
+  pub turn-told : r .ended ≡ false → told (take (r .held) after) (drop (r .next) chunk) ≡ told (take held line) (drop from chunk)
+  unfolding told
+  turn-told e = ap (told (take (r .held) after)) (drop-of-length-le chunk (t .stops e)) ∙ told-held _ _ _ (took-held e)
+
+  pub turn-kept : r .ended ≡ false → kept (take (r .held) after) (drop (r .next) chunk) ≡ kept (take held line) (drop from chunk)
+  unfolding kept
+  turn-kept e = ap (kept (take (r .held) after)) (drop-of-length-le chunk (t .stops e)) ∙ kept-held _ _ _ (took-held e)
+
+-- the reply to a line that ended stands after what was told before
+pub turn-ended : (held s : Bytes) {line rest out out′ T : Bytes} {i j : ℕ} → (line, some rest) ≡ taken held s → take i out ++ told held s ≡ T
+    → Stored (reply line ++ newline-byte ∷ []) out i out′ j → i + length (reply line ++ newline-byte ∷ []) ≤ length out → take j out′ ++ told [] rest ≡ T
+turn-ended held s {line} {rest} {out} {out′} {T} {i} {j} e f d h =
+    ap (λ v. v ++ told [] rest) (take-stored h d) ∙ append-assoc (take i out) (reply line ++ newline-byte ∷ []) (told [] rest)
+    ∙ ap (λ v. take i out ++ v) (told-ended held s line rest e) ∙ f

@@ -21,3 +21,4 @@ pub record Took (chunk : Bytes) (from : ℕ) (line : Bytes) (held : ℕ) (after 
   pub held-fits : r .held ≤ held-limit
   pub next-fits : r .next ≤ length chunk
   pub moves : from < length chunk → from < r .next
+  pub stops : r .ended ≡ false → length chunk ≤ r .next

@@ -5,3 +5,4 @@ pub mod Output
 pub mod Stores
 pub mod Held
 pub mod Examples
+pub mod Chunk

@@ -1,7 +1,7 @@
 -- `line::take_line` meets its contract: taking from here on is taking from the start. What is left of the chunk falls. Assumes nothing.
 use mathlib.Core.Path.{_≡_, refl, sym, ap, _∙_}
-use mathlib.Core.Bool.{true, false}
-use Prim.Native.Nat.{_≤_, _-_, _+_}
+use mathlib.Core.Bool.{true, false, cond}
+use Prim.Native.Nat.{suc, _≤_, _-_, _+_}
 use native.Mathlib.Omega.{arith}
 use lib.ListN.{length, getD, take, drop, set, length-set}
 use Rattle.pattern.specs.Bytes.{Bytes}
@@ -40,6 +40,7 @@ returns c =
       held-fits = k .loop .inv .2;
       next-fits = omega arith;
       moves = λ m. omega arith;
+      stops = λ e. absurd (omega (arith, ap (λ b. cond b (suc 0) 0) e));
     }
 
 slice-write-line : tie.Need-slice-write-line Inv-loop μ-loop
@@ -87,6 +88,7 @@ returns-2 c =
       held-fits = k .loop .inv .2;
       next-fits = k .loop .inv .1;
       moves = λ m. omega arith;
+      stops = λ e. c .loop-test .left;
     }
 
 pub take-line-spec : {M : Type 1} → statement M

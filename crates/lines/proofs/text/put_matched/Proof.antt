@@ -51,7 +51,8 @@ returns c =
     let b = c .before .before .before .before .before .before .before .put-byte .ensures in
     record {
       stores = stored-join b (k .loop .inv .3 _ _ (stored-empty (listed-unset _ _ _ (c .before .before .before .loop-test .taken) (c .if1 .taken)) _ _));
-      short = omega (arith, b .ends) }
+      short = omega (arith, b .ends);
+    }
 
 put-part-requires : tie.Need-put-part-requires Inv-loop μ-loop
 put-part-requires c κs =

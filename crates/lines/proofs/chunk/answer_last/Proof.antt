@@ -1,0 +1,34 @@
+-- `chunk::answer_last` meets its contract. Assumes nothing.
+use mathlib.Core.Path.{_≡_, refl, sym, ap, _∙_}
+use mathlib.Core.List.{[]}
+use Prim.Native.Nat.{zero}
+use native.Mathlib.Omega.{arith}
+use Rattle.lines.proofs.Stores.{stored-length}
+use Rattle.lines.proofs.Told.{take-stored, last-replied, last-none}
+use borrow.Author.Needs.{needs}
+use Rattle.lines.proofs.chunk.answer_last.Statement.{statement}
+use Rattle.lines.proofs.chunk.answer_last.Tie as tie
+use Rattle.lines.proofs.chunk.answer_last.Reads as reads
+use Rattle.lines.proofs.chunk.answer_last.Lts as lts
+use Rattle.lines.proofs.reply.answer_line.Reads as answer-line-reads
+
+returns : tie.Need-returns
+returns c = (sym (last-none _ (c .if1 .taken)), omega arith)
+
+answer-line-requires : tie.Need-answer-line-requires
+answer-line-requires c κs = search needs
+
+same-length : tie.Need-same-length
+same-length c = search needs
+
+same-length-2 : tie.Need-same-length-2
+same-length-2 c = search needs
+
+returns-2 : tie.Need-returns-2
+returns-2 c =
+    let w = c .before .before .before .before .answer-line .ensures in
+    (take-stored (omega (arith, w .stores .ends, w .short)) (w .stores) ∙ last-replied _ (c .before .before .before .before .before .before .before .if1 .left), omega (arith, w .short, stored-length (w .stores)))
+
+pub answer-last-spec : {M : Type 1} → statement M
+answer-last-spec =
+    tie.close (tie.spec returns answer-line-requires same-length same-length-2 returns-2)

@@ -1,0 +1,32 @@
+-- `reply::answer_line` meets its contract. Assumes nothing.
+use native.Mathlib.Omega.{arith}
+use Rattle.lines.proofs.Stores.{stored-join}
+use borrow.Author.Needs.{needs}
+use Rattle.lines.proofs.reply.answer_line.Statement.{statement}
+use Rattle.lines.proofs.reply.answer_line.Tie as tie
+use Rattle.lines.proofs.reply.answer_line.Reads as reads
+use Rattle.lines.proofs.reply.answer_line.Lts as lts
+use Rattle.lines.proofs.reply.put_reply.Reads as put-reply-reads
+use Rattle.lines.proofs.text.put_byte.Reads as put-byte-reads
+
+put-reply-requires : tie.Need-put-reply-requires
+put-reply-requires c κs = search needs
+
+put-byte-requires : tie.Need-put-byte-requires
+put-byte-requires c κs = search needs
+
+same-length : tie.Need-same-length
+same-length c = search needs
+
+same-length-2 : tie.Need-same-length-2
+same-length-2 c = search needs
+
+returns : tie.Need-returns
+returns c =
+    let a = c .before .before .before .before .before .before .before .before .put-reply .ensures in
+    let b = c .before .before .put-byte .ensures in
+    record { stores = stored-join (a .stores) b; short = omega (arith, a .short, b .ends) }
+
+pub answer-line-spec : {M : Type 1} → statement M
+answer-line-spec =
+    tie.close (tie.spec put-reply-requires put-byte-requires same-length same-length-2 returns)

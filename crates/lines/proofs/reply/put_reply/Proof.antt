@@ -1,0 +1,82 @@
+-- `reply::put_reply` meets its contract. Assumes nothing.
+use mathlib.Core.Path.{sym}
+use lib.Seq.{length-take-le}
+use native.Mathlib.Omega.{arith}
+use Rattle.lines.proofs.Replies.{within-same, stored-within, long-reply, whole-reply, cut-replied}
+use borrow.Author.Needs.{needs}
+use Rattle.lines.proofs.reply.put_reply.Statement.{statement}
+use Rattle.lines.proofs.reply.put_reply.Tie as tie
+use Rattle.lines.proofs.reply.put_reply.Reads as reads
+use Rattle.lines.proofs.reply.put_reply.Lts as lts
+use Rattle.lines.proofs.line.tab_at.Reads as tab-at-reads
+use Rattle.lines.proofs.reply.put_cut.Reads as put-cut-reads
+use Rattle.lines.proofs.text.put_byte.Reads as put-byte-reads
+
+put-byte-requires : tie.Need-put-byte-requires
+put-byte-requires c κs = search needs
+
+same-length : tie.Need-same-length
+same-length c = search needs
+
+returns : tie.Need-returns
+returns c = within-same (long-reply _ (c .before .before .before .before .if1 .taken)) (stored-within 400 (omega arith) (c .before .before .put-byte .ensures))
+
+tab-at-requires : tie.Need-tab-at-requires
+tab-at-requires c κs = search needs
+
+put-byte-requires-2 : tie.Need-put-byte-requires-2
+put-byte-requires-2 c κs = search needs
+
+same-length-2 : tie.Need-same-length-2
+same-length-2 c = search needs
+
+returns-2 : tie.Need-returns-2
+returns-2 c = within-same (whole-reply _ (c .before .before .before .before .before .before .if1 .left) _ (c .before .before .before .before .before .tab-at .ensures) (c .before .before .before .before .if2 .taken)) (stored-within 400 (omega arith) (c .before .before .put-byte2 .ensures))
+
+slice-aggregate-put-cut : tie.Need-slice-aggregate-put-cut
+slice-aggregate-put-cut c = sym (length-take-le _ _ (omega arith))
+
+add-put-cut : tie.Need-add-put-cut
+add-put-cut c = search needs
+
+sub-put-cut : tie.Need-sub-put-cut
+sub-put-cut c = search needs
+
+part-put-cut-start : tie.Need-part-put-cut-start
+part-put-cut-start c = search needs
+
+part-put-cut-end : tie.Need-part-put-cut-end
+part-put-cut-end c = search needs
+
+put-cut-requires : tie.Need-put-cut-requires
+put-cut-requires c κs = search needs
+
+same-length-3 : tie.Need-same-length-3
+same-length-3 c = search needs
+
+same-length-4 : tie.Need-same-length-4
+same-length-4 c = search needs
+
+returns-3 : tie.Need-returns-3
+returns-3 c = within-same (cut-replied _ (c .before .before .before .before .before .before .before .before .before .before .before .if1 .left) _ (c .before .before .before .before .before .before .before .before .before .before .tab-at .ensures) (c .before .before .before .before .before .before .before .before .before .if2 .left)) (c .before .before .before .before .put-cut .ensures)
+
+pub put-reply-spec : {M : Type 1} → statement M
+put-reply-spec =
+    tie.close
+    (tie.spec
+    put-byte-requires
+    same-length
+    returns
+    tab-at-requires
+    put-byte-requires-2
+    same-length-2
+    returns-2
+    slice-aggregate-put-cut
+    add-put-cut
+    sub-put-cut
+    part-put-cut-start
+    part-put-cut-end
+    put-cut-requires
+    same-length-3
+    same-length-4
+    returns-3)

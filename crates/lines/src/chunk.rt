@@ -1,0 +1,67 @@
+// The replies to the lines of an input, chunk by chunk.
+ghost use mathlib.Core.Path.{_≡_};
+ghost use Prim.Native.Nat.{_≤_};
+ghost use lib.ListN.{length, take};
+ghost use Rattle.lines.specs.Sizes.{held-limit, scratch-size};
+ghost use Rattle.lines.specs.Output.{last-line, replies, first-line};
+ghost use Rattle.lines.specs.Chunk.{Answers};
+use crate::line::take_line;
+use crate::reply::answer_line;
+
+// More than any reply has.
+const ROOM: usize = 512;
+
+// Where to go on in the chunk, how many bytes of a line are held, and how many were written.
+pub struct Answered {
+    pub next: usize,
+    pub held: usize,
+    pub end: usize,
+}
+
+// Answers lines until the chunk ends or there may be no room for a reply.
+pub fn answer_chunk(
+    chunk: &[u8],
+    from: usize,
+    line: &mut [u8],
+    held: usize,
+    scratch: &mut [u8],
+    out: &mut [u8],
+) -> Answered
+    requires { ⌜ (from ≤ length (now chunk)) × (length (now line) ≡ held-limit) × (held ≤ held-limit) × (length (now scratch) ≡ scratch-size) × (512 ≤ length (now out)) ⌝ }
+    ensures { λ r. ⌜ Answers (now (chunk .entry)) from (now (line .entry)) held (now (line .exit)) (now (out .exit)) r ⌝ }
+{
+    let mut next = from;
+    let mut n = held;
+    let mut end = 0;
+    while next < chunk.len() {
+        if out.len() - end < ROOM {
+            return Answered { next, held: n, end };
+        }
+        let t = take_line(chunk, next, line, n);
+        next = t.next;
+        n = t.held;
+        if t.ended {
+            end = answer_line(&line[..n], scratch, out, end);
+            n = 0;
+        }
+    }
+    Answered { next, held: n, end }
+}
+
+// Answers a last line without a newline, if it has bytes.
+pub fn answer_last(line: &[u8], scratch: &mut [u8], out: &mut [u8]) -> usize
+    requires { ⌜ (length (now scratch) ≡ scratch-size) × (512 ≤ length (now out)) ⌝ }
+    ensures { λ r. ⌜ (take r (now (out .exit)) ≡ replies (last-line (now (line .entry)))) × (r ≤ length (now (out .exit))) ⌝ }
+{
+    if line.len() == 0 {
+        return 0;
+    }
+    answer_line(line, scratch, out, 0)
+}
+
+// What the output begins with.
+pub fn first_line() -> [u8; 6]
+    ensures { λ r. ⌜ r ≡ first-line ⌝ }
+{
+    *b"MPT 1\n"
+}

@@ -1,0 +1,77 @@
+// The reply to one line.
+ghost use mathlib.Core.Path.{_≡_};
+ghost use mathlib.Core.List.{[], _∷_, _++_};
+ghost use Prim.Native.Nat.{_+_, _≤_};
+ghost use lib.ListN.{length};
+ghost use Rattle.lines.specs.Sizes.{scratch-size, newline-byte};
+ghost use Rattle.lines.specs.Reply.{label-reply, source-reply, reply};
+ghost use Rattle.lines.specs.Stores.{Within};
+use crate::line::tab_at;
+use crate::text;
+use compiler::emit::Compiled;
+use matcher::Matched;
+
+// "lines of at most 1,024 bytes, newline not counted"
+const LINE_LIMIT: usize = 1024;
+
+const BUDGET: u64 = 10000000;
+
+// The number of the refusal that says that the budget is exhausted.
+const EXHAUSTED: u64 = 15;
+
+// A label under a table.
+fn put_label(table: &[u8], label: &[u8], scratch: &mut [u8], out: &mut [u8], at: usize) -> usize
+    requires { ⌜ (length (now scratch) ≡ scratch-size) × (at + 400 ≤ length (now out)) ⌝ }
+    ensures { λ r. ⌜ Within 400 (label-reply (now (table .entry)) (now (label .entry))) (now (out .entry)) at (now (out .exit)) r ⌝ }
+{
+    let mut parts = [text::UNSET; 128];
+    match matcher::match_label(table, label, scratch, &mut parts, BUDGET) {
+        Matched::Yes(_) => text::put_matched(&parts, out, at),
+        Matched::No(_) => text::put_byte(b'0', out, at),
+        Matched::Exhausted => text::put_unmatched(EXHAUSTED, out, at),
+        Matched::Refused(number) => {
+            // The answer with number 0 and verdict no is that of a label that doesn't match.
+            if number == 0 {
+                return text::put_byte(b'0', out, at);
+            }
+            text::put_unmatched(number as u64, out, at)
+        }
+    }
+}
+
+// A source and a label.
+fn put_cut(source: &[u8], label: &[u8], scratch: &mut [u8], out: &mut [u8], at: usize) -> usize
+    requires { ⌜ (length (now scratch) ≡ scratch-size) × (at + 400 ≤ length (now out)) ⌝ }
+    ensures { λ r. ⌜ Within 400 (source-reply (now (source .entry)) (now (label .entry))) (now (out .entry)) at (now (out .exit)) r ⌝ }
+{
+    let mut table = [0u8; 1160];
+    match compiler::compile(source, &mut table) {
+        Compiled::Table(n) => put_label(&table[..n], label, scratch, out, at),
+        Compiled::Refused(number, position) => {
+            text::put_refused(number as u64, position as u64, out, at)
+        }
+    }
+}
+
+fn put_reply(line: &[u8], scratch: &mut [u8], out: &mut [u8], at: usize) -> usize
+    requires { ⌜ (length (now scratch) ≡ scratch-size) × (at + 400 ≤ length (now out)) ⌝ }
+    ensures { λ r. ⌜ Within 400 (reply (now (line .entry))) (now (out .entry)) at (now (out .exit)) r ⌝ }
+{
+    if LINE_LIMIT < line.len() {
+        return text::put_byte(b'L', out, at);
+    }
+    let tab = tab_at(line);
+    if line.len() <= tab {
+        return text::put_byte(b'T', out, at);
+    }
+    put_cut(&line[..tab], &line[tab + 1..], scratch, out, at)
+}
+
+// The reply and its newline.
+pub fn answer_line(line: &[u8], scratch: &mut [u8], out: &mut [u8], at: usize) -> usize
+    requires { ⌜ (length (now scratch) ≡ scratch-size) × (at + 401 ≤ length (now out)) ⌝ }
+    ensures { λ r. ⌜ Within 401 (reply (now (line .entry)) ++ newline-byte ∷ []) (now (out .entry)) at (now (out .exit)) r ⌝ }
+{
+    let end = put_reply(line, scratch, out, at);
+    text::put_byte(b'\n', out, end)
+}
