@@ -14,7 +14,7 @@ use Rattle.pattern.specs.Spelling.{kind}
 use Rattle.pattern.specs.Reading.{State, step, finish, start}
 use Rattle.pattern.specs.Scan.{Begins, an-atom, a-second, a-code, a-group, nothing, refuse, atom-fault, fault, depth, begins, begun, Outcome, refused, accepted, scan, outcome}
 use Rattle.pattern.specs.Table.{header, encode}
-use Rattle.pattern.specs.Answers.{Output, put-if, put, compiled, compileOf}
+use Rattle.pattern.specs.Answers.{put-if, put, compiled, compileOf}
 
 -- a number, if there is one, is not 0
 abbrev Numbered : Option ℕ → Type 0

@@ -1,6 +1,6 @@
 -- The paper's example of the line tool, by computation. Assumes nothing.
 use mathlib.Core.Path.{_≡_, refl}
-use mathlib.Core.List.{List, [], _∷_, _++_}
+use mathlib.Core.List.{[], _∷_, _++_}
 use Rattle.pattern.specs.Bytes.{Bytes, between, same, over, bytes}
 use Rattle.pattern.specs.Codes.{all-codes, ranged, coded, in-set, bit-among, bit}
 use Rattle.pattern.specs.Syntax.{size, top-size, nodes}

@@ -2,7 +2,7 @@
 use mathlib.Core.Path.{_≡_, refl, sym, ap, _∙_}
 use mathlib.Core.Logic.{⊎-elim}
 use mathlib.Core.List.{_++_}
-use Prim.Native.Nat.{_≤_, _<_, _-_, _+_}
+use Prim.Native.Nat.{_≤_, _-_}
 use native.Mathlib.Omega.{arith}
 use lib.ListN.{length, take, drop}
 use lib.Seq.{length-take-le}
@@ -13,10 +13,6 @@ use Rattle.lines.proofs.Stores.{stored-length}
 use Rattle.lines.proofs.Told.{took-ended, turn-told, turn-kept, turn-ended, kept-ended}
 use Rattle.lines.proofs.chunk.answer_chunk.Statement.{statement}
 use Rattle.lines.proofs.chunk.answer_chunk.Tie as tie
-use Rattle.lines.proofs.chunk.answer_chunk.Reads as reads
-use Rattle.lines.proofs.chunk.answer_chunk.Lts as lts
-use Rattle.lines.proofs.line.take_line.Reads as take-line-reads
-use Rattle.lines.proofs.reply.answer_line.Reads as answer-line-reads
 
 abbrev Inv-loop : tie.InvT-loop
 Inv-loop chunk from line₀ held scratch₀ out₀ next₀ n₀ end₀ line scratch out next n end =

@@ -1,16 +1,11 @@
 -- `chunk::answer_last` meets its contract. Assumes nothing.
-use mathlib.Core.Path.{_≡_, refl, sym, ap, _∙_}
-use mathlib.Core.List.{[]}
-use Prim.Native.Nat.{zero}
+use mathlib.Core.Path.{sym, _∙_}
 use native.Mathlib.Omega.{arith}
 use Rattle.lines.proofs.Stores.{stored-length}
 use Rattle.lines.proofs.Told.{take-stored, last-replied, last-none}
 use borrow.Author.Needs.{needs}
 use Rattle.lines.proofs.chunk.answer_last.Statement.{statement}
 use Rattle.lines.proofs.chunk.answer_last.Tie as tie
-use Rattle.lines.proofs.chunk.answer_last.Reads as reads
-use Rattle.lines.proofs.chunk.answer_last.Lts as lts
-use Rattle.lines.proofs.reply.answer_line.Reads as answer-line-reads
 
 returns : tie.Need-returns
 returns c = (sym (last-none _ (c .if1 .taken)), omega arith)

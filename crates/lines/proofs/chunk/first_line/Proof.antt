@@ -4,8 +4,6 @@ use Rattle.pattern.specs.Bytes.{bytes}
 use Rattle.lines.specs.Output.{first-line}
 use Rattle.lines.proofs.chunk.first_line.Statement.{statement}
 use Rattle.lines.proofs.chunk.first_line.Tie as tie
-use Rattle.lines.proofs.chunk.first_line.Reads as reads
-use Rattle.lines.proofs.chunk.first_line.Lts as lts
 
 returns : tie.Need-returns
 unfolding bytes first-line

@@ -1,10 +1,9 @@
 -- `line::take_line` meets its contract: taking from here on is taking from the start. What is left of the chunk falls. Assumes nothing.
 use mathlib.Core.Path.{_≡_, refl, sym, ap, _∙_}
-use mathlib.Core.Bool.{true, false, cond}
-use Prim.Native.Nat.{suc, _≤_, _-_, _+_}
+use mathlib.Core.Bool.{cond}
+use Prim.Native.Nat.{suc, _≤_, _-_}
 use native.Mathlib.Omega.{arith}
-use lib.ListN.{length, getD, take, drop, set, length-set}
-use Rattle.pattern.specs.Bytes.{Bytes}
+use lib.ListN.{length, take, drop, length-set}
 use Rattle.lines.specs.Sizes.{held-limit}
 use Rattle.lines.specs.Output.{taken}
 use Rattle.lines.specs.Held.{rest-if}

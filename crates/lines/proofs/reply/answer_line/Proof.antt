@@ -4,10 +4,6 @@ use Rattle.lines.proofs.Stores.{stored-join}
 use borrow.Author.Needs.{needs}
 use Rattle.lines.proofs.reply.answer_line.Statement.{statement}
 use Rattle.lines.proofs.reply.answer_line.Tie as tie
-use Rattle.lines.proofs.reply.answer_line.Reads as reads
-use Rattle.lines.proofs.reply.answer_line.Lts as lts
-use Rattle.lines.proofs.reply.put_reply.Reads as put-reply-reads
-use Rattle.lines.proofs.text.put_byte.Reads as put-byte-reads
 
 put-reply-requires : tie.Need-put-reply-requires
 put-reply-requires c κs = search needs

@@ -7,11 +7,6 @@ use Rattle.lines.proofs.Replies.{within-same, stored-within, refused-sh
 use borrow.Author.Needs.{needs}
 use Rattle.lines.proofs.reply.put_cut.Statement.{statement}
 use Rattle.lines.proofs.reply.put_cut.Tie as tie
-use Rattle.lines.proofs.reply.put_cut.Reads as reads
-use Rattle.lines.proofs.reply.put_cut.Lts as lts
-use Rattle.compiler.proofs.compile.Reads as compile-reads
-use Rattle.lines.proofs.reply.put_label.Reads as put-label-reads
-use Rattle.lines.proofs.text.put_refused.Reads as put-refused-reads
 
 slice-aggregate-compile : tie.Need-slice-aggregate-compile
 slice-aggregate-compile c = search needs

@@ -4,12 +4,6 @@ use Rattle.lines.proofs.Replies.{within-same, stored-within, within-mor
 use borrow.Author.Needs.{needs}
 use Rattle.lines.proofs.reply.put_label.Statement.{statement}
 use Rattle.lines.proofs.reply.put_label.Tie as tie
-use Rattle.lines.proofs.reply.put_label.Reads as reads
-use Rattle.lines.proofs.reply.put_label.Lts as lts
-use Rattle.lines.proofs.text.put_byte.Reads as put-byte-reads
-use Rattle.lines.proofs.text.put_matched.Reads as put-matched-reads
-use Rattle.lines.proofs.text.put_unmatched.Reads as put-unmatched-reads
-use Rattle.matcher.proofs.match_label.Reads as match-label-reads
 
 slice-aggregate-match-label : tie.Need-slice-aggregate-match-label
 slice-aggregate-match-label c = search needs

@@ -6,11 +6,6 @@ use Rattle.lines.proofs.Replies.{within-same, stored-within, long-reply
 use borrow.Author.Needs.{needs}
 use Rattle.lines.proofs.reply.put_reply.Statement.{statement}
 use Rattle.lines.proofs.reply.put_reply.Tie as tie
-use Rattle.lines.proofs.reply.put_reply.Reads as reads
-use Rattle.lines.proofs.reply.put_reply.Lts as lts
-use Rattle.lines.proofs.line.tab_at.Reads as tab-at-reads
-use Rattle.lines.proofs.reply.put_cut.Reads as put-cut-reads
-use Rattle.lines.proofs.text.put_byte.Reads as put-byte-reads
 
 put-byte-requires : tie.Need-put-byte-requires
 put-byte-requires c κs = search needs

@@ -1,13 +1,11 @@
 -- `text::put_coded` meets its contract. Assumes nothing.
 use native.Mathlib.Omega.{arith}
 use Rattle.lines.specs.Text.{coded-text}
-use Rattle.lines.proofs.Stores.{stored-join, stored-length}
+use Rattle.lines.proofs.Stores.{stored-join}
 use Rattle.lines.proofs.Decimals.{decimal-short}
 use borrow.Author.Needs.{needs}
 use Rattle.lines.proofs.text.put_coded.Statement.{statement}
 use Rattle.lines.proofs.text.put_coded.Tie as tie
-use Rattle.lines.proofs.text.put_byte.Reads as put-byte-reads
-use Rattle.lines.proofs.text.put_number.Reads as put-number-reads
 
 put-byte-requires : tie.Need-put-byte-requires
 put-byte-requires c κs = search needs

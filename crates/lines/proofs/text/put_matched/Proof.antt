@@ -1,6 +1,6 @@
 -- `text::put_matched` meets its contract: what stores the rest of the parts from here on stores all of them. What is left of the parts falls. Assumes nothing.
 use mathlib.Core.Path.{_≡_, refl}
-use Prim.Native.Nat.{ℕ, _≤_, _<_, _-_, _+_, _*_}
+use Prim.Native.Nat.{ℕ, _≤_, _-_, _+_, _*_}
 use native.Mathlib.Omega.{arith}
 use lib.ListN.{length, getD, drop}
 use Rattle.pattern.specs.Bytes.{Bytes, bytes}
@@ -12,8 +12,6 @@ use Rattle.lines.proofs.Decimals.{decimal-short}
 use Rattle.lines.proofs.Parts.{listed-join, listed-unset, listed-none}
 use Rattle.lines.proofs.text.put_matched.Statement.{statement}
 use Rattle.lines.proofs.text.put_matched.Tie as tie
-use Rattle.lines.proofs.text.put_byte.Reads as put-byte-reads
-use Rattle.lines.proofs.text.put_part.Reads as put-part-reads
 
 abbrev Inv-loop : tie.InvT-loop
 Inv-loop parts out₀ at end₀ i₀ before₀ out end i before =

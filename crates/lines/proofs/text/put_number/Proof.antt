@@ -1,5 +1,5 @@
 -- `text::put_number` meets its contract: storing what is left of the number ends as storing all of it. What is left falls. Assumes nothing.
-use mathlib.Core.Path.{_≡_, refl, sym, ap, _∙_}
+use mathlib.Core.Path.{_≡_, refl, ap, _∙_}
 use Prim.Native.Nat.{_≤_, _+_}
 use native.Mathlib.Omega.{arith}
 use lib.ListN.{length, length-set}
@@ -9,7 +9,6 @@ use Rattle.lines.proofs.Decimals.{decimal-one, decimal-longer}
 use Rattle.lines.proofs.Digits.{last-digit, only-digit}
 use Rattle.lines.proofs.text.put_number.Statement.{statement}
 use Rattle.lines.proofs.text.put_number.Tie as tie
-use Rattle.lines.proofs.text.digits.Reads as digits-reads
 
 abbrev Inv-loop : tie.InvT-loop
 Inv-loop x out₀ at end left₀ o₀ out left o = (end ≡ at + length (decimal x)) × (o ≡ at + length (decimal left)) × (o ≤ end) × (length out ≡ length out₀) × (stored out at (decimal left) ≡ stored out₀ at (decimal x))

@@ -6,8 +6,6 @@ use Rattle.lines.proofs.Decimals.{decimal-short}
 use borrow.Author.Needs.{needs}
 use Rattle.lines.proofs.text.put_part.Statement.{statement}
 use Rattle.lines.proofs.text.put_part.Tie as tie
-use Rattle.lines.proofs.text.put_byte.Reads as put-byte-reads
-use Rattle.lines.proofs.text.put_number.Reads as put-number-reads
 
 put-byte-requires : tie.Need-put-byte-requires
 put-byte-requires c κs = search needs

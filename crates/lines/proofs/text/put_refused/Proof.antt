@@ -6,9 +6,6 @@ use Rattle.lines.proofs.Decimals.{decimal-short}
 use borrow.Author.Needs.{needs}
 use Rattle.lines.proofs.text.put_refused.Statement.{statement}
 use Rattle.lines.proofs.text.put_refused.Tie as tie
-use Rattle.lines.proofs.text.put_byte.Reads as put-byte-reads
-use Rattle.lines.proofs.text.put_coded.Reads as put-coded-reads
-use Rattle.lines.proofs.text.put_number.Reads as put-number-reads
 
 put-coded-requires : tie.Need-put-coded-requires
 put-coded-requires c κs = search needs

@@ -3,7 +3,6 @@ use Rattle.lines.specs.Text.{unmatched-text}
 use borrow.Author.Needs.{needs}
 use Rattle.lines.proofs.text.put_unmatched.Statement.{statement}
 use Rattle.lines.proofs.text.put_unmatched.Tie as tie
-use Rattle.lines.proofs.text.put_coded.Reads as put-coded-reads
 
 put-coded-requires : tie.Need-put-coded-requires
 put-coded-requires c κs = search needs
