@@ -7,3 +7,4 @@ pub mod Chunks
 pub mod Refusals
 pub mod Replies
 pub mod Told
+pub mod Ends
