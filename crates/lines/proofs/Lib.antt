@@ -9,3 +9,4 @@ pub mod Replies
 pub mod Told
 pub mod Ends
 pub mod Rooms
+pub mod Cuts

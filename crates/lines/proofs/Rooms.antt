@@ -1,17 +1,17 @@
 -- The tool lends room for every table and its parts. Assumes nothing.
 use mathlib.Core.Path.{_≡_, ap, _∙_}
-use mathlib.Core.List.{List, [], _∷_, _++_}
-use Prim.Native.Nat.{ℕ, suc, _+_, _*_, _≤_}
+use mathlib.Core.List.{[], _∷_}
+use Prim.Native.Nat.{ℕ, _*_, _≤_}
 use native.Mathlib.Omega.{arith}
 use lib.ListN.{length, replicate, length-append, length-replicate}
 use borrow.Author.Tests.{le-leb}
-use Rattle.pattern.specs.Numbers.{quote-byte, opening-byte, closing-byte, comma-byte}
+use Rattle.pattern.specs.Numbers.{quote-byte, closing-byte, comma-byte}
 use Rattle.pattern.specs.Bytes.{Bytes, over}
 use Rattle.pattern.specs.Syntax.{Sort, pattern, Syntax, last, then, repeat, codes, literal, group, only, or, size, top-size}
 use Rattle.pattern.specs.Meaning.{Cut}
 use Rattle.pattern.specs.Spelling.{Quoted, start, byte, quote, Spells}
 use Rattle.pattern.specs.Scan.{accepted, outcome}
-use Rattle.pattern.specs.Table.{pool, records, flat, header, encode}
+use Rattle.pattern.specs.Table.{pool, records, header, encode}
 use Rattle.pattern.specs.Answers.{result, put-if, put, compiled, compileOf}
 use Rattle.pattern.proofs.Records.{length-flat, count-records}
 use Rattle.pattern.proofs.RoundTrip.{some-atom}
