@@ -300,8 +300,8 @@ finish-holds (after l h b) (top before) =
     let a : Syntax pattern = last (repeat l h b) in
     let e = join-size before a in
     let i = join-good 0 before a in (
-      λ (n, x, y). record { parts = i .0 (x, y); atoms = omega arith },
-      λ t. let (x, y) = i .1 (t .parts) in (omega (arith, t .atoms), x, y),
+      λ (n, x, y). record { tree = i .0 (x, y); atoms = omega arith },
+      λ t. let (x, y) = i .1 (t .tree) in (omega (arith, t .atoms), x, y),
     )
 finish-holds (after l h b) (within k u v others before) = tt
 

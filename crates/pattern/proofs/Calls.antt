@@ -56,13 +56,13 @@ module _ (table : Bytes) (t : Syntax pattern) (good : decode table ≡ some t) w
 
   -- no source that compiles to the table is shorter than its printed one
   pub print-shortest : (source : Bytes) → outcome source ≡ accepted t → length (print t) ≤ length source
-  print-shortest source a = let (n, h, g) = accepted-exactly source t .0 a in shortest 0 t source (g .parts) h
+  print-shortest source a = let (n, h, g) = accepted-exactly source t .0 a in shortest 0 t source (g .tree) h
 
   -- demand 2: the verdict is yes just when the partition exists, and the parts are the longest-first one
   pub verdict-right : (label : Bytes) → Means label t (verdict label t)
   verdict-right label =
       let (n, h, g) = accepted-exactly (print t) t .0 print-accepted in
-      verdict-means label t (good-ordered 0 t (g .parts))
+      verdict-means label t (good-ordered 0 t (g .tree))
 
 -- ---- writing back
 

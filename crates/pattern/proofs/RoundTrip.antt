@@ -147,6 +147,6 @@ module _ (s : Bytes) where
     λ e. let (a, m) = compiled-is (outcome (print (tree-of s))) t .0 e in (print (tree-of s), a, m),
     λ (source, a, m).
         let (n, h, g) = accepted-exactly source t .0 a in
-        let v : tree-of s ≡ t = ap tree-of (sym m) ∙ tree-encode t (g .parts) in
+        let v : tree-of s ≡ t = ap tree-of (sym m) ∙ tree-encode t (g .tree) in
         compiled-is (outcome (print (tree-of s))) t .1 (ap (λ u. outcome (print u)) v ∙ good-tree t .0 (source, a), m),
   )

@@ -15,7 +15,7 @@ use Rattle.pattern.specs.Spelling.{kind, Spells}
 use Rattle.pattern.specs.Reading.{State, step, finish, read-from, start, read}
 use Rattle.pattern.specs.Places.{place-after, begun-at}
 use Rattle.pattern.specs.Scan.{depth, Begins, an-atom, a-second, a-code, a-group, nothing, begins, refuse, atom-fault, fault}
-use Rattle.pattern.specs.Faults.{Viable, Stops, later-rows, rows-there, rows-at, Applies}
+use Rattle.pattern.specs.Faults.{Viable, Stops, rows-there, rows-at, Applies}
 use Rattle.pattern.proofs.Tests.{On}
 use Rattle.pattern.proofs.SpeltReads.{Leads, by-step, _⨾_, reads-on, complete}
 use Rattle.pattern.proofs.TableRows.{refuse-applies, refuse-none, refuse-lowest, found, found-there, found-rows, rows-ascend, row-number}
