@@ -34,15 +34,15 @@ pub record Set (s : Bytes) (A : ℕ) {o : Sort} (e : ℕ) (t : Syntax o) (i p d 
   pub pooled : record-size * A + p + length (pool t) ≤ length s
 
 module _ (s : Bytes) (A : ℕ) where
-  set-last : {e : ℕ} {a : Syntax atom} {i p d : ℕ} → Set s A e (last a) i p d → Set s A 1 a i p d
+  pub set-last : {e : ℕ} {a : Syntax atom} {i p d : ℕ} → Set s A e (last a) i p d → Set s A 1 a i p d
   unfolding records size pool Good Clean
   set-last h = record { placed = h .placed; good = h .good; clean = h .clean; within = h .within; pooled = h .pooled }
 
-  set-only : {e : ℕ} {q : Syntax pattern} {i p d : ℕ} → Set s A e (only q) i p d → Set s A e q i p d
+  pub set-only : {e : ℕ} {q : Syntax pattern} {i p d : ℕ} → Set s A e (only q) i p d → Set s A e q i p d
   unfolding records size pool Good Clean
   set-only h = record { placed = h .placed; good = h .good; clean = h .clean; within = h .within; pooled = h .pooled }
 
-  set-then : (e : ℕ) (a : Syntax atom) (q : Syntax pattern) (i p d : ℕ) → Set s A e (then a q) i p d → Set s A 0 a i p d × Set s A e q (i + size a) (p + length (pool a)) d
+  pub set-then : (e : ℕ) (a : Syntax atom) (q : Syntax pattern) (i p d : ℕ) → Set s A e (then a q) i p d → Set s A 0 a i p d × Set s A e q (i + size a) (p + length (pool a)) d
   unfolding size pool Good Clean
   set-then e a q i p d h =
       let (x, y) = then-there e a q (h .placed) in
@@ -51,7 +51,7 @@ module _ (s : Bytes) (A : ℕ) where
         record { placed = y; good = h .good .1; clean = h .clean .1; within = omega (arith, h .within); pooled = omega (arith, h .pooled) },
       )
 
-  set-or : (e : ℕ) (q : Syntax pattern) (bs : Syntax branches) (i p d : ℕ) → Set s A e (or q bs) i p d → Set s A e q i p d × Set s A e bs (i + size q) (p + length (pool q)) d
+  pub set-or : (e : ℕ) (q : Syntax pattern) (bs : Syntax branches) (i p d : ℕ) → Set s A e (or q bs) i p d → Set s A e q i p d × Set s A e bs (i + size q) (p + length (pool q)) d
   unfolding size pool Good Clean
   set-or e q bs i p d h =
       let (x, y) = or-there e q bs (h .placed) in
@@ -61,19 +61,19 @@ module _ (s : Bytes) (A : ℕ) where
       )
 
   -- the branches of a group
-  set-group : (e low : ℕ) (high : Option ℕ) (bs : Syntax branches) (i p d : ℕ) → Set s A e (repeat low high (group bs)) i p d → Set s A e bs (suc i) p (suc d)
+  pub set-group : (e low : ℕ) (high : Option ℕ) (bs : Syntax branches) (i p d : ℕ) → Set s A e (repeat low high (group bs)) i p d → Set s A e bs (suc i) p (suc d)
   unfolding records size pool Good Clean
   set-group e low high bs i p d h =
       record { placed = tail-there (h .placed); good = h .good .1 .1; clean = h .clean; within = omega (arith, h .within); pooled = h .pooled }
 
   -- the record of an atom
-  its-there : (e low : ℕ) (high : Option ℕ) (b : Syntax body) (i p : ℕ) → Placed s (bare A) e (repeat low high b) i p → its s A i ≡ rec e low high b i p
+  pub its-there : (e low : ℕ) (high : Option ℕ) (b : Syntax body) (i p : ℕ) → Placed s (bare A) e (repeat low high b) i p → its s A i ≡ rec e low high b i p
   unfolding records
   its-there e low high b i p h =
       let n : record-size * i ≡ 0 + record-size * i = omega arith in
       ap (rec-at s) n ∙ head-there h
 
-  its-ends : (e : ℕ) (a : Syntax atom) (i p : ℕ) → Placed s (bare A) e a i p → its s A i .ends ≡ e
+  pub its-ends : (e : ℕ) (a : Syntax atom) (i p : ℕ) → Placed s (bare A) e a i p → its s A i .ends ≡ e
   its-ends e (repeat low high b) i p h = ap (λ (r : Rec). r .ends) (its-there e low high b i p h)
 
   -- an atom, by its record

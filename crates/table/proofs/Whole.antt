@@ -115,14 +115,14 @@ module _ (t : Syntax pattern) where
       (eq-eqb (length (encode t)) (header-of (encode t) .pool + header-of (encode t) .length) (omega (arith, encode-length t, length-there, atoms-there)))
 
   -- the records and the pool
-  abbrev contents : Bytes
+  abbrev pub contents : Bytes
   contents = flat (records 1 t 0 0) (pool t)
 
-  contents-there : drop header-size (encode t) ≡ contents
+  pub contents-there : drop header-size (encode t) ≡ contents
   unfolding encode header
   contents-there = refl
 
-  set-encode : Limited t → Clean t → Set contents (size t) 1 t 0 0 0
+  pub set-encode : Limited t → Clean t → Set contents (size t) 1 t 0 0 0
   set-encode g c =
       let n : record-size * size t + 0 ≡ 0 + record-size * length (records 1 t 0 0) = omega (arith, count-records 1 t 0 0) in
       record {
