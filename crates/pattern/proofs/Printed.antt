@@ -55,7 +55,7 @@ low-printed n h = go (eqb n 0) (eqb→eq n 0)
     go true t = rw (t tt) missing
     go false t = given (number-printed n h)
 
-count-printed : (low : ℕ) (high : Option ℕ) → Fits low high → Count low high (print-count low high)
+pub count-printed : (low : ℕ) (high : Option ℕ) → Fits low high → Count low high (print-count low high)
 unfolding print-count Small
 count-printed low none (x, y, z) = from (low-printed low x)
 count-printed low (some high) (x, y, z) = go (eqb low high) (eqb→eq low high)
@@ -65,7 +65,7 @@ count-printed low (some high) (x, y, z) = go (eqb low high) (eqb→eq low high)
     go false t = range (low-printed low x) (number-printed high y)
 
 -- the bytes of a literal's value
-Printable : Bytes → Type 0
+unfoldable pub Printable : Bytes → Type 0
 Printable [] = Unit {0}
 Printable (c ∷ v) = T (between 32 126 c) × Printable v
 
@@ -73,7 +73,7 @@ plain-text : (c : ℕ) → T (between 32 126 c) → eqb c 34 ≡ false → text 
 unfolding text
 plain-text c t e = rw (e, passed (between 32 126 c) t)
 
-quoted-printed : (v : Bytes) (a : Bytes) (u : Bytes) → Quoted a u → Printable v → Quoted (a ++ v) (u ++ double v)
+pub quoted-printed : (v : Bytes) (a : Bytes) (u : Bytes) → Quoted a u → Printable v → Quoted (a ++ v) (u ++ double v)
 unfolding double Printable
 quoted-printed [] a u h p = rw (append-nil a, append-nil u) h
 quoted-printed (c ∷ v) a u h (p, r) = go (eqb c 34) refl (eqb→eq c 34) (λ x y q. quoted-printed v x y q r)
@@ -123,7 +123,7 @@ sets-fit : T (all 128 (λ set. spelt-as (print-set all-codes set) set))
 unfolding all spelt-as lettered is-letter union kind between all-codes bit-among bit print-set
 sets-fit = tt
 
-letters-printed : (set : ℕ) → 0 < set → set < set-limit → Letters set (print-set all-codes set)
+pub letters-printed : (set : ℕ) → 0 < set → set < set-limit → Letters set (print-set all-codes set)
 letters-printed set h l = go (print-set all-codes set) (all-at 128 (λ x. spelt-as (print-set all-codes x) x) sets-fit set l)
   where
     go : (w : Bytes) → T (spelt-as w set) → Letters set w
@@ -138,7 +138,7 @@ unfolding bit-among
 bit-some [] b c h = h
 bit-some (l ∷ ls) b c h = cond-case (eqb (l .letter) c || eqb (l .letter + 32) c) (λ x. 0 < x) (λ t. h) (λ t. bit-some ls (b * 2) c (omega arith))
 
-letters-some : {set : ℕ} {s : Bytes} → Letters set s → 0 < set
+pub letters-some : {set : ℕ} {s : Bytes} → Letters set s → 0 < set
 unfolding bit
 letters-some (Letters.one c d) = bit-some all-codes 1 c (omega arith)
 letters-some (Letters.more {set} h c d) = omega (arith, letters-some h, or-add-and set (bit c), and-le-r set (bit c))
@@ -148,7 +148,7 @@ unfolding Printable
 printable-more [] c p t = (t, tt)
 printable-more (x ∷ v) c (a, p) t = (a, printable-more v c p t)
 
-quoted-printable : {v : Bytes} {s : Bytes} → Quoted v s → Printable v
+pub quoted-printable : {v : Bytes} {s : Bytes} → Quoted v s → Printable v
 unfolding Printable between
 quoted-printable start = tt
 quoted-printable (byte {v} h c e) = printable-more v c (quoted-printable h) (rw e at (text-byte c))

@@ -1,0 +1,5 @@
+pub mod Storing
+pub mod Parting
+pub mod Views
+pub mod Walking
+pub mod Writing

@@ -1,0 +1,11 @@
+pub mod Options
+pub mod Places
+pub mod Clean
+pub mod Sound
+pub mod Complete
+pub mod Whole
+pub mod Measures
+pub mod Leafing
+pub mod Steps
+pub mod Moves
+pub mod Checks

@@ -1,0 +1,245 @@
+-- Lengths of what is printed, and steps along lists. Assumes nothing.
+use mathlib.Core.Path.{_≡_, refl, sym, ap, ap₂, _∙_}
+use mathlib.Core.Bool.{Bool, true, false, _&&_}
+use mathlib.Core.List.{List, [], _∷_, _++_}
+use mathlib.Core.Option.{Option, none, some}
+use Prim.Native.Nat.{ℕ, zero, suc, _+_, _*_, _/_, _%_, _<_, _≤_}
+use native.Mathlib.Omega.{arith}
+use lib.Dec.{T, ltb, leb, eqb, eqb→eq, leb→le}
+use lib.ListN.{length, getD, take, drop, length-append, drop-of-length-le}
+use lib.Seq.{drop-cons, getD-take, length-take-le}
+use borrow.Author.Tests.{lt-ltb, le-ltb, le-leb, lt-leb, eq-eqb, ne-eqb}
+use Rattle.pattern.specs.Numbers.{zero-byte, point-byte, quote-byte, open-high, header-size}
+use Rattle.pattern.specs.Bytes.{Bytes, between, same}
+use Rattle.pattern.specs.Codes.{Code, all-codes}
+use Rattle.pattern.specs.Print.{decimal-of, decimal, print-low, print-count, print-set, double}
+use Rattle.pattern.specs.Decode.{high-of}
+use Rattle.pattern.proofs.Tests.{if-true, if-false, all, all-at}
+use Rattle.table.specs.Opening.{pick, opening, header-of, headed, opened-of}
+use Rattle.table.specs.Checked.{plain}
+use Rattle.table.specs.Leaves.{text-of}
+use Rattle.table.specs.declared.opening.Opened.{Opened}
+use Rattle.table.specs.declared.opening.Opened.the-variants as opened
+use Rattle.table.specs.declared.lengths.Text.the-variants as texts
+
+-- ---- numbers
+
+few : (f n : ℕ) → n < 10 → length (decimal-of (suc f) n) ≡ 1
+unfolding decimal-of
+few f n h = ap length (if-true _ _ _ (lt-ltb n 10 h))
+
+more : (f n : ℕ) → 10 ≤ n → length (decimal-of (suc f) n) ≡ length (decimal-of f (n / 10)) + 1
+unfolding decimal-of
+more f n h = ap length (if-false _ _ _ (le-ltb n 10 h)) ∙ length-append (decimal-of f (n / 10)) _
+
+last-digit : (n : ℕ) → length (decimal-of 0 n) ≡ 1
+unfolding decimal-of
+last-digit n = refl
+
+pub digits-1 : (n : ℕ) → n < 10 → 1 ≡ length (decimal n)
+unfolding decimal
+digits-1 n h = sym (few 2 n h)
+
+pub digits-2 : (n : ℕ) → 10 ≤ n → n < 100 → 2 ≡ length (decimal n)
+unfolding decimal
+digits-2 n h k = omega (arith, more 2 n h, few 1 (n / 10) (omega arith))
+
+pub digits-3 : (n : ℕ) → 100 ≤ n → n < 1000 → 3 ≡ length (decimal n)
+unfolding decimal
+digits-3 n h k = omega (arith, more 2 n (omega arith), more 1 (n / 10) (omega arith), few 0 (n / 10 / 10) (omega arith))
+
+pub digits-4 : (n : ℕ) → 1000 ≤ n → 4 ≡ length (decimal n)
+unfolding decimal
+digits-4 n h = omega (arith, more 2 n (omega arith), more 1 (n / 10) (omega arith), more 0 (n / 10 / 10) (omega arith), last-digit (n / 10 / 10 / 10))
+
+pub low-none : (n : ℕ) → n ≡ 0 → 0 ≡ length (print-low n)
+unfolding print-low
+low-none n e = sym (ap length (if-true _ _ _ (eq-eqb n 0 e)))
+
+pub low-some : (n : ℕ) → (n ≡ 0 → ⊥) → length (decimal n) ≡ length (print-low n)
+unfolding print-low
+low-some n e = sym (ap length (if-false _ _ _ (ne-eqb n 0 e)))
+
+-- ---- counts
+
+module _ (low high : ℕ) where
+  pub count-open : (a : ℕ) → high ≡ open-high → a ≡ length (print-low low) → a + 1 ≡ length (print-count low (high-of high))
+  unfolding high-of print-count
+  count-open a e f =
+      omega (arith, f, length-append (print-low low) (point-byte ∷ []))
+      ∙ sym (ap (λ (h : Option ℕ). length (print-count low h)) (if-true _ _ _ (eq-eqb high open-high e)))
+
+  closed : (high ≡ open-high → ⊥) → high-of high ≡ some high
+  unfolding high-of
+  closed n = if-false _ _ _ (ne-eqb high open-high n)
+
+  pub count-exact : (high ≡ open-high → ⊥) → low ≡ high → length (decimal low) ≡ length (print-count low (high-of high))
+  unfolding print-count
+  count-exact n e = sym (ap (λ (h : Option ℕ). length (print-count low h)) (closed n) ∙ ap length (if-true _ _ _ (eq-eqb low high e)))
+
+  pub count-two : (a b : ℕ) → (high ≡ open-high → ⊥) → (low ≡ high → ⊥) → a ≡ length (print-low low) → b ≡ length (decimal high) → a + 1 + b ≡ length (print-count low (high-of high))
+  unfolding print-count
+  count-two a b n e f g =
+      omega (arith, f, g, length-append (print-low low) (point-byte ∷ decimal high))
+      ∙ sym (ap (λ (h : Option ℕ). length (print-count low h)) (closed n) ∙ ap length (if-false _ _ _ (ne-eqb low high e)))
+
+-- ---- sets
+
+-- how many letters n sets from i on have
+unfoldable pub counts : (i n : ℕ) → List ℕ
+counts i zero = []
+counts i (suc n) = length (print-set all-codes i) ∷ counts (suc i) n
+
+counts-at : (i n k : ℕ) → k < n → getD (counts i n) k 0 ≡ length (print-set all-codes (i + k))
+unfolding counts
+counts-at i zero k h = absurd (omega arith)
+counts-at i (suc n) zero h = let e : i ≡ i + 0 = omega arith in ap (λ x. length (print-set all-codes x)) e
+counts-at i (suc n) (suc k) h =
+    let e : suc i + k ≡ i + suc k = omega arith in
+    counts-at (suc i) n k (omega arith) ∙ ap (λ x. length (print-set all-codes x)) e
+
+few-letters : (cs : List Code) (set : ℕ) → length (print-set cs set) ≤ length cs
+unfolding print-set
+few-letters [] set = omega arith
+few-letters (c ∷ cs) set = go (eqb (set % 2) 1) (few-letters cs (set / 2))
+  where
+    go : (b : Bool) → length (print-set cs (set / 2)) ≤ length cs
+        → length {A = ℕ} (elim b [ true ↦ c .letter ∷ print-set cs (set / 2) | false ↦ print-set cs (set / 2) ]) ≤ suc (length cs)
+    go true h = omega arith
+    go false h = omega arith
+
+seven-letters : (set : ℕ) → length (print-set all-codes set) ≤ 7
+unfolding all-codes
+seven-letters set = few-letters all-codes set
+
+pub letters-at : (set : ℕ) → set < 128 → getD (counts 0 128) set 0 ≡ length (print-set all-codes set)
+letters-at set h =
+    let e : 0 + set ≡ set = omega arith in
+    counts-at 0 128 set h ∙ ap (λ x. length (print-set all-codes x)) e
+
+pub letters-small : (set : ℕ) → set < 128 → getD (counts 0 128) set 0 ≤ 7
+letters-small set h = omega (arith, letters-at set h, seven-letters set)
+
+-- ---- steps along lists
+
+pub same-step : (u v : Bytes) (i j : ℕ) → j ≡ i + 1 → i < length u → i < length v → same (drop i u) (drop i v) ≡ eqb (getD u i 0) (getD v i 0) && same (drop j u) (drop j v)
+unfolding same
+same-step u v i j e h k =
+    let n : suc i ≡ j = omega (arith, e) in
+    ap₂ same (drop-cons u i 0 h) (drop-cons v i 0 k) ∙ ap (λ m. eqb (getD u i 0) (getD v i 0) && same (drop m u) (drop m v)) n
+
+plain-step : (v : Bytes) (i j : ℕ) → j ≡ i + 1 → i < length v → plain (drop i v) ≡ (leb 32 (getD v i 0) && leb (getD v i 0) 126) && plain (drop j v)
+unfolding plain between
+plain-step v i j e h =
+    let n : suc i ≡ j = omega (arith, e) in
+    ap plain (drop-cons v i 0 h) ∙ ap (λ m. (leb 32 (getD v i 0) && leb (getD v i 0) 126) && plain (drop m v)) n
+
+-- a byte has two bytes in the source if it is a quote, else one
+abbrev shown : Bool → ℕ
+shown true = 2
+shown false = 1
+
+pub double-cons : (b : ℕ) (v : Bytes) → length (double (b ∷ v)) ≡ shown (eqb b quote-byte) + length (double v)
+unfolding double
+double-cons b v = go (eqb b quote-byte)
+  where
+    go : (t : Bool) → length {A = ℕ} (elim t [ true ↦ quote-byte ∷ quote-byte ∷ double v | false ↦ b ∷ double v ]) ≡ shown t + length (double v)
+    go true = omega arith
+    go false = omega arith
+
+double-step : (v : Bytes) (i j : ℕ) → j ≡ i + 1 → i < length v → length (double (drop i v)) ≡ shown (eqb (getD v i 0) quote-byte) + length (double (drop j v))
+double-step v i j e h =
+    let n : suc i ≡ j = omega (arith, e) in
+    ap (λ x. length (double x)) (drop-cons v i 0 h) ∙ double-cons (getD v i 0) (drop (suc i) v) ∙ ap (λ m. shown (eqb (getD v i 0) quote-byte) + length (double (drop m v))) n
+
+shown-two : (t : Bool) → shown t ≤ 2
+shown-two true = omega arith
+shown-two false = omega arith
+
+pub double-length : (v : Bytes) → length (double v) ≤ 2 * length v
+unfolding double
+double-length [] = omega arith
+double-length (b ∷ v) = omega (arith, double-cons b v, shown-two (eqb b quote-byte), double-length v)
+
+-- ---- the mark, byte by byte
+
+whole : (k : ℕ) {m : ℕ} → m ≡ k → m ≤ k
+whole k e = omega arith
+
+module _ (t : Bytes) (i : ℕ) (long : 5 ≤ length t) where
+  abbrev Marked : ℕ → Type 0
+  Marked k = same (take 5 t) opening ≡ same (drop k (take 5 t)) (drop k opening)
+
+  mark-step : i < 5 → same (drop i (take 5 t)) (drop i opening) ≡ eqb (getD t i 0) (getD opening i 0) && same (drop (i + 1) (take 5 t)) (drop (i + 1) opening)
+  mark-step h =
+      same-step (take 5 t) opening i (i + 1) refl (omega (arith, length-take-le 5 t long)) h
+      ∙ ap (λ x. eqb x (getD opening i 0) && same (drop (i + 1) (take 5 t)) (drop (i + 1) opening)) (getD-take 5 t i 0 h)
+
+  pub mark-off : i < 5 → Marked i → (getD t i 0 ≡ getD opening i 0 → ⊥) → false ≡ same (take 5 t) opening
+  mark-off h e n = sym (e ∙ mark-step h ∙ ap (λ b. b && same (drop (i + 1) (take 5 t)) (drop (i + 1) opening)) (ne-eqb _ _ n))
+
+  pub mark-on : i < 5 → Marked i → getD t i 0 ≡ getD opening i 0 → Marked (i + 1)
+  mark-on h e n = e ∙ mark-step h ∙ ap (λ b. b && same (drop (i + 1) (take 5 t)) (drop (i + 1) opening)) (eq-eqb _ _ n)
+
+  pub mark-end : i ≤ 5 → 5 ≤ i → Marked i → true ≡ same (take 5 t) opening
+  unfolding same
+  mark-end h k e =
+      let n : i ≡ 5 = omega arith in
+      sym (e ∙ ap (λ j. same (drop j (take 5 t)) (drop j opening)) n ∙ ap (λ l. same l []) (drop-of-length-le (take 5 t) (whole 5 (length-take-le 5 t long))))
+
+-- ---- a literal, byte by byte
+
+module _ (v : Bytes) (i : ℕ) where
+  abbrev Plain : ℕ → Type 0
+  Plain k = plain v ≡ plain (drop k v)
+
+  pub text-low : i < length v → Plain i → getD v i 0 < 32 → texts.Bad ≡ text-of v
+  unfolding text-of pick
+  text-low h e n = sym (ap (λ b. pick b (texts.Length (length (double v))) texts.Bad) (e ∙ plain-step v i (i + 1) refl h ∙ ap (λ b. (b && leb (getD v i 0) 126) && plain (drop (i + 1) v)) (lt-leb _ _ n)))
+
+  pub text-high : i < length v → Plain i → 32 ≤ getD v i 0 → 126 < getD v i 0 → texts.Bad ≡ text-of v
+  unfolding text-of pick
+  text-high h e m n = sym (ap (λ b. pick b (texts.Length (length (double v))) texts.Bad) (e ∙ plain-step v i (i + 1) refl h ∙ ap₂ (λ a b. (a && b) && plain (drop (i + 1) v)) (le-leb _ _ m) (lt-leb _ _ n)))
+
+  pub text-on : i < length v → Plain i → 32 ≤ getD v i 0 → getD v i 0 ≤ 126 → Plain (i + 1)
+  text-on h e m n = e ∙ plain-step v i (i + 1) refl h ∙ ap₂ (λ a b. (a && b) && plain (drop (i + 1) v)) (le-leb _ _ m) (le-leb _ _ n)
+
+  pub quote-on : i < length v → getD v i 0 ≡ quote-byte → length (double (drop i v)) ≡ 2 + length (double (drop (i + 1) v))
+  quote-on h e = double-step v i (i + 1) refl h ∙ ap (λ b. shown b + length (double (drop (i + 1) v))) (eq-eqb _ _ e)
+
+  pub other-on : i < length v → (getD v i 0 ≡ quote-byte → ⊥) → length (double (drop i v)) ≡ 1 + length (double (drop (i + 1) v))
+  other-on h e = double-step v i (i + 1) refl h ∙ ap (λ b. shown b + length (double (drop (i + 1) v))) (ne-eqb _ _ e)
+
+  pub text-end : (n : ℕ) → length v ≤ i → Plain i → length (double v) ≡ n + length (double (drop i v)) → texts.Length n ≡ text-of v
+  unfolding text-of pick plain double
+  text-end n h e f =
+      let z = drop-of-length-le v h in
+      let q : length (double (drop i v)) ≡ 0 = ap (λ x. length (double x)) z in
+      let m : n ≡ length (double v) = omega (arith, f, q) in
+      ap (λ x. texts.Length x) m ∙ sym (ap (λ b. pick b (texts.Length (length (double v))) texts.Bad) (e ∙ ap plain z))
+
+-- ---- a header
+
+module _ (s : Bytes) where
+  abbrev Heads : Bool → Bool → Bool → Opened
+  Heads a b c = pick ((a && b) && c) (opened.Table (header-of s)) opened.Bad
+
+  heads : (a b c : Bool) → leb header-size (length s) ≡ a → same (take 5 s) opening ≡ b → eqb (length s) (header-of s .pool + header-of s .length) ≡ c → opened-of s ≡ Heads a b c
+  unfolding opened-of headed
+  heads a b c e f g = ap₂ (λ x y. Heads x y (eqb (length s) (header-of s .pool + header-of s .length))) e f ∙ ap (λ z. Heads a b z) g
+
+  pub head-short : length s < header-size → opened.Bad ≡ opened-of s
+  unfolding pick
+  head-short h = sym (heads false (same (take 5 s) opening) _ (lt-leb _ _ h) refl refl)
+
+  pub head-off : header-size ≤ length s → same (take 5 s) opening ≡ false → opened.Bad ≡ opened-of s
+  unfolding pick
+  head-off h e = sym (heads true false _ (le-leb _ _ h) e refl)
+
+  pub head-wrong : header-size ≤ length s → same (take 5 s) opening ≡ true → (length s ≡ header-of s .pool + header-of s .length → ⊥) → opened.Bad ≡ opened-of s
+  unfolding pick
+  head-wrong h e n = sym (heads true true false (le-leb _ _ h) e (ne-eqb _ _ n))
+
+  pub head-right : header-size ≤ length s → same (take 5 s) opening ≡ true → length s ≡ header-of s .pool + header-of s .length → opened.Table (header-of s) ≡ opened-of s
+  unfolding pick
+  head-right h e n = sym (heads true true true (le-leb _ _ h) e (eq-eqb _ _ n))

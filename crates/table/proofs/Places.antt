@@ -1,0 +1,50 @@
+-- The bytes of records and of the pool, from a place of a table on. Assumes nothing.
+use mathlib.Core.Path.{_≡_, refl, sym, ap, ap₂, _∙_}
+use mathlib.Core.List.{List, [], _∷_, _++_, append-assoc}
+use Prim.Native.Nat.{ℕ, zero, suc, _+_, _*_, _/_, _%_, _<_, _≤_}
+use native.Mathlib.Nat.{add-assoc}
+use native.Mathlib.Omega.{arith}
+use lib.ListN.{length, getD, take, drop, length-append}
+use lib.Seq.{drop-cons, drop-drop}
+use Rattle.pattern.specs.Bytes.{Bytes, word}
+use Rattle.pattern.specs.Table.{Rec, flat}
+use Rattle.pattern.specs.Decode.{field, rec-at}
+use Rattle.pattern.proofs.Records.{flat-append}
+
+module _ (s : Bytes) where
+  pub step : (j k : ℕ) {ys : Bytes} → k ≡ suc j → j < length s → drop k s ≡ ys → drop j s ≡ getD s j 0 ∷ ys
+  step j k n h e = drop-cons s j 0 h ∙ ap (λ y. getD s j 0 ∷ y) (ap (λ m. drop m s) (sym n) ∙ e)
+
+  module _ (bytes : (k : ℕ) → getD s k 0 < 256) where
+    halves : (x y : ℕ) → x < 256 → ((x + 256 * y) % 256 ≡ x) × ((x + 256 * y) / 256 ≡ y)
+    halves x y h = (omega arith, omega arith)
+
+    pub pair : (j k : ℕ) {ys : Bytes} → k ≡ j + 2 → k ≤ length s → drop k s ≡ ys → drop j s ≡ word (field s j) ys
+    pair j k {ys} n h e =
+        let (lo, hi) = halves (getD s j 0) (getD s (j + 1) 0) (bytes j) in
+        step j (j + 1) (omega arith) (omega arith) (step (j + 1) k (omega arith) (omega arith) e)
+        ∙ ap₂ (λ x y. x ∷ y ∷ ys) (sym lo) (sym hi)
+
+    -- a record's ten bytes
+    pub ten : (j k : ℕ) → k ≡ j + 10 → k ≤ length s → drop j s ≡ flat (rec-at s j ∷ []) (drop k s)
+    unfolding flat
+    ten j k n h =
+        step j (j + 1) (omega arith) (omega arith)
+        (step (j + 1) (j + 2) (omega arith) (omega arith)
+        (pair (j + 2) (j + 4) (omega arith) (omega arith)
+        (pair (j + 4) (j + 6) (omega arith) (omega arith)
+        (pair (j + 6) (j + 8) (omega arith) (omega arith)
+        (pair (j + 8) k (omega arith) (omega arith) refl)))))
+
+  -- two runs of records, one after the other, at the places of their first atoms
+  pub then-records : (F : ℕ → ℕ) (xs ys : List Rec) (i m n : ℕ) → drop (F i) s ≡ flat xs (drop (F (i + m)) s) → drop (F (i + m)) s ≡ flat ys (drop (F (i + m + n)) s)
+      → drop (F i) s ≡ flat (xs ++ ys) (drop (F (i + (m + n))) s)
+  then-records F xs ys i m n e g =
+      e ∙ ap (flat xs) (g ∙ ap (λ k. flat ys (drop (F k) s)) (add-assoc i m n)) ∙ sym (flat-append xs ys _)
+
+  -- two runs of the pool, one after the other
+  pub then-text : (o p : ℕ) (v w : Bytes) → drop (o + p) s ≡ v ++ drop (o + (p + length v)) s → drop (o + (p + length v)) s ≡ w ++ drop (o + (p + length v + length w)) s
+      → drop (o + p) s ≡ v ++ w ++ drop (o + (p + length (v ++ w))) s
+  then-text o p v w e g =
+      let n : p + length v + length w ≡ p + length (v ++ w) = omega (arith, length-append v w) in
+      e ∙ ap (λ x. v ++ x) (g ∙ ap (λ k. w ++ drop (o + k) s) n) ∙ sym (append-assoc v w _)

@@ -1,0 +1,180 @@
+-- The checked walk with the test of the source's length reads bytes as `decode` does. Assumes nothing.
+use mathlib.Core.Path.{_≡_, refl, sym, ap, ap₂, subst, _∙_}
+use mathlib.Core.Logic.{_⊎_, inl, inr, ⊎-elim}
+use mathlib.Core.Bool.{Bool, true, false, _&&_}
+use mathlib.Core.Option.{Option, none, some, Option·none-ne-some}
+use mathlib.Core.List.{List, [], _∷_, _++_, append-nil}
+use Prim.Native.Nat.{ℕ, zero, suc, _+_, _*_, _/_, _%_, _<_, _≤_}
+use native.Mathlib.Omega.{arith}
+use lib.Dec.{T, leb, eqb}
+use borrow.Author.Tests.{eqb-true, leb-true, le-leb, lt-leb, eq-eqb}
+use lib.ListN.{length, getD, take, drop, take-append-drop, drop-of-length-le, length-drop}
+use lib.Seq.{drop-drop, getD-drop}
+use Rattle.pattern.specs.Numbers.{mark, version, source-limit, atom-limit, header-size, record-size}
+use Rattle.pattern.specs.Bytes.{Bytes, word, same}
+use Rattle.pattern.specs.Syntax.{pattern, Syntax, size}
+use Rattle.pattern.specs.Scan.{accepted, outcome}
+use Rattle.pattern.specs.Within.{Good, Limited}
+use Rattle.pattern.specs.Print.{print}
+use Rattle.pattern.specs.Table.{pool, records, flat, header, encode}
+use Rattle.pattern.specs.Decode.{field, layout, tree-of, decode}
+use Rattle.pattern.proofs.Tests.{Decides, passed, le-or-lt}
+use Rattle.pattern.proofs.Agree.{same-decides}
+use Rattle.pattern.proofs.Accepted.{accepted-exactly}
+use Rattle.pattern.proofs.Records.{length-flat, count-records, next-there}
+use Rattle.pattern.proofs.RoundTrip.{encode-length, tree-encode, good-exactly}
+use Rattle.pattern.proofs.Calls.{print-accepted}
+use Rattle.table.specs.Opening.{opening, header-of, headed}
+use Rattle.table.specs.Checked.{after, only-if, read-pattern, read, walk}
+use Rattle.table.proofs.Options.{inside, after-some, only-some, kept, dropped, going-on, stopped, and-true, true-and}
+use Rattle.table.proofs.Places.{step, pair}
+use Rattle.table.proofs.Clean.{Clean, true-T, clean-spells, spells-clean}
+use Rattle.table.proofs.Sound.{Laid, There, Sound, sound}
+use Rattle.table.proofs.Complete.{Set, found}
+
+-- ---- what a header that passes says
+
+pub record Opens (s : Bytes) : Type 0 where
+  pub long : header-size ≤ length s
+  pub marked : take 5 s ≡ opening
+  pub whole : length s ≡ header-of s .pool + header-of s .length
+
+pub opens : (s : Bytes) → headed s ≡ true → Opens s
+unfolding headed
+opens s e =
+    let (x, c) = and-true (leb header-size (length s) && same (take 5 s) opening) _ e in
+    let (a, b) = and-true (leb header-size (length s)) (same (take 5 s) opening) x in
+    record { long = leb-true _ _ a; marked = same-decides (take 5 s) opening .sound (true-T _ b); whole = eqb-true _ _ c }
+
+-- ---- a tree that is read has these bytes as its table, and is good
+
+pub record Whole (s : Bytes) (t : Syntax pattern) : Type 0 where
+  pub same : encode t ≡ s
+  pub limited : Limited t
+  pub clean : Clean t
+
+module _ (s : Bytes) (bytes : (k : ℕ) → getD s k 0 < 256) where
+  bytes-after : (k : ℕ) → getD (drop header-size s) k 0 < 256
+  bytes-after k = rw (getD-drop header-size s k 0) (bytes (header-size + k))
+
+  open-table : Opens s → s ≡ header (header-of s .atoms) (header-of s .length) (drop header-size s)
+  unfolding header
+  open-table o =
+      sym (take-append-drop 5 s) ∙ ap (λ x. x ++ drop 5 s) (o .marked)
+      ∙ ap (λ x. opening ++ x) (step s 5 6 (omega arith) (omega (arith, o .long)) (pair s bytes 6 8 (omega arith) (o .long) refl))
+
+  pub read-whole : (t : Syntax pattern) → read s ≡ some t → Whole s t
+  unfolding read encode
+  read-whole t e =
+      let A : ℕ = header-of s .atoms in
+      let b : Bytes = drop header-size s in
+      let (h, g) = only-some _ _ e in
+      let (n, g1) = only-some _ _ g in
+      let (u, r, g2) = after-some _ _ g1 in
+      let (c, g3) = only-some _ _ g2 in
+      let (m, g4) = only-some _ _ g3 in
+      let o = opens s h in
+      let lb = length-drop header-size s in
+      let laid : Laid b A = record { bytes = bytes-after; records = omega (arith, o .whole, lb) } in
+      let st = sound b A laid _ .patterns 0 0 0 u (omega (arith, o .whole, lb)) r 1 in
+      let n2 : A ≤ atom-limit = leb-true _ _ n in
+      let c2 : size u ≡ A = eqb-true _ _ c in
+      let m2 : length (pool u) ≡ header-of s .length = eqb-true _ _ m in
+      let at-pool : record-size * (0 + size u) ≡ record-size * A + 0 = omega (arith, c2) in
+      let to-end : length b ≤ record-size * A + (0 + length (pool u)) = omega (arith, o .whole, m2, lb) in
+      let rest : drop (record-size * (0 + size u)) b ≡ pool u =
+      ap (λ k. drop k b) at-pool ∙ st .text ∙ ap (λ x. pool u ++ x) (drop-of-length-le b to-end) ∙ append-nil (pool u) in
+      let all : b ≡ flat (records 1 u 0 0) (pool u) = st .recs ∙ ap (flat (records 1 u 0 0)) rest in
+      subst (Whole s) (inside g4)
+      (record {
+        same = sym (open-table o ∙ ap (header A (header-of s .length)) all ∙ ap (λ k. header k (header-of s .length) (flat (records 1 u 0 0) (pool u))) (sym c2) ∙ ap (λ k. header (size u) k (flat (records 1 u 0 0) (pool u))) (sym m2));
+        limited = record { parts = st .good; atoms = omega (arith, c2, n2) };
+        clean = st .clean;
+      })
+
+-- ---- the table of a good tree is read
+
+module _ (t : Syntax pattern) where
+  length-there : header-of (encode t) .length ≡ length (pool t)
+  unfolding encode header
+  length-there = omega arith
+
+  atoms-there : header-of (encode t) .atoms ≡ size t
+  unfolding encode header
+  atoms-there = refl
+
+  marked-there : same (take 5 (encode t)) opening ≡ true
+  unfolding encode header same
+  marked-there = refl
+
+  headed-encode : headed (encode t) ≡ true
+  unfolding headed
+  headed-encode =
+      true-and _ _
+      (true-and _ _ (le-leb header-size (length (encode t)) (omega (arith, encode-length t))) marked-there)
+      (eq-eqb (length (encode t)) (header-of (encode t) .pool + header-of (encode t) .length) (omega (arith, encode-length t, length-there, atoms-there)))
+
+  -- the records and the pool
+  abbrev pub contents : Bytes
+  contents = flat (records 1 t 0 0) (pool t)
+
+  pub contents-there : drop header-size (encode t) ≡ contents
+  unfolding encode header
+  contents-there = refl
+
+  pub set-encode : Limited t → Clean t → Set contents (size t) 1 t 0 0 0
+  set-encode g c =
+      let n : record-size * size t + 0 ≡ 0 + record-size * length (records 1 t 0 0) = omega (arith, count-records 1 t 0 0) in
+      record {
+        placed = record { left = pool t; over = []; recs = refl; text = next-there contents 0 _ (records 1 t 0 0) (pool t) n refl ∙ sym (append-nil (pool t)) };
+        good = g .parts;
+        clean = c;
+        within = omega arith;
+        pooled = omega (arith, length-flat (records 1 t 0 0) (pool t), count-records 1 t 0 0);
+      }
+
+  pub read-encode : Limited t → Clean t → read (encode t) ≡ some t
+  unfolding read
+  read-encode g c =
+      let a = atoms-there in
+      let f : 3 * size t + 1 < 3 * size t + 2 = omega arith in
+      kept _ _ headed-encode ∙ kept _ _ (le-leb (header-of (encode t) .atoms) atom-limit (omega (arith, a, g .atoms)))
+      ∙ going-on _ _ (ap₂ (λ b A. read-pattern b A (3 * A + 2) 0 0 0) contents-there a ∙ found contents (size t) 1 t _ 0 0 0 (set-encode g c) f)
+      ∙ kept _ _ (eq-eqb _ _ (sym a))
+      ∙ kept _ _ (eq-eqb _ _ (sym length-there))
+
+-- ---- the two agree
+
+module _ (s : Bytes) (bytes : (k : ℕ) → getD s k 0 < 256) where
+  -- what decodes is good, and is read
+  decoded : (u : Syntax pattern) → decode s ≡ some u → (read s ≡ some u) × Good 0 u × (length (print u) ≤ source-limit)
+  decoded u e =
+      let (source, a, m) = good-exactly s u .0 e in
+      let (n, h, g) = accepted-exactly source u .0 a in
+      let (k, _, _) = accepted-exactly (print u) u .0 (print-accepted s u e) in
+      (ap read (sym m) ∙ read-encode u g (spells-clean u source h), g .parts, k)
+
+  -- what is read is the tree of the bytes, if its source is short enough
+  short-decodes : (t : Syntax pattern) → Whole s t → length (print t) ≤ source-limit → decode s ≡ some t
+  short-decodes t w n =
+      good-exactly s t .1 (print t, accepted-exactly (print t) t .1 (n, clean-spells 0 t (w .limited .parts) (w .clean), w .limited), w .same)
+
+  nothing-decodes : (o : Option (Syntax pattern)) → decode s ≡ o → ((u : Syntax pattern) → decode s ≡ some u → ⊥) → o ≡ none
+  nothing-decodes none e f = refl
+  nothing-decodes (some u) e f = absurd (f u e)
+
+  agree : (o : Option (Syntax pattern)) → read s ≡ o → after o (λ t. only-if (leb (length (print t)) source-limit) (some t)) ≡ decode s
+  unfolding after
+  agree none e =
+      sym (nothing-decodes (decode s) refl (λ u d. Option·none-ne-some u (sym e ∙ decoded u d .0)))
+  agree (some t) e =
+      let w = read-whole s bytes t e in
+      ⊎-elim
+      (λ n. kept _ _ (le-leb _ _ n) ∙ sym (short-decodes t w n))
+      (λ n. dropped _ _ (lt-leb _ _ n) ∙ sym (nothing-decodes (decode s) refl (λ u d. let x : t ≡ u = inside (sym e ∙ decoded u d .0) in let k : length (print t) ≤ source-limit = rw x (decoded u d .2) in omega arith)))
+      (le-or-lt (length (print t)) source-limit)
+
+  -- the checked walk is `decode`
+  pub walk-is-decode : walk s ≡ decode s
+  unfolding walk
+  walk-is-decode = agree (read s) refl

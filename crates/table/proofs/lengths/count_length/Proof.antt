@@ -1,0 +1,52 @@
+-- `lengths::count_length` meets its contract: open, one number, two numbers. Assumes nothing.
+use Rattle.table.proofs.Measures.{count-open, count-exact, count-two}
+use mathlib.Core.Path.{_∙_}
+use native.Mathlib.Omega.{arith}
+use borrow.Author.Needs.{needs}
+use Rattle.table.proofs.lengths.count_length.Statement.{statement}
+use Rattle.table.proofs.lengths.count_length.Tie as tie
+
+low-length-requires : tie.Need-low-length-requires
+low-length-requires c κs = search needs
+
+add-result : tie.Need-add-result
+add-result c = search needs
+
+returns : tie.Need-returns
+returns c = (count-open (c .before .before .args .low) (c .before .before .args .high) (c .low-length .result) (c .before .if1 .taken) (c .low-length .ensures .0), omega arith)
+
+digits-requires : tie.Need-digits-requires
+digits-requires c κs = search needs
+
+returns-2 : tie.Need-returns-2
+returns-2 c = (c .digits .ensures .0 ∙ count-exact (c .before .before .before .args .low) (c .before .before .before .args .high) (c .before .before .if1 .left) (c .before .if2 .taken), omega arith)
+
+low-length-requires-2 : tie.Need-low-length-requires-2
+low-length-requires-2 c κs = search needs
+
+add-result-2 : tie.Need-add-result-2
+add-result-2 c = search needs
+
+digits-requires-2 : tie.Need-digits-requires-2
+digits-requires-2 c κs = search needs
+
+add-result-3 : tie.Need-add-result-3
+add-result-3 c = search needs
+
+returns-3 : tie.Need-returns-3
+returns-3 c = (count-two (c .before .before .before .before .args .low) (c .before .before .before .before .args .high) (c .before .low-length2 .result) (c .digits2 .result) (c .before .before .before .if1 .left) (c .before .before .if2 .left) (c .before .low-length2 .ensures .0) (c .digits2 .ensures .0), omega arith)
+
+pub count-length-spec : {M : Type 1} → statement M
+count-length-spec =
+    tie.close
+    (tie.spec
+    low-length-requires
+    add-result
+    returns
+    digits-requires
+    returns-2
+    low-length-requires-2
+    add-result-2
+    digits-requires-2
+    add-result-3
+    returns-3)

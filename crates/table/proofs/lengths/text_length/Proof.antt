@@ -1,0 +1,71 @@
+-- `lengths::text_length` meets its contract: the bytes passed are plain, and the count is that of their doubled bytes. Assumes nothing.
+use Rattle.table.proofs.Measures.{text-low, text-high, text-on, text-end, quote-on, other-on}
+use Rattle.table.specs.Checked.{plain}
+use Rattle.pattern.specs.Print.{double}
+use lib.ListN.{length, drop}
+use Prim.Native.Nat.{_+_, _*_, _-_, _≤_}
+use mathlib.Core.Path.{_≡_, refl}
+use native.Mathlib.Omega.{arith}
+use mathlib.Core.Logic.{⊎-elim}
+use Rattle.table.proofs.lengths.text_length.Statement.{statement}
+use Rattle.table.proofs.lengths.text_length.Tie as tie
+
+abbrev Inv-loop : tie.InvT-loop
+Inv-loop v n₀ i₀ n i = (i ≤ length v) × (n ≤ 2 * i) × (plain v ≡ plain (drop i v)) × (length (double v) ≡ n + length (double (drop i v)))
+
+abbrev μ-loop : tie.MeasureT-loop
+μ-loop v n₀ i₀ n i = length v - i
+
+loop-holds : tie.Need-loop-holds Inv-loop μ-loop
+loop-holds c = (omega arith, omega arith, refl, omega arith)
+
+shared-slice-read-b : tie.Need-shared-slice-read-b Inv-loop μ-loop
+shared-slice-read-b c = omega arith
+
+returns : tie.Need-returns Inv-loop μ-loop
+returns c = text-low (c .before .before .before .before .args .v .now) (c .before .before .before .loop .i) (omega arith) (c .before .before .before .loop .inv .2) (c .if1 .taken)
+
+returns-2 : tie.Need-returns-2 Inv-loop μ-loop
+returns-2 c = text-high (c .before .before .before .before .before .args .v .now) (c .before .before .before .before .loop .i) (omega arith) (c .before .before .before .before .loop .inv .2) (c .before .if1 .left) (c .if2 .taken)
+
+add-n : tie.Need-add-n Inv-loop μ-loop
+add-n c = omega arith
+
+add-n-2 : tie.Need-add-n-2 Inv-loop μ-loop
+add-n-2 c = ⊎-elim (λ w. omega arith) (λ w. omega arith) (c .before .if3 .came)
+
+add-i : tie.Need-add-i Inv-loop μ-loop
+add-i c = omega arith
+
+loop-less : tie.Need-loop-less Inv-loop μ-loop
+loop-less c = omega arith
+
+loop-again : tie.Need-loop-again Inv-loop μ-loop
+loop-again c =
+    let v = c .before .before .before .before .before .before .before .args .v .now in
+    let l = c .before .before .before .before .before .before .loop in
+    let on = text-on v (l .i) (omega arith) (l .inv .2) (c .before .before .before .if1 .left) (c .before .before .if2 .left) in
+    ⊎-elim
+    (λ w. let q = quote-on v (l .i) (omega arith) (w .0 .taken) in (omega arith, omega arith, on, omega (arith, q)))
+    (λ w. let q = other-on v (l .i) (omega arith) (w .0 .left) in (omega arith, omega arith, on, omega (arith, q)))
+    (c .before .if3 .came)
+
+returns-3 : tie.Need-returns-3 Inv-loop μ-loop
+returns-3 c = text-end (c .before .before .args .v .now) (c .before .loop .i) _ (omega arith) (c .before .loop .inv .2) (c .before .loop .inv .3)
+
+pub text-length-spec : {M : Type 1} → statement M
+text-length-spec =
+    tie.close
+    (tie.spec
+    Inv-loop
+    μ-loop
+    loop-holds
+    shared-slice-read-b
+    returns
+    returns-2
+    add-n
+    add-n-2
+    add-i
+    loop-less
+    loop-again
+    returns-3)

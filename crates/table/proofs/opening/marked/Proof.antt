@@ -1,0 +1,55 @@
+-- `opening::marked` meets its contract: the bytes passed are those of the mark. Assumes nothing.
+use Rattle.table.proofs.Measures.{mark-off, mark-on, mark-end}
+use Rattle.table.specs.Opening.{opening}
+use Rattle.pattern.specs.Bytes.{same}
+use lib.ListN.{take, drop}
+use Prim.Native.Nat.{_-_, _≤_}
+use mathlib.Core.Path.{_≡_, refl}
+use native.Mathlib.Omega.{arith}
+use Rattle.table.proofs.opening.marked.Statement.{statement}
+use Rattle.table.proofs.opening.marked.Tie as tie
+
+abbrev Inv-loop : tie.InvT-loop
+Inv-loop table i₀ i = (i ≤ 5) × (same (take 5 table) opening ≡ same (drop i (take 5 table)) (drop i opening))
+
+abbrev μ-loop : tie.MeasureT-loop
+μ-loop table i₀ i = 5 - i
+
+loop-holds : tie.Need-loop-holds Inv-loop μ-loop
+loop-holds c = (omega arith, refl)
+
+shared-slice-read-if1 : tie.Need-shared-slice-read-if1 Inv-loop μ-loop
+shared-slice-read-if1 c = omega arith
+
+array-read-if1 : tie.Need-array-read-if1 Inv-loop μ-loop
+array-read-if1 c = omega arith
+
+returns : tie.Need-returns Inv-loop μ-loop
+returns c = mark-off (c .before .before .before .before .args .table .now) (c .before .before .before .loop .i) (c .before .before .before .before .pre) (omega arith) (c .before .before .before .loop .inv .1) (c .if1 .taken)
+
+add-i : tie.Need-add-i Inv-loop μ-loop
+add-i c = omega arith
+
+loop-less : tie.Need-loop-less Inv-loop μ-loop
+loop-less c = omega arith
+
+loop-again : tie.Need-loop-again Inv-loop μ-loop
+loop-again c = (omega arith, mark-on (c .before .before .before .before .args .table .now) (c .before .before .before .loop .i) (c .before .before .before .before .pre) (omega arith) (c .before .before .before .loop .inv .1) (c .if1 .left))
+
+returns-2 : tie.Need-returns-2 Inv-loop μ-loop
+returns-2 c = mark-end (c .before .before .args .table .now) (c .before .loop .i) (c .before .before .pre) (omega arith) (omega arith) (c .before .loop .inv .1)
+
+pub marked-spec : {M : Type 1} → statement M
+marked-spec =
+    tie.close
+    (tie.spec
+    Inv-loop
+    μ-loop
+    loop-holds
+    shared-slice-read-if1
+    array-read-if1
+    returns
+    add-i
+    loop-less
+    loop-again
+    returns-2)

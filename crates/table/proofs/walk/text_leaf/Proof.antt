@@ -1,0 +1,81 @@
+-- `walk::text_leaf` meets its contract, case by case. Assumes nothing.
+use Prim.Native.Nat.{_+_, _*_, _-_}
+use Rattle.table.proofs.Leafing.{text-apart, text-past, text-bad, text-good}
+use mathlib.Core.Path.{_∙_, sym}
+use native.Mathlib.Omega.{arith}
+use borrow.Author.Needs.{needs}
+use Rattle.table.proofs.walk.text_leaf.Statement.{statement}
+use Rattle.table.proofs.walk.text_leaf.Tie as tie
+
+mul-from : tie.Need-mul-from
+mul-from c = search needs
+
+add-from : tie.Need-add-from
+add-from c = search needs
+
+add-to : tie.Need-add-to
+add-to c = search needs
+
+sub-text-length : tie.Need-sub-text-length
+sub-text-length c = search needs
+
+part-text-length-start : tie.Need-part-text-length-start
+part-text-length-start c = search needs
+
+part-text-length-end : tie.Need-part-text-length-end
+part-text-length-end c = search needs
+
+text-length-requires : tie.Need-text-length-requires
+text-length-requires c κs = search needs
+
+enum-known-n : tie.Need-enum-known-n
+enum-known-n c = search needs
+
+add-t19 : tie.Need-add-t19
+add-t19 c =
+    let a = c .before .before .before .before .before .before .before .before .args in
+    let (e, m) = text-good (a .body .now) (a .atoms) (a .a) (a .b) (a .p) (10 * a .atoms + a .p + a .b - (10 * a .atoms + a .p)) _ (c .before .before .before .before .before .before .if1 .taken) (c .before .before .before .before .before .if2 .taken) (omega arith) (sym (c .before .n .given .1) ∙ c .before .before .before .text-length .ensures) in
+    omega (arith, m)
+
+returns : tie.Need-returns
+returns c =
+    let a = c .before .before .before .before .before .before .before .before .args in
+    let (e, m) = text-good (a .body .now) (a .atoms) (a .a) (a .b) (a .p) (10 * a .atoms + a .p + a .b - (10 * a .atoms + a .p)) _ (c .before .before .before .before .before .before .if1 .taken) (c .before .before .before .before .before .if2 .taken) (omega arith) (sym (c .before .n .given .1) ∙ c .before .before .before .text-length .ensures) in
+    record { short = (c .before .before .before .before .before .if2 .taken, omega (arith, m)); reads = e }
+
+enum-told : tie.Need-enum-told
+enum-told c = search needs
+
+returns-2 : tie.Need-returns-2
+returns-2 c =
+    let a = c .before .before .before .before .before .before .before .args in
+    record { short = tt; reads = text-bad (a .body .now) (a .atoms) (a .a) (a .b) (a .p) (10 * a .atoms + a .p + a .b - (10 * a .atoms + a .p)) (c .before .before .before .before .before .if1 .taken) (c .before .before .before .before .if2 .taken) (omega arith) (sym (c .enum-told .given .1) ∙ c .before .before .text-length .ensures) }
+
+returns-3 : tie.Need-returns-3
+returns-3 c =
+    let a = c .before .before .before .args in
+    record { short = tt; reads = text-past (a .body .now) (a .atoms) (a .a) (a .b) (a .p) (c .before .if1 .taken) (c .if2 .left) }
+
+returns-4 : tie.Need-returns-4
+returns-4 c =
+    let a = c .before .before .args in
+    record { short = tt; reads = text-apart (a .body .now) (a .atoms) (a .a) (a .b) (a .p) (c .if1 .left) }
+
+pub text-leaf-spec : {M : Type 1} → statement M
+text-leaf-spec =
+    tie.close
+    (tie.spec
+    mul-from
+    add-from
+    add-to
+    sub-text-length
+    part-text-length-start
+    part-text-length-end
+    text-length-requires
+    enum-known-n
+    add-t19
+    returns
+    enum-told
+    returns-2
+    returns-3
+    returns-4)

@@ -1,0 +1,108 @@
+-- The reading of a table's records with every check: the tree that the test walks. Assumes nothing.
+use mathlib.Core.Bool.{Bool, true, false, _&&_, _||_}
+use mathlib.Core.List.{List, [], _∷_}
+use mathlib.Core.Option.{Option, none, some}
+use Prim.Native.Nat.{ℕ, zero, suc, _+_, _*_, pred}
+use lib.Dec.{leb, ltb, eqb}
+use lib.ListN.{length, take, drop}
+use Rattle.pattern.specs.Numbers.{source-limit, atom-limit, depth-limit, number-limit, set-limit, record-size, open-high}
+use Rattle.pattern.specs.Bytes.{Bytes, between}
+use Rattle.pattern.specs.Syntax.{pattern, atom, body, branches, Syntax, last, then, repeat, codes, literal, group, only, or, size}
+use Rattle.pattern.specs.Print.{print}
+use Rattle.pattern.specs.Table.{pool, Rec}
+use Rattle.pattern.specs.Decode.{rec-at, high-of}
+use Rattle.table.specs.Opening.{header-of, headed}
+
+-- ---- tests one after the other
+
+unfoldable pub after : {A B : Type 0} → Option A → (A → Option B) → Option B
+after (some x) k = k x
+after none k = none
+
+unfoldable pub only-if : {A : Type 0} → Bool → Option A → Option A
+only-if true x = x
+only-if false x = none
+
+unfoldable pub choose : {A : Type 0} → Bool → Option A → Option A → Option A
+choose true x y = x
+choose false x y = y
+
+-- ---- the fields of a record
+
+-- the bytes of a literal
+unfoldable pub plain : Bytes → Bool
+plain [] = true
+plain (b ∷ v) = between 32 126 b && plain v
+
+-- the numbers of a count, the high one as in a record
+unfoldable pub ordered : ℕ → ℕ → Bool
+ordered low high = leb low number-limit && (eqb high open-high || leb low high && leb high number-limit)
+
+-- the set of a record of codes
+unfoldable pub a-set : ℕ → Bool
+a-set set = ltb 0 set && ltb set set-limit
+
+-- ---- the records and the pool, which follow each other, of A atoms
+
+module _ (s : Bytes) (A : ℕ) where
+  -- the record of atom i
+  abbrev pub its : ℕ → Rec
+  its i = rec-at s (record-size * i)
+
+  -- n bytes of the pool from p on
+  abbrev pub text : (p n : ℕ) → Bytes
+  text p n = take n (drop (record-size * A + p) s)
+
+  -- a leaf, by its kind, with p bytes of the pool before it
+  unfoldable pub leaf : Rec → (p : ℕ) → Option (Syntax body)
+  leaf r p =
+      choose (eqb (r .kind) 1) (only-if (a-set (r .a)) (only-if (eqb (r .b) 0) (some (codes (r .a)))))
+      (only-if (eqb (r .kind) 2)
+      (only-if (eqb (r .a) p)
+      (only-if (leb (record-size * A + p + r .b) (length s))
+      (only-if (plain (text p (r .b))) (some (literal (text p (r .b))))))))
+
+  -- the group of atom i is over where its record says
+  unfoldable pub closed : (b i : ℕ) → Syntax branches → Option (Syntax body)
+  closed b i bs = only-if (eqb (suc i + size bs) b) (some (group bs))
+
+  -- the tree from atom i on, with p bytes of the pool passed and d groups open; the first number bounds the depth of calls
+  unfoldable mutual
+    pub read-pattern : (f i p d : ℕ) → Option (Syntax pattern)
+    read-pattern zero i p d = none
+    read-pattern (suc f) i p d =
+        after (read-atom f i p d) λ a.
+        choose (eqb (its i .ends) 1) (some (last a))
+        (only-if (eqb (its i .ends) 0) (after (read-pattern f (i + size a) (p + length (pool a)) d) λ q. some (then a q)))
+
+    pub read-atom : (f i p d : ℕ) → Option (Syntax atom)
+    read-atom zero i p d = none
+    read-atom (suc f) i p d =
+        only-if (ltb i A)
+        (only-if (ordered (its i .low) (its i .high))
+        (after (
+        choose (eqb (its i .kind) 3)
+        (only-if (ltb d depth-limit) (after (read-branches f (its i .a) (suc i) p (suc d)) (closed (its i .b) i)))
+        (leaf (its i) p)
+        ) λ b. some (repeat (its i .low) (high-of (its i .high)) b)))
+
+    pub read-branches : (f k i p d : ℕ) → Option (Syntax branches)
+    read-branches zero k i p d = none
+    read-branches (suc f) k i p d =
+        only-if (ltb 0 k)
+        (after (read-pattern f i p d) λ q.
+        choose (eqb k 1) (some (only q))
+        (after (read-branches f (pred k) (i + size q) (p + length (pool q)) d) λ bs. some (or q bs)))
+
+-- the tree of a whole table: all its atoms and its whole pool
+unfoldable pub read : Bytes → Option (Syntax pattern)
+read s =
+    let A : ℕ = header-of s .atoms in
+    only-if (headed s)
+    (only-if (leb A atom-limit)
+    (after (read-pattern (drop (header-of s .records) s) A (3 * A + 2) 0 0 0) λ t.
+    only-if (eqb (size t) A) (only-if (eqb (length (pool t)) (header-of s .length)) (some t))))
+
+-- and its source is short enough
+unfoldable pub walk : Bytes → Option (Syntax pattern)
+walk s = after (read s) λ t. only-if (leb (length (print t)) source-limit) (some t)

@@ -1,0 +1,33 @@
+-- The header of a table, as the code has it. Assumes nothing.
+use mathlib.Core.Bool.{Bool, true, false, _&&_}
+use mathlib.Core.List.{List, [], _++_}
+use Prim.Native.Nat.{ℕ, _+_, _*_}
+use lib.Dec.{leb, eqb}
+use lib.ListN.{length, getD, take}
+use Rattle.pattern.specs.Numbers.{mark, version, header-size, record-size}
+use Rattle.pattern.specs.Bytes.{Bytes, word, same}
+use Rattle.pattern.specs.Decode.{field, layout}
+use Rattle.table.specs.declared.opening.Header.{Header}
+use Rattle.table.specs.declared.opening.Opened.{Opened}
+use Rattle.table.specs.declared.opening.Opened.the-variants as opened
+
+unfoldable pub pick : {A : Type 0} → Bool → A → A → A
+pick true a b = a
+pick false a b = b
+
+-- the mark and the version, as every table begins
+abbrev pub opening : Bytes
+opening = mark ++ word version []
+
+-- what the header says: the number of atoms and of bytes of the pool, and where the records and the pool begin
+abbrev pub header-of : Bytes → Header
+header-of s =
+    record { atoms = getD s 5 0; length = field s 6; records = layout s .records; pool = layout s .pool }
+
+-- the mark is there, and the length is what the header says
+unfoldable pub headed : Bytes → Bool
+headed s =
+    leb header-size (length s) && same (take 5 s) opening && eqb (length s) (header-of s .pool + header-of s .length)
+
+unfoldable pub opened-of : Bytes → Opened
+opened-of s = pick (headed s) (opened.Table (header-of s)) opened.Bad

@@ -1,0 +1,90 @@
+-- What the walk over a table's records promises. Assumes nothing.
+use mathlib.Core.Path.{_≡_}
+use mathlib.Core.Option.{Option, none, some}
+use Prim.Native.Nat.{ℕ, _+_, _*_, _-_, _≤_, _<_}
+use lib.ListN.{length}
+use Rattle.pattern.specs.Numbers.{atom-limit, depth-limit, record-size}
+use Rattle.pattern.specs.Bytes.{Bytes}
+use Rattle.pattern.specs.Syntax.{Sort, pattern, Syntax, size, top-size}
+use Rattle.pattern.specs.Table.{pool}
+use Rattle.pattern.specs.Print.{print}
+use Rattle.table.specs.Checked.{read-pattern, read-atom, read-branches}
+use Rattle.table.specs.declared.Summary.{Summary}
+use Rattle.table.specs.declared.Tested.{Tested}
+use Rattle.table.specs.declared.Tested.the-variants as verdict
+use Rattle.table.specs.declared.walk.Passed.{Passed}
+use Rattle.table.specs.declared.walk.Passed.the-variants as passed
+use Rattle.table.specs.declared.walk.Walked.{Walked}
+use Rattle.table.specs.declared.walk.Walked.the-variants as walked
+
+-- an atom, the bytes of the pool before it and the bytes of the source before it
+pub record Place : Type 0 where
+  pub atom : ℕ
+  pub pool : ℕ
+  pub source : ℕ
+
+abbrev pub place : (i p n : ℕ) → Place
+place i p n = record { atom = i; pool = p; source = n }
+
+-- the place after a tree
+abbrev pub beyond : {o : Sort} → Place → Syntax o → Place
+beyond at t = place (at .atom + size t) (at .pool + length (pool t)) (at .source + length (print t))
+
+abbrev pub to : Place → Passed
+to x = passed.To (x .atom) (x .pool) (x .source)
+
+abbrev pub came : Place → ℕ → Walked
+came x k = walked.To (x .atom) (x .pool) (x .source) k
+
+unfoldable pub passed-by : {o : Sort} → Place → Option (Syntax o) → Passed
+passed-by at (some t) = to (beyond at t)
+passed-by at none = passed.Bad
+
+unfoldable pub walked-by : Place → Option (Syntax pattern) → Walked
+walked-by at (some t) = came (beyond at t) (top-size t)
+walked-by at none = walked.Bad
+
+-- where a walk may begin
+pub record Ready (s : Bytes) (A : ℕ) (at : Place) (depth : ℕ) : Type 0 where
+  pub few : A ≤ atom-limit
+  pub small : length s < 70000
+  pub atom : at .atom ≤ A
+  pub pool : record-size * A + at .pool ≤ length s
+  pub source : at .source ≤ 20 * at .atom + 2 * at .pool
+  pub shallow : depth ≤ depth-limit
+
+-- how far it has come
+pub record Moved (s : Bytes) (A : ℕ) (at to : Place) : Type 0 where
+  pub on : at .atom < to .atom
+  pub atom : to .atom ≤ A
+  pub pool : record-size * A + to .pool ≤ length s
+  pub source : to .source + 1 + 20 * at .atom + 2 * at .pool ≤ at .source + 20 * to .atom + 2 * to .pool
+
+abbrev pub Past : Bytes → ℕ → Place → Passed → Type 0
+Past s A at (passed.To j q m) = Moved s A at (place j q m)
+Past s A at passed.Bad = Unit {0}
+
+abbrev pub PastW : Bytes → ℕ → Place → Walked → Type 0
+PastW s A at (walked.To j q m k) = Moved s A at (place j q m) × (at .atom + k ≤ j)
+PastW s A at walked.Bad = Unit {0}
+
+-- how deep the calls go at most
+abbrev pub reach : ℕ → Place → ℕ
+reach A at = 3 * (A - at .atom)
+
+pub record AtomPassed (s : Bytes) (A : ℕ) (at : Place) (d : ℕ) (r : Passed) : Type 0 where
+  pub past : Past s A at r
+  pub reads : (f : ℕ) → reach A at < f → r ≡ passed-by at (read-atom s A f (at .atom) (at .pool) d)
+
+pub record PatternWalked (s : Bytes) (A : ℕ) (at : Place) (d : ℕ) (r : Walked) : Type 0 where
+  pub past : PastW s A at r
+  pub reads : (f : ℕ) → reach A at + 1 < f → r ≡ walked-by at (read-pattern s A f (at .atom) (at .pool) d)
+
+pub record GroupPassed (s : Bytes) (A : ℕ) (at : Place) (d k : ℕ) (r : Passed) : Type 0 where
+  pub past : Past s A at r
+  pub reads : (f : ℕ) → reach A at + 2 < f → r ≡ passed-by at (read-branches s A f k (at .atom) (at .pool) d)
+
+-- the verdict on a table that has this tree, or none
+unfoldable pub tested : Option (Syntax pattern) → Tested
+tested none = verdict.Bad
+tested (some t) = verdict.Good (record { atoms = size t; top = top-size t; source = length (print t) })

@@ -1,0 +1,215 @@
+// How many bytes the parts of an atom have in the shortest source.
+use pattern::repeat::Repeat;
+ghost use mathlib.Core.Path.{_≡_};
+ghost use Prim.Native.Nat.{_≤_, _<_};
+ghost use lib.ListN.{length};
+ghost use Rattle.pattern.specs.Codes.{all-codes};
+ghost use Rattle.pattern.specs.Decode.{high-of};
+ghost use Rattle.pattern.specs.Print.{decimal, print-low, print-count, print-set};
+ghost use Rattle.table.specs.Leaves.{text-of};
+
+// How many letters each set has.
+const LETTERS: [u8; 128] = [
+    0,
+    1,
+    1,
+    2,
+    1,
+    2,
+    2,
+    3,
+    1,
+    2,
+    2,
+    3,
+    2,
+    3,
+    3,
+    4,
+    1,
+    2,
+    2,
+    3,
+    2,
+    3,
+    3,
+    4,
+    2,
+    3,
+    3,
+    4,
+    3,
+    4,
+    4,
+    5,
+    1,
+    2,
+    2,
+    3,
+    2,
+    3,
+    3,
+    4,
+    2,
+    3,
+    3,
+    4,
+    3,
+    4,
+    4,
+    5,
+    2,
+    3,
+    3,
+    4,
+    3,
+    4,
+    4,
+    5,
+    3,
+    4,
+    4,
+    5,
+    4,
+    5,
+    5,
+    6,
+    1,
+    2,
+    2,
+    3,
+    2,
+    3,
+    3,
+    4,
+    2,
+    3,
+    3,
+    4,
+    3,
+    4,
+    4,
+    5,
+    2,
+    3,
+    3,
+    4,
+    3,
+    4,
+    4,
+    5,
+    3,
+    4,
+    4,
+    5,
+    4,
+    5,
+    5,
+    6,
+    2,
+    3,
+    3,
+    4,
+    3,
+    4,
+    4,
+    5,
+    3,
+    4,
+    4,
+    5,
+    4,
+    5,
+    5,
+    6,
+    3,
+    4,
+    4,
+    5,
+    4,
+    5,
+    5,
+    6,
+    4,
+    5,
+    5,
+    6,
+    5,
+    6,
+    6,
+    7,
+];
+
+// The bytes of a literal's value with its quotes doubled.
+pub enum Text {
+    Length(usize),
+    Bad,
+}
+
+// The digits of a repeat number.
+fn digits(n: u16) -> usize
+    ensures { λ r. ⌜ (r ≡ length (decimal n)) × (r ≤ 4) ⌝ }
+{
+    if n < 10 {
+        return 1;
+    }
+    if n < 100 {
+        return 2;
+    }
+    if n < 1000 {
+        return 3;
+    }
+    4
+}
+
+fn low_length(low: u16) -> usize
+    ensures { λ r. ⌜ (r ≡ length (print-low low)) × (r ≤ 4) ⌝ }
+{
+    if low == 0 { 0 } else { digits(low) }
+}
+
+// The bytes of a repeat count.
+pub fn count_length(low: u16, high: u16) -> usize
+    ensures { λ r. ⌜ (r ≡ length (print-count low (high-of high))) × (r ≤ 9) ⌝ }
+{
+    if high == Repeat::OPEN {
+        return low_length(low) + 1;
+    }
+    if low == high {
+        return digits(low);
+    }
+    low_length(low) + 1 + digits(high)
+}
+
+// The letters of a set.
+pub fn letters(set: u16) -> usize
+    requires { ⌜ set < 128 ⌝ }
+    ensures { λ r. ⌜ (r ≡ length (print-set all-codes set)) × (r ≤ 7) ⌝ }
+{
+    let k = set as usize;
+    LETTERS[k] as usize
+}
+
+// A value's bytes, if they are from 32 to 126.
+pub fn text_length(v: &[u8]) -> Text
+    requires { ⌜ length (now v) < 70000 ⌝ }
+    ensures { λ r. ⌜ r ≡ text-of (now (v .entry)) ⌝ }
+{
+    let mut n: usize = 0;
+    let mut i: usize = 0;
+    while i < v.len() {
+        let b = v[i];
+        if b < 32 {
+            return Text::Bad;
+        }
+        if 126 < b {
+            return Text::Bad;
+        }
+        if b == b'"' {
+            n += 1;
+        }
+        n += 1;
+        i += 1;
+    }
+    Text::Length(n)
+}

@@ -1,0 +1,60 @@
+// The header of a table.
+use pattern::limits::HEADER_SIZE;
+use pattern::limits::MARK;
+use pattern::limits::RECORD_SIZE;
+ghost use mathlib.Core.Path.{_≡_};
+ghost use Prim.Native.Nat.{_≤_};
+ghost use lib.ListN.{length, take};
+ghost use Rattle.pattern.specs.Bytes.{same};
+ghost use Rattle.table.specs.Opening.{opening, opened-of};
+
+// How many atoms and how many bytes of pool there are, and where the records and the pool begin.
+pub struct Header {
+    pub atoms: usize,
+    pub length: usize,
+    pub records: usize,
+    pub pool: usize,
+}
+
+pub enum Opened {
+    Table(Header),
+    Bad,
+}
+
+// Whether a table begins with the mark and the version.
+fn marked(table: &[u8]) -> bool
+    requires { ⌜ 5 ≤ length (now table) ⌝ }
+    ensures { λ r. ⌜ r ≡ same (take 5 (now (table .entry))) opening ⌝ }
+{
+    let mut i = 0;
+    while i < 5 {
+        if table[i] != MARK[i] {
+            return false;
+        }
+        i += 1;
+    }
+    true
+}
+
+// The header, if the mark is there and the length is what the header says.
+pub fn head_of(table: &[u8]) -> Opened
+    ensures { λ r. ⌜ r ≡ opened-of (now (table .entry)) ⌝ }
+{
+    if table.len() < HEADER_SIZE {
+        return Opened::Bad;
+    }
+    if marked(table) {
+        let atoms = super::wide(table[5]) as usize;
+        let length = super::word(table, 6) as usize;
+        let pool = HEADER_SIZE + RECORD_SIZE * atoms;
+        if table.len() == pool + length {
+            return Opened::Table(Header {
+                atoms,
+                length,
+                records: HEADER_SIZE,
+                pool,
+            });
+        }
+    }
+    Opened::Bad
+}
