@@ -191,6 +191,36 @@ module _ (s : Bytes) (st : State) (d : ℕ) (recs recs₁ text text₁ : Bytes) 
           over = h .over;
         }
 
+-- where the loop over a pattern's atoms stands: what is read from there on is read from the start
+pub record Going (s : Bytes) (d : ℕ) (st now : State) (recs recs₁ text text₁ : Bytes) : Type 0 where
+  pub ready : Ready s now d
+  pub on : st .at .at ≤ now .at .at
+  pub recs-size : length recs₁ ≡ length recs
+  pub text-size : length text₁ ≡ length text
+  pub rest : (recs₂ text₂ : Bytes) (a : Parsed) → PatternRead s now d recs₁ recs₂ text₁ text₂ a → PatternRead s st d recs recs₂ text text₂ a
+
+pub going-start : (s : Bytes) (d : ℕ) (st : State) (recs text : Bytes) → Ready s st d → Going s d st st recs recs text text
+going-start s d st recs text r = record { ready = r; on = omega arith; recs-size = refl; text-size = refl; rest = λ recs₂ text₂ a h. h }
+
+module _ (s : Bytes) (d : ℕ) (st now : State) (recs recs₁ text text₁ : Bytes) (g : Going s d st now recs recs₁ text text₁) (recs₂ text₂ : Bytes) where
+  pub going-fault : (a : Parsed) (f q : ℕ) → a ≡ parsed.Fault f q → AtomRead s now d recs₁ recs₂ text₁ text₂ a → PatternRead s st d recs recs₂ text text₂ (parsed.Fault f q)
+  going-fault a f q e h = g .rest recs₂ text₂ (parsed.Fault f q) (pattern-fault s now d recs₁ recs₂ text₁ text₂ a f q e h)
+
+  module _ (u : State) (a : AtomIs s now d recs₁ recs₂ text₁ text₂ u) (f : ℕ) (e : f ≡ flag s (u .at .at)) where
+    pub going-last : ¬ (f ≡ 0) → PatternRead s st d recs recs₂ text text₂ (parsed.Done u)
+    going-last o = g .rest recs₂ text₂ (parsed.Done u) (pattern-last s now d recs₁ recs₂ text₁ text₂ u a f e o)
+
+    pub going-more : f ≡ 0 → length recs₂ ≡ length recs₁ → length text₂ ≡ length text₁ → Going s d st u recs recs₂ text text₂
+    going-more z x y =
+        let m = a .moved in
+        record {
+          ready = record { within = m .within; atoms = m .atoms; pool = m .pool; shallow = g .ready .shallow };
+          on = omega (arith, g .on, m .on);
+          recs-size = x ∙ g .recs-size;
+          text-size = y ∙ g .text-size;
+          rest = λ r t b h. g .rest r t b (pattern-more s now d recs₁ recs₂ text₁ text₂ u a f e r t b z h);
+        }
+
 -- the branches of a group from the first
 module _ (s : Bytes) (st : State) (d : ℕ) (recs recs₁ text text₁ : Bytes) where
   pub group-fault : (a : Parsed) (f q : ℕ) → a ≡ parsed.Fault f q → PatternRead s st d recs recs₁ text text₁ a → GroupRead s st d recs recs₁ text text₁ (grouped.Fault f q)

@@ -84,16 +84,18 @@ pub fn read_pattern(s: &[u8], st: State, depth: usize, recs: &mut [u8], pool: &m
     requires { ⌜ Ready (now s) st depth × Room (now s) (now recs) (now pool) ⌝ }
     ensures { λ r. ⌜ PatternRead (now (s .entry)) st depth (now (recs .entry)) (now (recs .exit)) (now (pool .entry)) (now (pool .exit)) r ⌝ }
 {
-    match read_atom(s, st, depth, recs, pool) {
-        Parsed::Done(next) => {
-            let at = next.at;
-            if at.last(s) == 0 {
-                read_pattern(s, next, depth, recs, pool)
-            } else {
-                Parsed::Done(next)
+    let mut from = st;
+    loop {
+        match read_atom(s, from, depth, recs, pool) {
+            Parsed::Done(next) => {
+                let at = next.at;
+                if at.last(s) != 0 {
+                    return Parsed::Done(next);
+                }
+                from = next;
             }
+            Parsed::Fault(no, pos) => return Parsed::Fault(no, pos),
         }
-        Parsed::Fault(no, pos) => Parsed::Fault(no, pos),
     }
 }
 

@@ -6,7 +6,7 @@ use native.Mathlib.Omega.{arith}
 use borrow.Author.Needs.{needs}
 use Rattle.compiler.specs.Counts.{CountIs}
 use Rattle.compiler.specs.Readers.{Ready, Room}
-use Rattle.compiler.proofs.Readers.{reach, count-is, quote-is, atom-fault, atom-coded, atom-worded, atom-other, opening-is, atom-deep, group-ready, atom-group-fault, atom-group, group-is, atom-is, pattern-is, pattern-fault, pattern-last, pattern-more, group-fault, group-other, group-close, comma-is, group-comma-fault, group-comma, count-few}
+use Rattle.compiler.proofs.Readers.{reach, count-is, quote-is, atom-fault, atom-coded, atom-worded, atom-other, opening-is, atom-deep, group-ready, atom-group-fault, atom-group, group-is, atom-is, pattern-is, Going, going-start, going-fault, going-last, going-more, group-fault, group-other, group-close, comma-is, group-comma-fault, group-comma, count-few}
 use Prim.Native.Nat.{ℕ, _<_}
 use borrow.Fn.Kinds.{In}
 use borrow.Fn.PlainCycle.{Measures, is, falls, and}
@@ -72,7 +72,7 @@ abbrev read-group-claims : ℕ → read-group-lts.Claims
 read-group-claims t = (read-pattern-below t, read-pattern.Post, separator-reads.Asked, separator-reads.Learnt, read-group-below t, read-group.Post)
 
 abbrev read-pattern-claims : ℕ → read-pattern-lts.Claims
-read-pattern-claims t = (read-atom-below t, read-atom.Post, last-reads.Asked, last-reads.Learnt, read-pattern-below t, read-pattern.Post)
+read-pattern-claims t = (read-atom-below t, read-atom.Post, last-reads.Asked, last-reads.Learnt)
 
 -- what is known where a count was read: the count, and that the reader was ready
 read-atom-counted : (t : ℕ) (c : read-atom-lts.After-known-told (read-atom-claims t) (read-atom-at t) read-atom.Post)
@@ -262,47 +262,50 @@ read-group-same-length-10 t c = search needs
 read-group-returns-5 : (t : ℕ) → read-group-lts.Need-returns-5 (read-group-claims t) (read-group-at t) read-group.Post
 read-group-returns-5 t c = group-fault _ _ _ _ _ _ _ _ _ _ (c .before .no2 .given .1) (c .before .before .before .before .before .before .before .read-pattern .ensures)
 
-read-pattern-read-atom-requires : (t : ℕ) → read-pattern-lts.Need-read-atom-requires (read-pattern-claims t) (read-pattern-at t) read-pattern.Post
-read-pattern-read-atom-requires t c κs = (omega (arith, c .before .before .before .before .before .pre .0), c .before .before .before .before .before .pre .1)
+abbrev read-pattern-Inv-loop : read-pattern-lts.InvT-loop
+read-pattern-Inv-loop s depth recs₀ pool₀ from₀ recs pool from = Going s depth from₀ from recs₀ recs pool₀ pool
 
-read-pattern-enum-known-next : (t : ℕ) → read-pattern-lts.Need-enum-known-next (read-pattern-claims t) (read-pattern-at t) read-pattern.Post
+abbrev read-pattern-μ-loop : read-pattern-lts.MeasureT-loop
+read-pattern-μ-loop s depth recs₀ pool₀ from₀ recs pool from = reach s from
+
+read-pattern-loop-holds : (t : ℕ) → read-pattern-lts.Need-loop-holds (read-pattern-claims t) (read-pattern-at t) read-pattern.Post read-pattern-Inv-loop read-pattern-μ-loop
+read-pattern-loop-holds t c = going-start _ _ _ _ _ (c .before .before .before .pre .1 .0)
+
+read-pattern-read-atom-requires : (t : ℕ) → read-pattern-lts.Need-read-atom-requires (read-pattern-claims t) (read-pattern-at t) read-pattern.Post read-pattern-Inv-loop read-pattern-μ-loop
+read-pattern-read-atom-requires t c κs = let g = c .before .before .loop .inv in let v = c .before .before .before .before .before .before .pre .1 .1 in (omega (arith, g .on, c .before .before .before .before .before .before .pre .0), (g .ready, record { source = v .source; recs-fit = omega (arith, v .recs-fit, g .recs-size); text-fits = omega (arith, v .text-fits, g .text-size) }))
+
+read-pattern-enum-known-next : (t : ℕ) → read-pattern-lts.Need-enum-known-next (read-pattern-claims t) (read-pattern-at t) read-pattern.Post read-pattern-Inv-loop read-pattern-μ-loop
 read-pattern-enum-known-next t c = search needs
 
-read-pattern-last-requires : (t : ℕ) → read-pattern-lts.Need-last-requires (read-pattern-claims t) (read-pattern-at t) read-pattern.Post
+read-pattern-last-requires : (t : ℕ) → read-pattern-lts.Need-last-requires (read-pattern-claims t) (read-pattern-at t) read-pattern.Post read-pattern-Inv-loop read-pattern-μ-loop
 read-pattern-last-requires t c κs = search needs
 
-read-pattern-read-pattern-requires : (t : ℕ) → read-pattern-lts.Need-read-pattern-requires (read-pattern-claims t) (read-pattern-at t) read-pattern.Post
-read-pattern-read-pattern-requires t c κs = let h = (atom-is _ _ _ _ _ _ _ _ _ (c .before .before .before .before .before .before .next .given .1) (c .before .before .before .before .before .before .before .before .before .before .before .before .read-atom .ensures)) in let m = h .moved in let r = c .before .before .before .before .before .before .before .before .before .before .before .before .before .before .before .before .before .before .pre .1 .0 in let v = c .before .before .before .before .before .before .before .before .before .before .before .before .before .before .before .before .before .before .pre .1 .1 in (omega (arith, m .on, m .within, c .before .before .before .before .before .before .before .before .before .before .before .before .before .before .before .before .before .before .pre .0), (record { within = m .within; atoms = m .atoms; pool = m .pool; shallow = r .shallow }, record { source = v .source; recs-fit = omega (arith, v .recs-fit, c .before .before .before .before .before .before .before .before .before .before .before .before .read-atom .kept .1 .1 .1 .0); text-fits = omega (arith, v .text-fits, c .before .before .before .before .before .before .before .before .before .before .before .before .read-atom .kept .1 .1 .1 .1 .0) }))
+read-pattern-same-length : (t : ℕ) → read-pattern-lts.Need-same-length (read-pattern-claims t) (read-pattern-at t) read-pattern.Post read-pattern-Inv-loop read-pattern-μ-loop
+read-pattern-same-length t c = c .before .before .before .before .before .before .before .before .before .before .read-atom .kept .1 .1 .1 .0 ∙ c .before .before .before .before .before .before .before .before .before .before .before .before .before .loop .inv .recs-size
 
-read-pattern-enum-known-no : (t : ℕ) → read-pattern-lts.Need-enum-known-no (read-pattern-claims t) (read-pattern-at t) read-pattern.Post
+read-pattern-same-length-2 : (t : ℕ) → read-pattern-lts.Need-same-length-2 (read-pattern-claims t) (read-pattern-at t) read-pattern.Post read-pattern-Inv-loop read-pattern-μ-loop
+read-pattern-same-length-2 t c = c .before .before .before .before .before .before .before .before .before .before .read-atom .kept .1 .1 .1 .1 .0 ∙ c .before .before .before .before .before .before .before .before .before .before .before .before .before .loop .inv .text-size
+
+read-pattern-returns : (t : ℕ) → read-pattern-lts.Need-returns (read-pattern-claims t) (read-pattern-at t) read-pattern.Post read-pattern-Inv-loop read-pattern-μ-loop
+read-pattern-returns t c = going-last _ _ _ _ _ _ _ _ (c .before .before .before .before .before .before .before .before .before .before .before .before .before .loop .inv) _ _ _ (atom-is _ _ _ _ _ _ _ _ _ (c .before .before .before .before .next .given .1) (c .before .before .before .before .before .before .before .before .before .before .read-atom .ensures)) _ (c .before .last .ensures) (c .if1 .taken)
+
+read-pattern-loop-less : (t : ℕ) → read-pattern-lts.Need-loop-less (read-pattern-claims t) (read-pattern-at t) read-pattern.Post read-pattern-Inv-loop read-pattern-μ-loop
+read-pattern-loop-less t c = let h = (atom-is _ _ _ _ _ _ _ _ _ (c .before .before .before .before .next .given .1) (c .before .before .before .before .before .before .before .before .before .before .read-atom .ensures)) in let m = h .moved in omega (arith, m .on, m .within)
+
+read-pattern-loop-again : (t : ℕ) → read-pattern-lts.Need-loop-again (read-pattern-claims t) (read-pattern-at t) read-pattern.Post read-pattern-Inv-loop read-pattern-μ-loop
+read-pattern-loop-again t c = going-more _ _ _ _ _ _ _ _ (c .before .before .before .before .before .before .before .before .before .before .before .before .before .loop .inv) _ _ _ (atom-is _ _ _ _ _ _ _ _ _ (c .before .before .before .before .next .given .1) (c .before .before .before .before .before .before .before .before .before .before .read-atom .ensures)) _ (c .before .last .ensures) (c .if1 .left) (c .before .before .before .before .before .before .before .before .before .before .read-atom .kept .1 .1 .1 .0) (c .before .before .before .before .before .before .before .before .before .before .read-atom .kept .1 .1 .1 .1 .0)
+
+read-pattern-enum-known-no : (t : ℕ) → read-pattern-lts.Need-enum-known-no (read-pattern-claims t) (read-pattern-at t) read-pattern.Post read-pattern-Inv-loop read-pattern-μ-loop
 read-pattern-enum-known-no t c = search needs
 
-read-pattern-same-length : (t : ℕ) → read-pattern-lts.Need-same-length (read-pattern-claims t) (read-pattern-at t) read-pattern.Post
-read-pattern-same-length t c = c .before .before .before .before .read-pattern .kept .1 .1 .1 .0 ∙ c .before .before .before .before .before .before .before .before .before .before .before .before .before .before .before .before .before .read-atom .kept .1 .1 .1 .0
+read-pattern-same-length-3 : (t : ℕ) → read-pattern-lts.Need-same-length-3 (read-pattern-claims t) (read-pattern-at t) read-pattern.Post read-pattern-Inv-loop read-pattern-μ-loop
+read-pattern-same-length-3 t c = c .before .before .before .before .before .before .before .read-atom .kept .1 .1 .1 .0 ∙ c .before .before .before .before .before .before .before .before .before .before .loop .inv .recs-size
 
-read-pattern-same-length-2 : (t : ℕ) → read-pattern-lts.Need-same-length-2 (read-pattern-claims t) (read-pattern-at t) read-pattern.Post
-read-pattern-same-length-2 t c = c .before .before .before .before .read-pattern .kept .1 .1 .1 .1 .0 ∙ c .before .before .before .before .before .before .before .before .before .before .before .before .before .before .before .before .before .read-atom .kept .1 .1 .1 .1 .0
+read-pattern-same-length-4 : (t : ℕ) → read-pattern-lts.Need-same-length-4 (read-pattern-claims t) (read-pattern-at t) read-pattern.Post read-pattern-Inv-loop read-pattern-μ-loop
+read-pattern-same-length-4 t c = c .before .before .before .before .before .before .before .read-atom .kept .1 .1 .1 .1 .0 ∙ c .before .before .before .before .before .before .before .before .before .before .loop .inv .text-size
 
-read-pattern-returns : (t : ℕ) → read-pattern-lts.Need-returns (read-pattern-claims t) (read-pattern-at t) read-pattern.Post
-read-pattern-returns t c = pattern-more _ _ _ _ _ _ _ _ (atom-is _ _ _ _ _ _ _ _ _ (c .before .before .before .before .before .before .before .before .before .before .before .next .given .1) (c .before .before .before .before .before .before .before .before .before .before .before .before .before .before .before .before .before .read-atom .ensures)) _ (c .before .before .before .before .before .before .before .before .last .ensures) _ _ _ (c .before .before .before .before .before .before .before .if1 .taken) (c .before .before .before .before .read-pattern .ensures)
-
-read-pattern-same-length-3 : (t : ℕ) → read-pattern-lts.Need-same-length-3 (read-pattern-claims t) (read-pattern-at t) read-pattern.Post
-read-pattern-same-length-3 t c = search needs
-
-read-pattern-same-length-4 : (t : ℕ) → read-pattern-lts.Need-same-length-4 (read-pattern-claims t) (read-pattern-at t) read-pattern.Post
-read-pattern-same-length-4 t c = search needs
-
-read-pattern-returns-2 : (t : ℕ) → read-pattern-lts.Need-returns-2 (read-pattern-claims t) (read-pattern-at t) read-pattern.Post
-read-pattern-returns-2 t c = pattern-last _ _ _ _ _ _ _ _ (atom-is _ _ _ _ _ _ _ _ _ (c .before .before .before .before .next .given .1) (c .before .before .before .before .before .before .before .before .before .before .read-atom .ensures)) _ (c .before .last .ensures) (c .if1 .left)
-
-read-pattern-same-length-5 : (t : ℕ) → read-pattern-lts.Need-same-length-5 (read-pattern-claims t) (read-pattern-at t) read-pattern.Post
-read-pattern-same-length-5 t c = search needs
-
-read-pattern-same-length-6 : (t : ℕ) → read-pattern-lts.Need-same-length-6 (read-pattern-claims t) (read-pattern-at t) read-pattern.Post
-read-pattern-same-length-6 t c = search needs
-
-read-pattern-returns-3 : (t : ℕ) → read-pattern-lts.Need-returns-3 (read-pattern-claims t) (read-pattern-at t) read-pattern.Post
-read-pattern-returns-3 t c = pattern-fault _ _ _ _ _ _ _ _ _ _ (c .before .no .given .1) (c .before .before .before .before .before .before .before .read-atom .ensures)
+read-pattern-returns-2 : (t : ℕ) → read-pattern-lts.Need-returns-2 (read-pattern-claims t) (read-pattern-at t) read-pattern.Post read-pattern-Inv-loop read-pattern-μ-loop
+read-pattern-returns-2 t c = going-fault _ _ _ _ _ _ _ _ (c .before .before .before .before .before .before .before .before .before .before .loop .inv) _ _ _ _ _ (c .before .no .given .1) (c .before .before .before .before .before .before .before .read-atom .ensures)
 
 pub +read-atom+read-group+read-pattern-spec : {M : Type 1} → statement M
 +read-atom+read-group+read-pattern-spec =
@@ -367,18 +370,22 @@ pub +read-atom+read-group+read-pattern-spec : {M : Type 1} → statement M
     (read-group-same-length-9 t)
     (read-group-same-length-10 t)
     (read-group-returns-5 t))
-    λ t. read-pattern-lts.spec (read-pattern-claims t) (read-pattern-at t) read-pattern.Post
+    λ t. read-pattern-lts.spec
+    (read-atom-below t, read-atom.Post, last-reads.Asked, last-reads.Learnt)
+    (read-pattern-at t)
+    read-pattern.Post
+    read-pattern-Inv-loop
+    read-pattern-μ-loop
+    (read-pattern-loop-holds t)
     (read-pattern-read-atom-requires t)
     (read-pattern-enum-known-next t)
     (read-pattern-last-requires t)
-    (read-pattern-read-pattern-requires t)
-    (read-pattern-enum-known-no t)
     (read-pattern-same-length t)
     (read-pattern-same-length-2 t)
     (read-pattern-returns t)
+    (read-pattern-loop-less t)
+    (read-pattern-loop-again t)
+    (read-pattern-enum-known-no t)
     (read-pattern-same-length-3 t)
     (read-pattern-same-length-4 t)
     (read-pattern-returns-2 t)
-    (read-pattern-same-length-5 t)
-    (read-pattern-same-length-6 t)
-    (read-pattern-returns-3 t)
