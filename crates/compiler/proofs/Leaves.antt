@@ -1,0 +1,81 @@
+-- Atoms of codes and literals, from their bodies and their records. Assumes nothing.
+use mathlib.Core.Path.{_≡_, refl, sym, ap, _∙_, subst}
+use mathlib.Core.List.{List, [], _∷_}
+use Prim.Native.Nat.{ℕ, _+_, _-_, _*_, _≤_}
+use native.Mathlib.Omega.{arith}
+use lib.ListN.{length}
+use Rattle.pattern.specs.Numbers.{record-size, CODE, FORM}
+use Rattle.pattern.specs.Bytes.{Bytes}
+use Rattle.pattern.specs.Syntax.{codes, literal, size}
+use Rattle.pattern.specs.Table.{pool, kind-field, a-field, b-field, records, flat}
+use Rattle.pattern.specs.declared.repeat.Repeat.{Repeat}
+use Rattle.compiler.specs.declared.cursor.Cursor.{Cursor}
+use Rattle.compiler.specs.declared.body.Letters.{Letters}
+use Rattle.compiler.specs.declared.body.Letters.the-variants as letters
+use Rattle.compiler.specs.declared.body.Literal.{Literal}
+use Rattle.compiler.specs.declared.body.Literal.the-variants as literals
+use Rattle.compiler.specs.declared.reader.State.{State}
+use Rattle.compiler.specs.declared.reader.Parsed.the-variants as parsed
+use Rattle.compiler.specs.Places.{flag}
+use Rattle.compiler.specs.Buffers.{stored, rec-of}
+use Rattle.compiler.specs.Bodies.{CodesRead, LiteralIs, LiteralRead}
+use Rattle.compiler.specs.Readers.{Settled, LeafIs, LeafRead, CodedRead, WordedRead}
+
+abbrev pub state : Cursor → ℕ → ℕ → State
+state at n p = record { at = at; atoms = n; pool = p }
+
+module _ (s : Bytes) (i n p : ℕ) (rep : Repeat) (recs recs′ : Bytes) where
+  module _ (r : Letters) (read : CodesRead s i r) where
+    pub coded-done : (set f : ℕ) (next : Cursor) → r ≡ letters.Set set next → f ≡ flag s (next .at)
+        → recs′ ≡ stored recs (record-size * n) (flat (rec-of 1 f rep set 0 ∷ []) []) → p ≤ i → CodedRead s i n p rep recs recs′ (parsed.Done (state next (n + 1) p))
+    unfolding CodesRead LeafRead records size pool kind-field a-field b-field Settled
+    coded-done set f next e g w h =
+        let (a, b, c, d, o) = subst (λ r. CodesRead s i r) e read in
+        record {
+          body = codes set;
+          alone = λ x y z. refl;
+          single = refl;
+          on = b;
+          within = c;
+          fits = omega arith;
+          atoms = refl;
+          pooled = omega arith;
+          recs-are = rw g at w;
+          text-is = refl;
+          scan = d .scan;
+          settled = o;
+        }
+
+    pub coded-fault : (q : ℕ) → r ≡ letters.Fault q → CodedRead s i n p rep recs recs′ (parsed.Fault CODE q)
+    unfolding CodesRead LeafRead
+    coded-fault q e = subst (λ r. CodesRead s i r) e read
+
+  module _ (text text′ : Bytes) (r : Literal) (read : LiteralRead s i p text text′ r) where
+    pub literal-is : (next : Cursor) (end : ℕ) → r ≡ literals.Value next end → LiteralIs s i p text text′ next end
+    unfolding LiteralRead
+    literal-is next end e = subst (λ r. LiteralRead s i p text text′ r) e read
+
+    pub worded-done : (f : ℕ) (next : Cursor) (end : ℕ) → r ≡ literals.Value next end → f ≡ flag s (next .at)
+        → recs′ ≡ stored recs (record-size * n) (flat (rec-of 2 f rep p (end - p) ∷ []) []) → WordedRead s i n p rep recs recs′ text text′ (parsed.Done (state next (n + 1) end))
+    unfolding LeafRead records size pool kind-field a-field b-field Settled
+    worded-done f next end e g w =
+        let v = literal-is next end e in
+        let z : end - p ≡ length (v .value) = omega (arith, v .end-is) in
+        record {
+          body = literal (v .value);
+          alone = λ x y z. refl;
+          single = refl;
+          on = omega (arith, v .onward .on);
+          within = v .onward .within;
+          fits = v .fits;
+          atoms = refl;
+          pooled = v .end-is;
+          recs-are = rw (g, z) at w;
+          text-is = v .wrote;
+          scan = v .scan .scan;
+          settled = v .rests;
+        }
+
+    pub worded-fault : (q : ℕ) → r ≡ literals.Fault q → WordedRead s i n p rep recs recs′ text text′ (parsed.Fault FORM q)
+    unfolding LiteralRead LeafRead
+    worded-fault q e = subst (λ r. LiteralRead s i p text text′ r) e read

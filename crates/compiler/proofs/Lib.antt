@@ -1,0 +1,14 @@
+pub mod Places
+pub mod Pass
+pub mod Steps
+pub mod Texts
+pub mod Puts
+pub mod Bodies
+pub mod Numbers
+pub mod Runs
+pub mod Counts
+pub mod Leaves
+pub mod Descent
+pub mod Written
+pub mod Readers
+pub mod Emits

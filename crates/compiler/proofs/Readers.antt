@@ -1,0 +1,290 @@
+-- How the answers of the readers fit together. Assumes nothing.
+use mathlib.Core.Path.{_≡_, refl, sym, ap, _∙_, subst}
+use mathlib.Core.List.{List, [], _∷_, _++_}
+use mathlib.Core.Option.{Option, none, some}
+use Prim.Native.Nat.{ℕ, zero, suc, _+_, _-_, _*_, _<_, _≤_}
+use native.Mathlib.Omega.{arith}
+use native.Mathlib.Numerals.{add-one}
+use lib.ListN.{length, getD}
+use Rattle.pattern.specs.Numbers.{atom-limit, depth-limit, record-size, FORM, DEPTH}
+use Rattle.pattern.specs.Bytes.{Bytes, between}
+use Rattle.pattern.specs.Syntax.{pattern, atom, body, branches, Syntax, last, then, repeat, codes, literal, group, only, or, size}
+use Rattle.pattern.specs.Spelling.{quote, opening, starts, kind}
+use Rattle.pattern.specs.Reading.{counting, empty, after, Around, within, fork, next}
+use Rattle.pattern.specs.Scan.{low, high, depth, refused}
+use Rattle.pattern.specs.Table.{choices, flat}
+use Rattle.pattern.specs.declared.repeat.Repeat.{Repeat}
+use Rattle.pattern.proofs.RoundTrip.{some-pattern}
+use Rattle.compiler.specs.declared.cursor.Cursor.{Cursor}
+use Rattle.compiler.specs.declared.cursor.Class.{Class}
+use Rattle.compiler.specs.declared.cursor.Class.the-variants as class
+use Rattle.compiler.specs.declared.cursor.Separator.{Separator}
+use Rattle.compiler.specs.declared.cursor.Separator.the-variants as separator
+use Rattle.compiler.specs.declared.count.Counted.{Counted}
+use Rattle.compiler.specs.declared.count.Counted.the-variants as counted
+use Rattle.compiler.specs.declared.reader.State.{State}
+use Rattle.compiler.specs.declared.reader.Parsed.{Parsed}
+use Rattle.compiler.specs.declared.reader.Parsed.the-variants as parsed
+use Rattle.compiler.specs.declared.reader.Grouped.{Grouped}
+use Rattle.compiler.specs.declared.reader.Grouped.the-variants as grouped
+use Rattle.compiler.specs.Places.{Onward, flag, kind-at, ByteIs, KindIs, ClassRead, SeparatorRead}
+use Rattle.compiler.specs.Scans.{scanned, ended}
+use Rattle.compiler.specs.Buffers.{stored, rec-of}
+use Rattle.compiler.specs.Counts.{CountIs, CountRefused, CountRead}
+use Rattle.compiler.specs.Readers.{Ready, Room, Moved, Wrote, Settled, tail, LeafIs, LeafRead, CodedRead, WordedRead, Refused, AtomIs, AtomRead, PatternIs, PatternRead, GroupIs, GroupRefused, GroupRead}
+use Rattle.compiler.proofs.Leaves.{state}
+use Rattle.compiler.proofs.Puts.{stored-none}
+use Rattle.compiler.proofs.Descent.{codes-enter, literal-enter, group-enter, group-deep, body-form, atom-next, depth-next, flag-count, flag-one, closes, parts, branch-form}
+use Rattle.compiler.proofs.Written.{wrote-leaf, wrote-group, wrote-last, wrote-then, wrote-only, wrote-or}
+
+pub count-is : (s : Bytes) (i n : ℕ) (r : Counted) (rep : Repeat) (next : Cursor) → r ≡ counted.Repeat rep next → CountRead s i n r → CountIs s i n rep next
+unfolding CountRead
+count-is s i n r rep next e h = subst (λ r. CountRead s i n r) e h
+
+-- three times what is left of the source: a pattern's measure is one more, a group's two
+abbrev pub reach : Bytes → State → ℕ
+reach s st = 3 * (length s - st .at .at)
+
+pub quote-is : (s : Bytes) (at : ℕ) (r : Class) (later : Cursor) → r ≡ class.Quote later → ClassRead s at r → KindIs s at (starts quote) later
+unfolding ClassRead
+quote-is s at r later e h = subst (λ r. ClassRead s at r) e h
+
+-- an atom from its count and its body
+module _ (s : Bytes) (st : State) (d : ℕ) (recs text : Bytes) where
+  pub atom-fault : (r : Counted) (f q : ℕ) (recs′ text′ : Bytes) → r ≡ counted.Fault f q → CountRead s (st .at .at) (st .atoms) r → AtomRead s st d recs recs′ text text′ (parsed.Fault f q)
+  unfolding CountRead AtomRead
+  atom-fault r f q recs′ text′ e h = let x : CountRefused s (st .at .at) (st .atoms) f q = subst (λ r. CountRead s (st .at .at) (st .atoms) r) e h in record { scan = λ k z. x .scan k }
+
+  module _ (ready : Ready s st d) (rep : Repeat) (at : Cursor) (c : CountIs s (st .at .at) (st .atoms) rep at) (r : Class) (h : ClassRead s (at .at) r) where
+    pub atom-coded : (recs′ : Bytes) (a : Parsed) → r ≡ class.Letter → CodedRead s (at .at) (st .atoms) (st .pool) rep recs recs′ a → AtomRead s st d recs recs′ text text a
+    unfolding ClassRead LeafRead AtomRead
+    atom-coded recs′ (parsed.Fault f q) e x =
+        let (w, y) = subst (λ r. ClassRead s (at .at) r) e h in
+        record { scan = λ k z. c .scan k ∙ codes-enter s (at .at) (suc (st .atoms)) k (c .run) (c .some-run) w y ∙ x .scan (low (c .run)) (high (c .run)) k (suc (st .atoms)) }
+    atom-coded recs′ (parsed.Done u) e x =
+        let (w, y) = subst (λ r. ClassRead s (at .at) r) e h in
+        record {
+          low = low (c .run);
+          high = high (c .run);
+          body = x .body;
+          moved = record { on = omega (arith, c .onward .on, x .on); within = x .within; atoms = omega (arith, c .room, x .atoms); pool = x .fits };
+          wrote = wrote-leaf (flag s (u .at .at)) (low (c .run)) (high (c .run)) (x .body) rep (st .atoms) (st .pool) (u .atoms) (u .pool) recs recs′ text text (x .alone) (x .single) (c .rep-is) (x .atoms) (x .pooled) (x .recs-are) (rw (x .text-is) (sym (stored-none text (st .pool))));
+          scan = λ k z. c .scan k ∙ codes-enter s (at .at) (suc (st .atoms)) k (c .run) (c .some-run) w y ∙ x .scan (low (c .run)) (high (c .run)) k (suc (st .atoms)) ∙ rw (x .atoms, add-one);
+          settled = x .settled;
+        }
+
+    pub atom-worded : (later : Cursor) (recs′ text′ : Bytes) (a : Parsed) → r ≡ class.Quote later → WordedRead s (later .at) (st .atoms) (st .pool) rep recs recs′ text text′ a → AtomRead s st d recs recs′ text text′ a
+    unfolding ClassRead LeafRead AtomRead
+    atom-worded later recs′ text′ (parsed.Fault f q) e x =
+        let y = subst (λ r. ClassRead s (at .at) r) e h in
+        record { scan = λ k z. c .scan k ∙ literal-enter s (at .at) (suc (st .atoms)) k (c .run) (c .some-run) (y .within) (y .kind) ∙ (rw (y .past) at (x .scan (low (c .run)) (high (c .run)) k (suc (st .atoms)))) }
+    atom-worded later recs′ text′ (parsed.Done u) e x =
+        let y = subst (λ r. ClassRead s (at .at) r) e h in
+        record {
+          low = low (c .run);
+          high = high (c .run);
+          body = x .body;
+          moved = record { on = omega (arith, c .onward .on, x .on, y .past); within = x .within; atoms = omega (arith, c .room, x .atoms); pool = x .fits };
+          wrote = wrote-leaf (flag s (u .at .at)) (low (c .run)) (high (c .run)) (x .body) rep (st .atoms) (st .pool) (u .atoms) (u .pool) recs recs′ text text′ (x .alone) (x .single) (c .rep-is) (x .atoms) (x .pooled) (x .recs-are) (x .text-is);
+          scan = λ k z. c .scan k ∙ literal-enter s (at .at) (suc (st .atoms)) k (c .run) (c .some-run) (y .within) (y .kind) ∙ (rw (y .past) at (x .scan (low (c .run)) (high (c .run)) k (suc (st .atoms)))) ∙ rw (x .atoms, add-one);
+          settled = x .settled;
+        }
+
+    pub atom-other : (recs′ text′ : Bytes) → r ≡ class.Other → AtomRead s st d recs recs′ text text′ (parsed.Fault FORM (at .at))
+    unfolding ClassRead AtomRead
+    atom-other recs′ text′ e =
+        let (u, v, w) = subst (λ r. ClassRead s (at .at) r) e h in
+        record { scan = λ k z. c .scan k ∙ body-form s (at .at) (suc (st .atoms)) k (c .run) (c .some-run) (λ m l y. c .stops m l y) u v w }
+
+    -- a group
+    module _ (later : Cursor) (e : r ≡ class.Opening later) where
+      pub opening-is : ByteIs s (at .at) 40 later
+      unfolding ClassRead
+      opening-is = subst (λ r. ClassRead s (at .at) r) e h
+
+      opening-kind : kind-at s (at .at) ≡ starts opening
+      unfolding kind between
+      opening-kind = ap kind (sym (opening-is .value))
+
+      pub atom-deep : (recs′ text′ : Bytes) → depth-limit ≤ d → AtomRead s st d recs recs′ text text′ (parsed.Fault DEPTH (at .at))
+      unfolding AtomRead
+      atom-deep recs′ text′ g = record { scan = λ k z. c .scan k ∙ group-deep s (at .at) (suc (st .atoms)) k (c .run) (c .some-run) (opening-is .within) opening-kind (rw z g) }
+
+      module _ (shallow : d < depth-limit) where
+        opened : (k : Around) → depth k ≡ d → scanned s (counting empty, k) (st .at .at) (st .atoms) ≡ scanned s (counting empty, within k (low (c .run)) (high (c .run)) [] []) (later .at) (st .atoms + 1)
+        opened k z = c .scan k ∙ group-enter s (at .at) (suc (st .atoms)) k (c .run) (c .some-run) (opening-is .within) opening-kind (rw z shallow) ∙ rw (opening-is .past, add-one)
+
+        pub group-ready : Ready s (state later (st .atoms + 1) (st .pool)) (d + 1)
+        group-ready = let o = opening-is in record { within = omega (arith, o .past, o .within); atoms = omega (arith, c .room); pool = omega (arith, ready .pool, c .onward .on, o .past); shallow = omega arith }
+
+        pub atom-group-fault : (g : Grouped) (f q : ℕ) (recs′ text′ : Bytes) → g ≡ grouped.Fault f q
+            → GroupRead s (state later (st .atoms + 1) (st .pool)) (d + 1) recs recs′ text text′ g → AtomRead s st d recs recs′ text text′ (parsed.Fault f q)
+        unfolding GroupRead AtomRead
+        atom-group-fault g f q recs′ text′ y x =
+            let v : GroupRefused s (later .at) (st .atoms + 1) (d + 1) f q = subst (λ g. GroupRead s (state later (st .atoms + 1) (st .pool)) (d + 1) recs recs′ text text′ g) y x in
+            record { scan = λ k z. opened k z ∙ v .scan k (low (c .run)) (high (c .run)) [] (omega arith) }
+
+        pub atom-group : (u : State) (b f : ℕ) (recs₁ recs₂ text′ : Bytes) → GroupIs s (state later (st .atoms + 1) (st .pool)) (d + 1) recs recs₁ text text′ u b → f ≡ flag s (u .at .at)
+            → recs₂ ≡ stored recs₁ (record-size * st .atoms) (flat (rec-of 3 f rep b (u .atoms) ∷ []) []) → AtomRead s st d recs recs₂ text text′ (parsed.Done u)
+        unfolding AtomRead Settled fork
+        atom-group u b f recs₁ recs₂ text′ v g w =
+            let m = v .moved in
+            let o = opening-is in
+            record {
+              low = low (c .run);
+              high = high (c .run);
+              body = group (v .tree);
+              moved = record { on = omega (arith, m .on, c .onward .on, o .past); within = m .within; atoms = m .atoms; pool = m .pool };
+              wrote = wrote-group (flag s (u .at .at)) (low (c .run)) (high (c .run)) (v .tree) rep b (st .atoms) (st .pool) (u .atoms) (u .pool) recs recs₁ recs₂ text text′ (c .rep-is) (v .count) (v .wrote) (rw g at w);
+              scan = λ k z. opened k z ∙ v .scan k (low (c .run)) (high (c .run)) [] (omega arith);
+              settled = tt;
+            }
+
+pub group-is : (s : Bytes) (st : State) (d : ℕ) (recs recs′ text text′ : Bytes) (g : Grouped) (u : State) (b : ℕ) → g ≡ grouped.Done u b → GroupRead s st d recs recs′ text text′ g → GroupIs s st d recs recs′ text text′ u b
+unfolding GroupRead
+group-is s st d recs recs′ text text′ g u b e h = subst (λ g. GroupRead s st d recs recs′ text text′ g) e h
+
+pub atom-is : (s : Bytes) (st : State) (d : ℕ) (recs recs′ text text′ : Bytes) (a : Parsed) (u : State) → a ≡ parsed.Done u → AtomRead s st d recs recs′ text text′ a → AtomIs s st d recs recs′ text text′ u
+unfolding AtomRead
+atom-is s st d recs recs′ text text′ a u e h = subst (λ a. AtomRead s st d recs recs′ text text′ a) e h
+
+pub pattern-is : (s : Bytes) (st : State) (d : ℕ) (recs recs′ text text′ : Bytes) (a : Parsed) (u : State) → a ≡ parsed.Done u → PatternRead s st d recs recs′ text text′ a → PatternIs s st d recs recs′ text text′ u
+unfolding PatternRead
+pattern-is s st d recs recs′ text text′ a u e h = subst (λ a. PatternRead s st d recs recs′ text text′ a) e h
+
+-- a pattern from its first atom
+module _ (s : Bytes) (st : State) (d : ℕ) (recs recs₁ text text₁ : Bytes) where
+  pub pattern-fault : (a : Parsed) (f q : ℕ) → a ≡ parsed.Fault f q → AtomRead s st d recs recs₁ text text₁ a → PatternRead s st d recs recs₁ text text₁ (parsed.Fault f q)
+  unfolding AtomRead PatternRead
+  pattern-fault a f q e h = subst (λ a. AtomRead s st d recs recs₁ text text₁ a) e h
+
+  module _ (u : State) (a : AtomIs s st d recs recs₁ text text₁ u) (f : ℕ) (g : f ≡ flag s (u .at .at)) where
+    pub pattern-last : ¬ (f ≡ 0) → PatternRead s st d recs recs₁ text text₁ (parsed.Done u)
+    unfolding PatternRead ended tail
+    pattern-last o =
+        let y : flag s (u .at .at) ≡ 1 = flag-one s (u .at .at) (λ e. o (g ∙ e)) in
+        record {
+          tree = last (repeat (a .low) (a .high) (a .body));
+          moved = a .moved;
+          wrote = wrote-last (st .atoms) (st .pool) (u .atoms) (u .pool) recs recs₁ text text₁ (repeat (a .low) (a .high) (a .body)) (rw y at (a .wrote));
+          scan = a .scan;
+          settled = a .settled;
+          over = y;
+        }
+
+    pub pattern-more : (recs₂ text₂ : Bytes) (p : Parsed) → f ≡ 0 → PatternRead s u d recs₁ recs₂ text₁ text₂ p → PatternRead s st d recs recs₂ text text₂ p
+    unfolding PatternRead ended tail
+    pattern-more recs₂ text₂ (parsed.Fault x q) e h =
+        let (y, w, z) = flag-count s (u .at .at) (sym g ∙ e) in
+        record { scan = λ k o. a .scan k o ∙ atom-next s (u .at .at) (u .atoms) k (a .low) (a .high) (a .body) y w z ∙ h .scan (next k (repeat (a .low) (a .high) (a .body))) (depth-next k (repeat (a .low) (a .high) (a .body)) ∙ o) }
+    pattern-more recs₂ text₂ (parsed.Done v) e h =
+        let (y, w, z) = flag-count s (u .at .at) (sym g ∙ e) in
+        let b : Syntax atom = repeat (a .low) (a .high) (a .body) in
+        let m = h .moved in
+        let l = a .moved in
+        record {
+          tree = then b (h .tree);
+          moved = record { on = omega (arith, m .on, l .on); within = m .within; atoms = m .atoms; pool = m .pool };
+          wrote = wrote-then b (h .tree) (st .atoms) (st .pool) (u .atoms) (u .pool) (v .atoms) (v .pool) recs recs₁ recs₂ text text₁ text₂ (rw (sym g ∙ e) at (a .wrote)) (h .wrote);
+          scan = λ k o. a .scan k o ∙ atom-next s (u .at .at) (u .atoms) k (a .low) (a .high) (a .body) y w z ∙ h .scan (next k b) (depth-next k b ∙ o);
+          settled = h .settled;
+          over = h .over;
+        }
+
+-- where the loop over a pattern's atoms stands: what is read from there on is read from the start
+pub record Going (s : Bytes) (d : ℕ) (st now : State) (recs recs₁ text text₁ : Bytes) : Type 0 where
+  pub ready : Ready s now d
+  pub on : st .at .at ≤ now .at .at
+  pub recs-size : length recs₁ ≡ length recs
+  pub text-size : length text₁ ≡ length text
+  pub rest : (recs₂ text₂ : Bytes) (a : Parsed) → PatternRead s now d recs₁ recs₂ text₁ text₂ a → PatternRead s st d recs recs₂ text text₂ a
+
+pub going-start : (s : Bytes) (d : ℕ) (st : State) (recs text : Bytes) → Ready s st d → Going s d st st recs recs text text
+going-start s d st recs text r = record { ready = r; on = omega arith; recs-size = refl; text-size = refl; rest = λ recs₂ text₂ a h. h }
+
+module _ (s : Bytes) (d : ℕ) (st now : State) (recs recs₁ text text₁ : Bytes) (g : Going s d st now recs recs₁ text text₁) (recs₂ text₂ : Bytes) where
+  pub going-fault : (a : Parsed) (f q : ℕ) → a ≡ parsed.Fault f q → AtomRead s now d recs₁ recs₂ text₁ text₂ a → PatternRead s st d recs recs₂ text text₂ (parsed.Fault f q)
+  going-fault a f q e h = g .rest recs₂ text₂ (parsed.Fault f q) (pattern-fault s now d recs₁ recs₂ text₁ text₂ a f q e h)
+
+  module _ (u : State) (a : AtomIs s now d recs₁ recs₂ text₁ text₂ u) (f : ℕ) (e : f ≡ flag s (u .at .at)) where
+    pub going-last : ¬ (f ≡ 0) → PatternRead s st d recs recs₂ text text₂ (parsed.Done u)
+    going-last o = g .rest recs₂ text₂ (parsed.Done u) (pattern-last s now d recs₁ recs₂ text₁ text₂ u a f e o)
+
+    pub going-more : f ≡ 0 → length recs₂ ≡ length recs₁ → length text₂ ≡ length text₁ → Going s d st u recs recs₂ text text₂
+    going-more z x y =
+        let m = a .moved in
+        record {
+          ready = record { within = m .within; atoms = m .atoms; pool = m .pool; shallow = g .ready .shallow };
+          on = omega (arith, g .on, m .on);
+          recs-size = x ∙ g .recs-size;
+          text-size = y ∙ g .text-size;
+          rest = λ r t b h. g .rest r t b (pattern-more s now d recs₁ recs₂ text₁ text₂ u a f e r t b z h);
+        }
+
+-- the branches of a group from the first
+module _ (s : Bytes) (st : State) (d : ℕ) (recs recs₁ text text₁ : Bytes) where
+  pub group-fault : (a : Parsed) (f q : ℕ) → a ≡ parsed.Fault f q → PatternRead s st d recs recs₁ text text₁ a → GroupRead s st d recs recs₁ text text₁ (grouped.Fault f q)
+  unfolding PatternRead GroupRead depth
+  group-fault a f q e h =
+      let x : Refused s (st .at .at) (st .atoms) d f q = subst (λ a. PatternRead s st d recs recs₁ text text₁ a) e h in
+      record { scan = λ k l v others z. x .scan (within k l v others []) z }
+
+  module _ (u : State) (p : PatternIs s st d recs recs₁ text text₁ u) (r : Separator) (h : SeparatorRead s (u .at .at) r) where
+    pub group-other : r ≡ separator.Other → GroupRead s st d recs recs₁ text text₁ (grouped.Fault FORM (u .at .at))
+    unfolding SeparatorRead GroupRead depth
+    group-other e =
+        let o = subst (λ r. SeparatorRead s (u .at .at) r) e h in
+        record { scan = λ k l v others z. p .scan (within k l v others []) z ∙ branch-form s (u .at .at) (u .atoms) (p .tree) k l v others (p .settled) (p .over) o }
+
+    pub group-close : (later : Cursor) → r ≡ separator.Closing later → GroupRead s st d recs recs₁ text text₁ (grouped.Done (state later (u .atoms) (u .pool)) 1)
+    unfolding SeparatorRead GroupRead depth choices
+    group-close later e =
+        let o = subst (λ r. SeparatorRead s (u .at .at) r) e h in
+        let m = p .moved in
+        record {
+          tree = only (p .tree);
+          moved = record { on = omega (arith, m .on, o .past); within = omega (arith, o .past, o .within); atoms = m .atoms; pool = omega (arith, m .pool, o .past) };
+          wrote = wrote-only (st .atoms) (st .pool) (u .atoms) (u .pool) recs recs₁ text text₁ (p .tree) (p .wrote);
+          count = refl;
+          scan = λ k l v others z. p .scan (within k l v others []) z ∙ closes s (u .at .at) (u .atoms) (p .tree) k l v others (o .within) (o .value) ∙ rw (o .past);
+        }
+
+    module _ (later : Cursor) (e : r ≡ separator.Comma later) where
+      pub comma-is : ByteIs s (u .at .at) 44 later
+      unfolding SeparatorRead
+      comma-is = subst (λ r. SeparatorRead s (u .at .at) r) e h
+
+      parted : (k : Around) (l : ℕ) (v : Option ℕ) (others : List (Syntax pattern)) → suc (depth k) ≡ d
+          → scanned s (counting empty, within k l v others []) (st .at .at) (st .atoms) ≡ scanned s (counting empty, within k l v (p .tree ∷ others) []) (later .at) (u .atoms)
+      unfolding depth
+      parted k l v others z = let o = comma-is in p .scan (within k l v others []) z ∙ parts s (u .at .at) (u .atoms) (p .tree) k l v others (o .within) (o .value) ∙ rw (o .past)
+
+      pub group-comma-fault : (recs₂ text₂ : Bytes) (g : Grouped) (f q : ℕ) → g ≡ grouped.Fault f q
+          → GroupRead s (state later (u .atoms) (u .pool)) d recs₁ recs₂ text₁ text₂ g → GroupRead s st d recs recs₂ text text₂ (grouped.Fault f q)
+      unfolding GroupRead
+      group-comma-fault recs₂ text₂ g f q y x =
+          let v : GroupRefused s (later .at) (u .atoms) d f q = subst (λ g. GroupRead s (state later (u .atoms) (u .pool)) d recs₁ recs₂ text₁ text₂ g) y x in
+          record { scan = λ k l w others z. parted k l w others z ∙ v .scan k l w (p .tree ∷ others) z }
+
+      pub group-comma : (recs₂ text₂ : Bytes) (w : State) (b : ℕ) → GroupIs s (state later (u .atoms) (u .pool)) d recs₁ recs₂ text₁ text₂ w b → GroupRead s st d recs recs₂ text text₂ (grouped.Done w (b + 1))
+      unfolding GroupRead choices fork
+      group-comma recs₂ text₂ w b x =
+          let o = comma-is in
+          let m = p .moved in
+          let n = x .moved in
+          record {
+            tree = or (p .tree) (x .tree);
+            moved = record { on = omega (arith, m .on, n .on, o .past); within = n .within; atoms = n .atoms; pool = n .pool };
+            wrote = wrote-or (p .tree) (x .tree) (st .atoms) (st .pool) (u .atoms) (u .pool) (w .atoms) (w .pool) recs recs₁ recs₂ text text₁ text₂ (p .wrote) (x .wrote);
+            count = omega (arith, x .count);
+            scan = λ k l v others z. parted k l v others z ∙ x .scan k l v (p .tree ∷ others) z;
+          }
+
+-- each branch has an atom
+choices-few : (bs : Syntax branches) → choices bs ≤ size bs
+unfolding choices size
+choices-few (only p) = some-pattern p
+choices-few (or p bs) = omega (arith, some-pattern p, choices-few bs)
+
+pub count-few : (s : Bytes) (st : State) (d : ℕ) (recs recs′ text text′ : Bytes) (u : State) (b : ℕ) → GroupIs s st d recs recs′ text text′ u b → b ≤ atom-limit
+count-few s st d recs recs′ text text′ u b g = let m = g .moved in let w = g .wrote in omega (arith, g .count, choices-few (g .tree), m .atoms, w .atoms)

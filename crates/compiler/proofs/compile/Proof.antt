@@ -1,0 +1,65 @@
+-- `compile` meets its contract: the reader's answer is the scan's. Assumes nothing.
+use mathlib.Core.Path.{refl, _∙_}
+use native.Mathlib.Omega.{arith}
+use Rattle.compiler.proofs.Readers.{pattern-is}
+use Rattle.compiler.proofs.Emits.{compile-long, compile-fault, compile-form, emits-all, compile-table}
+use borrow.Author.Needs.{needs}
+use Rattle.compiler.proofs.compile.Statement.{statement}
+use Rattle.compiler.proofs.compile.Tie as tie
+
+returns : tie.Need-returns
+returns c = compile-long _ _ (c .if1 .taken)
+
+slice-aggregate-read-pattern : tie.Need-slice-aggregate-read-pattern
+slice-aggregate-read-pattern c = search needs
+
+slice-aggregate-read-pattern-2 : tie.Need-slice-aggregate-read-pattern-2
+slice-aggregate-read-pattern-2 c = search needs
+
+read-pattern-requires : tie.Need-read-pattern-requires
+read-pattern-requires c κs = search needs
+
+enum-known-end : tie.Need-enum-known-end
+enum-known-end c = search needs
+
+slice-aggregate-emit : tie.Need-slice-aggregate-emit
+slice-aggregate-emit c = search needs
+
+slice-aggregate-emit-2 : tie.Need-slice-aggregate-emit-2
+slice-aggregate-emit-2 c = search needs
+
+emit-requires : tie.Need-emit-requires
+emit-requires c κs = emits-all _ (c .before .before .before .before .before .before .before .before .before .before .before .before .before .before .before .before .args .table .now) (omega (arith, c .before .before .before .before .before .before .before .before .before .before .before .before .before .if1 .left)) _ _ _ _ _ (pattern-is _ _ _ _ _ _ _ _ _ (c .before .before .before .before .before .before .end .given .1) (c .before .before .before .before .before .before .before .before .before .before .read-pattern .ensures)) (omega arith) (omega arith) (c .before .before .before .before .before .before .before .before .before .before .read-pattern .kept .1 .1 .1 .0) (c .before .before .before .before .before .before .before .before .before .before .read-pattern .kept .1 .1 .1 .1 .0)
+
+enum-known-no : tie.Need-enum-known-no
+enum-known-no c = search needs
+
+returns-2 : tie.Need-returns-2
+returns-2 c = compile-form _ _ (omega (arith, c .before .before .before .before .before .before .before .before .before .before .if1 .left)) _ _ _ _ _ (pattern-is _ _ _ _ _ _ _ _ _ (c .before .before .before .end .given .1) (c .before .before .before .before .before .before .before .read-pattern .ensures)) (c .if2 .taken)
+
+same-length : tie.Need-same-length
+same-length c = search needs
+
+returns-3 : tie.Need-returns-3
+returns-3 c = compile-table _ _ (omega (arith, c .before .before .before .before .before .before .before .before .before .before .before .before .before .before .before .before .if1 .left)) _ _ _ _ _ (pattern-is _ _ _ _ _ _ _ _ _ (c .before .before .before .before .before .before .before .before .before .end .given .1) (c .before .before .before .before .before .before .before .before .before .before .before .before .before .read-pattern .ensures)) (omega arith) (omega arith) (omega (arith, c .before .before .before .before .before .before .if2 .left)) _ (c .before .before .emit .ensures)
+
+returns-4 : tie.Need-returns-4
+returns-4 c = compile-fault _ _ (omega (arith, c .before .before .before .before .before .before .before .before .if1 .left)) _ _ _ _ _ _ _ (c .before .no .given .1) (c .before .before .before .before .before .read-pattern .ensures)
+
+pub compile-spec : {M : Type 1} → statement M
+compile-spec =
+    tie.close
+    (tie.spec
+    returns
+    slice-aggregate-read-pattern
+    slice-aggregate-read-pattern-2
+    read-pattern-requires
+    enum-known-end
+    slice-aggregate-emit
+    slice-aggregate-emit-2
+    emit-requires
+    enum-known-no
+    returns-2
+    same-length
+    returns-3
+    returns-4)

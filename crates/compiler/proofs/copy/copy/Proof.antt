@@ -1,0 +1,60 @@
+-- `copy::copy` meets its contract: the first i bytes are stored. What is left falls. Assumes nothing.
+use mathlib.Core.Path.{_≡_, sym, ap, _∙_}
+use Prim.Native.Nat.{_≤_, _-_, _+_}
+use native.Mathlib.Omega.{arith}
+use lib.ListN.{length, take, set, getD, length-set}
+use mathlib.Core.List.{[]}
+use Rattle.compiler.specs.Buffers.{stored}
+use Rattle.compiler.proofs.Puts.{length-stored, stored-none, copied}
+use borrow.Author.Needs.{needs}
+use Rattle.compiler.proofs.copy.copy.Statement.{statement}
+use Rattle.compiler.proofs.copy.copy.Tie as tie
+
+abbrev Inv-loop : tie.InvT-loop
+Inv-loop from n to₀ at i₀ to i = (i ≤ n) × (to ≡ stored to₀ at (take i from))
+
+abbrev μ-loop : tie.MeasureT-loop
+μ-loop from n to₀ at i₀ to i = n - i
+
+loop-holds : tie.Need-loop-holds Inv-loop μ-loop
+loop-holds c = (omega arith, sym (stored-none _ _))
+
+shared-slice-read-to : tie.Need-shared-slice-read-to Inv-loop μ-loop
+shared-slice-read-to c = omega arith
+
+add-to : tie.Need-add-to Inv-loop μ-loop
+add-to c = omega arith
+
+slice-write-to : tie.Need-slice-write-to Inv-loop μ-loop
+slice-write-to c = omega (arith, ap length (c .before .before .loop .inv .1), length-stored (c .before .before .before .args .to .now) (c .before .before .before .args .at) (take (c .before .before .loop .i) (c .before .before .before .args .from .now)))
+
+add-i : tie.Need-add-i Inv-loop μ-loop
+add-i c = omega arith
+
+loop-less : tie.Need-loop-less Inv-loop μ-loop
+loop-less c = omega arith
+
+loop-again : tie.Need-loop-again Inv-loop μ-loop
+loop-again c = (omega arith, ap (λ m. set m (c .before .before .before .args .at + c .before .before .loop .i) (getD (c .before .before .before .args .from .now) (c .before .before .loop .i) 0)) (c .before .before .loop .inv .1) ∙ copied (c .before .before .before .args .to .now) (c .before .before .before .args .from .now) (c .before .before .before .args .at) (c .before .before .loop .i) (omega arith))
+
+same-length : tie.Need-same-length Inv-loop μ-loop
+same-length c = ap length (c .before .loop .inv .1) ∙ length-stored _ _ _
+
+returns : tie.Need-returns Inv-loop μ-loop
+returns c = let e : c .before .loop .i ≡ c .before .before .args .n = omega arith in rw e at (c .before .loop .inv .1)
+
+pub copy-spec : {M : Type 1} → statement M
+copy-spec =
+    tie.close
+    (tie.spec
+    Inv-loop
+    μ-loop
+    loop-holds
+    shared-slice-read-to
+    add-to
+    slice-write-to
+    add-i
+    loop-less
+    loop-again
+    same-length
+    returns)

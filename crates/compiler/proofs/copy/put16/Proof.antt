@@ -1,0 +1,34 @@
+-- `copy::put16` meets its contract. Assumes nothing.
+use mathlib.Core.Path.{sym}
+use native.Mathlib.Omega.{arith}
+use lib.ListN.{length-set}
+use Rattle.compiler.proofs.Puts.{stored-two}
+use borrow.Author.Needs.{needs}
+use Rattle.compiler.proofs.copy.put16.Statement.{statement}
+use Rattle.compiler.proofs.copy.put16.Tie as tie
+
+cast-to : tie.Need-cast-to
+cast-to c = search needs
+
+slice-write-to : tie.Need-slice-write-to
+slice-write-to c = search needs
+
+cast-to-2 : tie.Need-cast-to-2
+cast-to-2 c = search needs
+
+add-to : tie.Need-add-to
+add-to c = search needs
+
+slice-write-to-2 : tie.Need-slice-write-to-2
+slice-write-to-2 c = simp length-set (omega arith)
+
+same-length : tie.Need-same-length
+same-length c = search needs
+
+returns : tie.Need-returns
+returns c = sym (stored-two _ _ _ _)
+
+pub put16-spec : {M : Type 1} → statement M
+put16-spec =
+    tie.close
+    (tie.spec cast-to slice-write-to cast-to-2 add-to slice-write-to-2 same-length returns)

@@ -1,0 +1,77 @@
+-- `emit::emit` meets its contract: header, records and text stored one after the other. Assumes nothing.
+use mathlib.Core.Path.{_∙_}
+use native.Mathlib.Omega.{arith}
+use lib.ListN.{length-set}
+use Rattle.compiler.proofs.Emits.{no-room, emits-table}
+use borrow.Author.Needs.{needs}
+use Rattle.compiler.proofs.emit.emit.Statement.{statement}
+use Rattle.compiler.proofs.emit.emit.Tie as tie
+
+mul-from : tie.Need-mul-from
+mul-from c = search needs
+
+add-from : tie.Need-add-from
+add-from c = search needs
+
+add-total : tie.Need-add-total
+add-total c = search needs
+
+returns : tie.Need-returns
+returns c = no-room _ _ _ _ _ _ (c .before .before .before .before .pre) (c .if1 .taken)
+
+marked-requires : tie.Need-marked-requires
+marked-requires c κs = search needs
+
+slice-aggregate-copy : tie.Need-slice-aggregate-copy
+slice-aggregate-copy c = search needs
+
+copy-requires : tie.Need-copy-requires
+copy-requires c κs = search needs
+
+cast-table : tie.Need-cast-table
+cast-table c = search needs
+
+slice-write-table : tie.Need-slice-write-table
+slice-write-table c = search needs
+
+cast-put16 : tie.Need-cast-put16
+cast-put16 c = search needs
+
+put16-requires : tie.Need-put16-requires
+put16-requires c κs = simp length-set (omega (arith, c .before .before .before .copy .kept .1 .1 .0))
+
+mul-copy : tie.Need-mul-copy
+mul-copy c = search needs
+
+copy-requires-2 : tie.Need-copy-requires-2
+copy-requires-2 c κs = let k = simp length-set at (c .before .before .before .put16 .kept .0) in (c .before .before .before .before .before .before .before .before .before .before .before .before .before .before .before .pre .recs-there, omega (arith, k, c .before .before .before .before .before .before .before .copy .kept .1 .1 .0, c .before .before .before .before .before .before .before .before .before .before .before .if1 .left))
+
+copy-requires-3 : tie.Need-copy-requires-3
+copy-requires-3 c κs = let k = simp length-set at (c .before .before .before .before .before .before .before .put16 .kept .0) in (c .before .before .before .before .before .before .before .before .before .before .before .before .before .before .before .before .before .before .before .pre .text-there, omega (arith, k, c .before .before .before .copy2 .kept .1 .1 .0, c .before .before .before .before .before .before .before .before .before .before .before .copy .kept .1 .1 .0, c .before .before .before .before .before .before .before .before .before .before .before .before .before .before .before .if1 .left))
+
+same-length : tie.Need-same-length
+same-length c = c .before .before .copy3 .kept .1 .1 .0 ∙ c .before .before .before .before .before .before .copy2 .kept .1 .1 .0 ∙ (simp length-set at (c .before .before .before .before .before .before .before .before .before .before .put16 .kept .0)) ∙ c .before .before .before .before .before .before .before .before .before .before .before .before .before .before .copy .kept .1 .1 .0
+
+returns-2 : tie.Need-returns-2
+returns-2 c = emits-table _ _ _ _ _ _ (c .before .before .before .before .before .before .before .before .before .before .before .before .before .before .before .before .before .before .before .before .before .before .pre) _ _ _ _ _ (c .before .before .before .before .before .before .before .before .before .before .before .before .before .before .before .before .before .before .if1 .left) (c .before .before .before .before .before .before .before .before .before .before .before .before .before .before .before .before .before .marked .ensures) (c .before .before .before .before .before .before .before .before .before .before .before .before .before .before .copy .ensures) (c .before .before .before .before .before .before .before .before .before .before .put16 .ensures) (c .before .before .before .before .before .before .copy2 .ensures) (c .before .before .copy3 .ensures)
+
+pub emit-spec : {M : Type 1} → statement M
+emit-spec =
+    tie.close
+    (tie.spec
+    mul-from
+    add-from
+    add-total
+    returns
+    marked-requires
+    slice-aggregate-copy
+    copy-requires
+    cast-table
+    slice-write-table
+    cast-put16
+    put16-requires
+    mul-copy
+    copy-requires-2
+    copy-requires-3
+    same-length
+    returns-2)

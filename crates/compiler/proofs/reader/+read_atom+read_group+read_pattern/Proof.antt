@@ -1,0 +1,391 @@
+-- `reader::read_pattern`, `read_atom` and `read_group` meet their contracts. A pattern reads an atom at the same place, a group a pattern at the same place, an atom a group
+-- further on: the measure is three times what is left of the source, with 1 more for a pattern and 2 for a group. Assumes nothing.
+use mathlib.Core.Path.{_≡_, _∙_}
+use Prim.Native.Nat.{_+_}
+use native.Mathlib.Omega.{arith}
+use borrow.Author.Needs.{needs}
+use Rattle.compiler.specs.Counts.{CountIs}
+use Rattle.compiler.specs.Readers.{Ready, Room}
+use Rattle.compiler.proofs.Readers.{reach, count-is, quote-is, atom-fault, atom-coded, atom-worded, atom-other, opening-is, atom-deep, group-ready, atom-group-fault, atom-group, group-is, atom-is, pattern-is, Going, going-start, going-fault, going-last, going-more, group-fault, group-other, group-close, comma-is, group-comma-fault, group-comma, count-few}
+use Prim.Native.Nat.{ℕ, _<_}
+use borrow.Fn.Kinds.{In}
+use borrow.Fn.PlainCycle.{Measures, is, falls, and}
+use Rattle.compiler.proofs.reader.read_atom.Reads as read-atom
+use Rattle.compiler.proofs.reader.read_atom.Kinds as read-atom-kinds
+use Rattle.compiler.proofs.reader.+read_atom+read_group+read_pattern.Lts-read_atom as read-atom-lts
+use Rattle.compiler.proofs.reader.read_group.Reads as read-group
+use Rattle.compiler.proofs.reader.read_group.Kinds as read-group-kinds
+use Rattle.compiler.proofs.reader.+read_atom+read_group+read_pattern.Lts-read_group as read-group-lts
+use Rattle.compiler.proofs.reader.read_pattern.Reads as read-pattern
+use Rattle.compiler.proofs.reader.read_pattern.Kinds as read-pattern-kinds
+use Rattle.compiler.proofs.reader.+read_atom+read_group+read_pattern.Lts-read_pattern as read-pattern-lts
+use Rattle.compiler.proofs.copy.put_record.Reads as put-record-reads
+use Rattle.compiler.proofs.count.count.Reads as count-reads
+use Rattle.compiler.proofs.cursor.Cursor.class.Reads as class-reads
+use Rattle.compiler.proofs.cursor.Cursor.last.Reads as last-reads
+use Rattle.compiler.proofs.cursor.Cursor.separator.Reads as separator-reads
+use Rattle.compiler.proofs.reader.coded.Reads as coded-reads
+use Rattle.compiler.proofs.reader.worded.Reads as worded-reads
+use Rattle.compiler.proofs.reader.+read_atom+read_group+read_pattern.{statement}
+use Rattle.compiler.proofs.reader.+read_atom+read_group+read_pattern.Tie.{close}
+
+abbrev μ-read-atom : Measures 3 read-atom-kinds.ps ℕ
+μ-read-atom κs a = reach (a .0 .now) (a .1 .0)
+
+abbrev μ-read-group : Measures 3 read-group-kinds.ps ℕ
+μ-read-group κs a = reach (a .0 .now) (a .1 .0) + 2
+
+abbrev μ-read-pattern : Measures 3 read-pattern-kinds.ps ℕ
+μ-read-pattern κs a = reach (a .0 .now) (a .1 .0) + 1
+
+abbrev read-atom-at : ℕ → In 3 read-atom-kinds.ps
+read-atom-at t = and 3 read-atom-kinds.ps (is 3 read-atom-kinds.ps μ-read-atom t) read-atom.Pre
+
+abbrev read-atom-below : ℕ → In 3 read-atom-kinds.ps
+read-atom-below t =
+    and 3 read-atom-kinds.ps (falls 3 read-atom-kinds.ps _<_ μ-read-atom t) read-atom.Pre
+
+abbrev read-group-at : ℕ → In 3 read-group-kinds.ps
+read-group-at t =
+    and 3 read-group-kinds.ps (is 3 read-group-kinds.ps μ-read-group t) read-group.Pre
+
+abbrev read-group-below : ℕ → In 3 read-group-kinds.ps
+read-group-below t =
+    and 3 read-group-kinds.ps (falls 3 read-group-kinds.ps _<_ μ-read-group t) read-group.Pre
+
+abbrev read-pattern-at : ℕ → In 3 read-pattern-kinds.ps
+read-pattern-at t =
+    and 3 read-pattern-kinds.ps (is 3 read-pattern-kinds.ps μ-read-pattern t) read-pattern.Pre
+
+abbrev read-pattern-below : ℕ → In 3 read-pattern-kinds.ps
+read-pattern-below t =
+    and
+    3
+    read-pattern-kinds.ps
+    (falls 3 read-pattern-kinds.ps _<_ μ-read-pattern t)
+    read-pattern.Pre
+
+abbrev read-atom-claims : ℕ → read-atom-lts.Claims
+read-atom-claims t = (count-reads.Asked, count-reads.Learnt, class-reads.Asked, class-reads.Learnt, coded-reads.Asked, coded-reads.Learnt, worded-reads.Asked, worded-reads.Learnt, read-group-below t, read-group.Post, last-reads.Asked, last-reads.Learnt, put-record-reads.Asked, put-record-reads.Learnt)
+
+abbrev read-group-claims : ℕ → read-group-lts.Claims
+read-group-claims t = (read-pattern-below t, read-pattern.Post, separator-reads.Asked, separator-reads.Learnt, read-group-below t, read-group.Post)
+
+abbrev read-pattern-claims : ℕ → read-pattern-lts.Claims
+read-pattern-claims t = (read-atom-below t, read-atom.Post, last-reads.Asked, last-reads.Learnt)
+
+-- what is known where a count was read: the count, and that the reader was ready
+read-atom-counted : (t : ℕ) (c : read-atom-lts.After-known-told (read-atom-claims t) (read-atom-at t) read-atom.Post)
+    → CountIs (c .before .before .before .before .before .before .before .before .args .s .now) (c .before .before .before .before .before .before .before .before .args .st .at .at) (c .before .before .before .before .before .before .before .before .args .st .atoms) (c .before .rep .given .0 .0) (c .before .rep .given .0 .1 .0)
+read-atom-counted t c = count-is _ _ _ _ _ _ (c .before .rep .given .1) (c .before .before .before .count .ensures)
+
+read-atom-ready : (t : ℕ) (c : read-atom-lts.After-known-told (read-atom-claims t) (read-atom-at t) read-atom.Post) → Ready (c .before .before .before .before .before .before .before .before .args .s .now) (c .before .before .before .before .before .before .before .before .args .st) (c .before .before .before .before .before .before .before .before .args .depth)
+read-atom-ready t c = c .before .before .before .before .before .before .before .before .pre .1 .0
+
+read-atom-room : (t : ℕ) (c : read-atom-lts.After-known-told (read-atom-claims t) (read-atom-at t) read-atom.Post) → Room (c .before .before .before .before .before .before .before .before .args .s .now) (c .before .before .before .before .before .before .before .before .args .recs .now) (c .before .before .before .before .before .before .before .before .args .pool .now)
+read-atom-room t c = c .before .before .before .before .before .before .before .before .pre .1 .1
+
+read-atom-count-requires : (t : ℕ) → read-atom-lts.Need-count-requires (read-atom-claims t) (read-atom-at t) read-atom.Post
+read-atom-count-requires t c κs = c .before .before .before .before .pre .1 .0 .within
+
+read-atom-enum-known-rep : (t : ℕ) → read-atom-lts.Need-enum-known-rep (read-atom-claims t) (read-atom-at t) read-atom.Post
+read-atom-enum-known-rep t c = search needs
+
+read-atom-class-requires : (t : ℕ) → read-atom-lts.Need-class-requires (read-atom-claims t) (read-atom-at t) read-atom.Post
+read-atom-class-requires t c κs = search needs
+
+read-atom-enum-told : (t : ℕ) → read-atom-lts.Need-enum-told (read-atom-claims t) (read-atom-at t) read-atom.Post
+read-atom-enum-told t c = search needs
+
+read-atom-coded-requires : (t : ℕ) → read-atom-lts.Need-coded-requires (read-atom-claims t) (read-atom-at t) read-atom.Post
+read-atom-coded-requires t c κs = let k = read-atom-counted t (c .before .before .before .before) in let r = read-atom-ready t (c .before .before .before .before) in let m = read-atom-room t (c .before .before .before .before) in record { within = k .onward .within; atoms = k .room; pool = omega (arith, r .pool, k .onward .on); source = m .source; recs-fit = m .recs-fit }
+
+read-atom-enum-known-after : (t : ℕ) → read-atom-lts.Need-enum-known-after (read-atom-claims t) (read-atom-at t) read-atom.Post
+read-atom-enum-known-after t c = search needs
+
+read-atom-worded-requires : (t : ℕ) → read-atom-lts.Need-worded-requires (read-atom-claims t) (read-atom-at t) read-atom.Post
+read-atom-worded-requires t c κs = let k = read-atom-counted t (c .before .before .before .before .before .before) in let r = read-atom-ready t (c .before .before .before .before .before .before) in let m = read-atom-room t (c .before .before .before .before .before .before) in let y = quote-is _ _ _ _ (c .before .before .before .after .given .1) (c .before .before .before .before .before .class .ensures) in (record { within = omega (arith, y .within, y .past); atoms = k .room; pool = omega (arith, r .pool, k .onward .on, y .past); source = m .source; recs-fit = m .recs-fit }, m .text-fits)
+
+read-atom-enum-known-after-2 : (t : ℕ) → read-atom-lts.Need-enum-known-after-2 (read-atom-claims t) (read-atom-at t) read-atom.Post
+read-atom-enum-known-after-2 t c = search needs
+
+read-atom-returns : (t : ℕ) → read-atom-lts.Need-returns (read-atom-claims t) (read-atom-at t) read-atom.Post
+read-atom-returns t c = atom-deep _ _ _ _ _ (read-atom-ready t (c .before .before .before .before .before)) _ _ (read-atom-counted t (c .before .before .before .before .before)) _ (c .before .before .before .before .class .ensures) _ (c .before .before .after2 .given .1) _ _ (c .if1 .taken)
+
+read-atom-add-read-group : (t : ℕ) → read-atom-lts.Need-add-read-group (read-atom-claims t) (read-atom-at t) read-atom.Post
+read-atom-add-read-group t c = let k = read-atom-counted t (c .before .before .before .before .before) in omega (arith, k .room)
+
+read-atom-add-read-group-2 : (t : ℕ) → read-atom-lts.Need-add-read-group-2 (read-atom-claims t) (read-atom-at t) read-atom.Post
+read-atom-add-read-group-2 t c = omega (arith, c .if1 .left)
+
+read-atom-read-group-requires : (t : ℕ) → read-atom-lts.Need-read-group-requires (read-atom-claims t) (read-atom-at t) read-atom.Post
+read-atom-read-group-requires t c κs = let k = read-atom-counted t (c .before .before .before .before .before .before .before) in let r = read-atom-ready t (c .before .before .before .before .before .before .before) in let m = read-atom-room t (c .before .before .before .before .before .before .before) in let o = opening-is _ _ (c .before .before .before .before .before .before .before .before .before .before .before .before .before .before .before .args .depth) (c .before .before .before .before .before .before .before .before .before .before .before .before .before .before .before .args .recs .now) (c .before .before .before .before .before .before .before .before .before .before .before .before .before .before .before .args .pool .now) (read-atom-ready t (c .before .before .before .before .before .before .before)) _ _ k _ (c .before .before .before .before .before .before .class .ensures) _ (c .before .before .before .before .after2 .given .1) in (omega (arith, k .onward .on, o .past, o .within, c .before .before .before .before .before .before .before .before .before .before .before .before .before .before .before .pre .0), (group-ready _ _ _ (c .before .before .before .before .before .before .before .before .before .before .before .before .before .before .before .args .recs .now) (c .before .before .before .before .before .before .before .before .before .before .before .before .before .before .before .args .pool .now) (read-atom-ready t (c .before .before .before .before .before .before .before)) _ _ k _ (c .before .before .before .before .before .before .class .ensures) _ (c .before .before .before .before .after2 .given .1) (omega (arith, c .before .before .if1 .left)), c .before .before .before .before .before .before .before .before .before .before .before .before .before .before .before .pre .1 .1))
+
+read-atom-enum-known-end : (t : ℕ) → read-atom-lts.Need-enum-known-end (read-atom-claims t) (read-atom-at t) read-atom.Post
+read-atom-enum-known-end t c = search needs
+
+read-atom-last-requires : (t : ℕ) → read-atom-lts.Need-last-requires (read-atom-claims t) (read-atom-at t) read-atom.Post
+read-atom-last-requires t c κs = search needs
+
+read-atom-cast-put-record : (t : ℕ) → read-atom-lts.Need-cast-put-record (read-atom-claims t) (read-atom-at t) read-atom.Post
+read-atom-cast-put-record t c = record { fits = omega (arith, count-few _ _ _ _ _ _ _ _ _ (group-is _ _ _ _ _ _ _ _ _ _ (c .before .before .before .before .end .given .1) (c .before .before .before .before .before .before .before .before .before .before .read-group .ensures))) }
+
+read-atom-cast-put-record-2 : (t : ℕ) → read-atom-lts.Need-cast-put-record-2 (read-atom-claims t) (read-atom-at t) read-atom.Post
+read-atom-cast-put-record-2 t c = let g = (group-is _ _ _ _ _ _ _ _ _ _ (c .before .before .before .before .before .end .given .1) (c .before .before .before .before .before .before .before .before .before .before .before .read-group .ensures)) in let m = g .moved in record { fits = omega (arith, m .atoms) }
+
+read-atom-put-record-requires : (t : ℕ) → read-atom-lts.Need-put-record-requires (read-atom-claims t) (read-atom-at t) read-atom.Post
+read-atom-put-record-requires t c κs = let k = read-atom-counted t (c .before .before .before .before .before .before .before .before .before .before .before .before .before .before .before .before .before .before .before) in let r = read-atom-ready t (c .before .before .before .before .before .before .before .before .before .before .before .before .before .before .before .before .before .before .before) in let m = read-atom-room t (c .before .before .before .before .before .before .before .before .before .before .before .before .before .before .before .before .before .before .before) in omega (arith, k .room, m .recs-fit, c .before .before .before .before .before .before .before .before .before .before .before .read-group .kept .1 .1 .1 .0)
+
+read-atom-enum-known-no : (t : ℕ) → read-atom-lts.Need-enum-known-no (read-atom-claims t) (read-atom-at t) read-atom.Post
+read-atom-enum-known-no t c = search needs
+
+read-atom-enum-told-2 : (t : ℕ) → read-atom-lts.Need-enum-told-2 (read-atom-claims t) (read-atom-at t) read-atom.Post
+read-atom-enum-told-2 t c = search needs
+
+read-atom-enum-known-no-2 : (t : ℕ) → read-atom-lts.Need-enum-known-no-2 (read-atom-claims t) (read-atom-at t) read-atom.Post
+read-atom-enum-known-no-2 t c = search needs
+
+read-atom-same-length : (t : ℕ) → read-atom-lts.Need-same-length (read-atom-claims t) (read-atom-at t) read-atom.Post
+read-atom-same-length t c = search needs
+
+read-atom-returns-2 : (t : ℕ) → read-atom-lts.Need-returns-2 (read-atom-claims t) (read-atom-at t) read-atom.Post
+read-atom-returns-2 t c = atom-coded _ _ _ _ _ (read-atom-ready t (c .before .before .before .before .before .before .before)) _ _ (read-atom-counted t (c .before .before .before .before .before .before .before)) _ (c .before .before .before .before .before .before .class .ensures) _ _ (c .before .before .before .before .enum-told .given .1) (c .before .before .coded .ensures)
+
+read-atom-same-length-2 : (t : ℕ) → read-atom-lts.Need-same-length-2 (read-atom-claims t) (read-atom-at t) read-atom.Post
+read-atom-same-length-2 t c = search needs
+
+read-atom-same-length-3 : (t : ℕ) → read-atom-lts.Need-same-length-3 (read-atom-claims t) (read-atom-at t) read-atom.Post
+read-atom-same-length-3 t c = search needs
+
+read-atom-returns-3 : (t : ℕ) → read-atom-lts.Need-returns-3 (read-atom-claims t) (read-atom-at t) read-atom.Post
+read-atom-returns-3 t c = atom-worded _ _ _ _ _ (read-atom-ready t (c .before .before .before .before .before .before .before .before .before .before .before)) _ _ (read-atom-counted t (c .before .before .before .before .before .before .before .before .before .before .before)) _ (c .before .before .before .before .before .before .before .before .before .before .class .ensures) _ _ _ _ (c .before .before .before .before .before .before .before .before .after .given .1) (c .before .before .before .before .worded .ensures)
+
+read-atom-same-length-4 : (t : ℕ) → read-atom-lts.Need-same-length-4 (read-atom-claims t) (read-atom-at t) read-atom.Post
+read-atom-same-length-4 t c = c .before .before .put-record .kept .0 ∙ c .before .before .before .before .before .before .before .before .before .before .before .before .before .before .read-group .kept .1 .1 .1 .0
+
+read-atom-same-length-5 : (t : ℕ) → read-atom-lts.Need-same-length-5 (read-atom-claims t) (read-atom-at t) read-atom.Post
+read-atom-same-length-5 t c = search needs
+
+read-atom-returns-4 : (t : ℕ) → read-atom-lts.Need-returns-4 (read-atom-claims t) (read-atom-at t) read-atom.Post
+read-atom-returns-4 t c = atom-group _ _ _ _ _ (read-atom-ready t (c .before .before .before .before .before .before .before .before .before .before .before .before .before .before .before .before .before .before .before .before .before .before)) _ _ (read-atom-counted t (c .before .before .before .before .before .before .before .before .before .before .before .before .before .before .before .before .before .before .before .before .before .before)) _ (c .before .before .before .before .before .before .before .before .before .before .before .before .before .before .before .before .before .before .before .before .before .class .ensures) _ (c .before .before .before .before .before .before .before .before .before .before .before .before .before .before .before .before .before .before .before .after2 .given .1) (omega (arith, c .before .before .before .before .before .before .before .before .before .before .before .before .before .before .before .before .before .if1 .left)) _ _ _ _ _ _ (group-is _ _ _ _ _ _ _ _ _ _ (c .before .before .before .before .before .before .before .before .end .given .1) (c .before .before .before .before .before .before .before .before .before .before .before .before .before .before .read-group .ensures)) (c .before .before .before .before .last .ensures) (c .before .before .put-record .ensures)
+
+read-atom-same-length-6 : (t : ℕ) → read-atom-lts.Need-same-length-6 (read-atom-claims t) (read-atom-at t) read-atom.Post
+read-atom-same-length-6 t c = search needs
+
+read-atom-same-length-7 : (t : ℕ) → read-atom-lts.Need-same-length-7 (read-atom-claims t) (read-atom-at t) read-atom.Post
+read-atom-same-length-7 t c = search needs
+
+read-atom-returns-5 : (t : ℕ) → read-atom-lts.Need-returns-5 (read-atom-claims t) (read-atom-at t) read-atom.Post
+read-atom-returns-5 t c = atom-group-fault _ _ _ _ _ (read-atom-ready t (c .before .before .before .before .before .before .before .before .before .before .before .before .before .before .before)) _ _ (read-atom-counted t (c .before .before .before .before .before .before .before .before .before .before .before .before .before .before .before)) _ (c .before .before .before .before .before .before .before .before .before .before .before .before .before .before .class .ensures) _ (c .before .before .before .before .before .before .before .before .before .before .before .before .after2 .given .1) (omega (arith, c .before .before .before .before .before .before .before .before .before .before .if1 .left)) _ _ _ _ _ (c .before .no .given .1) (c .before .before .before .before .before .before .before .read-group .ensures)
+
+read-atom-returns-6 : (t : ℕ) → read-atom-lts.Need-returns-6 (read-atom-claims t) (read-atom-at t) read-atom.Post
+read-atom-returns-6 t c = atom-other _ _ _ _ _ (read-atom-ready t (c .before .before .before)) _ _ (read-atom-counted t (c .before .before .before)) _ (c .before .before .class .ensures) _ _ (c .enum-told2 .given .1)
+
+read-atom-returns-7 : (t : ℕ) → read-atom-lts.Need-returns-7 (read-atom-claims t) (read-atom-at t) read-atom.Post
+read-atom-returns-7 t c = atom-fault _ _ _ _ _ _ _ _ _ _ (c .before .no2 .given .1) (c .before .before .before .count .ensures)
+
+read-group-read-pattern-requires : (t : ℕ) → read-group-lts.Need-read-pattern-requires (read-group-claims t) (read-group-at t) read-group.Post
+read-group-read-pattern-requires t c κs = (omega (arith, c .before .before .before .before .before .pre .0), c .before .before .before .before .before .pre .1)
+
+read-group-enum-known-next : (t : ℕ) → read-group-lts.Need-enum-known-next (read-group-claims t) (read-group-at t) read-group.Post
+read-group-enum-known-next t c = search needs
+
+read-group-separator-requires : (t : ℕ) → read-group-lts.Need-separator-requires (read-group-claims t) (read-group-at t) read-group.Post
+read-group-separator-requires t c κs = search needs
+
+read-group-enum-known-after : (t : ℕ) → read-group-lts.Need-enum-known-after (read-group-claims t) (read-group-at t) read-group.Post
+read-group-enum-known-after t c = search needs
+
+read-group-read-group-requires : (t : ℕ) → read-group-lts.Need-read-group-requires (read-group-claims t) (read-group-at t) read-group.Post
+read-group-read-group-requires t c κs = let h = (pattern-is _ _ _ _ _ _ _ _ _ (c .before .before .before .before .before .before .before .before .next .given .1) (c .before .before .before .before .before .before .before .before .before .before .before .before .before .before .read-pattern .ensures)) in let m = h .moved in let r = c .before .before .before .before .before .before .before .before .before .before .before .before .before .before .before .before .before .before .before .before .pre .1 .0 in let v = c .before .before .before .before .before .before .before .before .before .before .before .before .before .before .before .before .before .before .before .before .pre .1 .1 in let o = comma-is _ _ _ _ _ _ _ _ h _ (c .before .before .before .before .before .separator .ensures) _ (c .before .before .before .after .given .1) in (omega (arith, m .on, o .past, o .within, c .before .before .before .before .before .before .before .before .before .before .before .before .before .before .before .before .before .before .before .before .pre .0), (record { within = omega (arith, o .past, o .within); atoms = m .atoms; pool = omega (arith, m .pool, o .past); shallow = r .shallow }, record { source = v .source; recs-fit = omega (arith, v .recs-fit, c .before .before .before .before .before .before .before .before .before .before .before .before .before .before .read-pattern .kept .1 .1 .1 .0); text-fits = omega (arith, v .text-fits, c .before .before .before .before .before .before .before .before .before .before .before .before .before .before .read-pattern .kept .1 .1 .1 .1 .0) }))
+
+read-group-enum-known-end : (t : ℕ) → read-group-lts.Need-enum-known-end (read-group-claims t) (read-group-at t) read-group.Post
+read-group-enum-known-end t c = search needs
+
+read-group-add-t32 : (t : ℕ) → read-group-lts.Need-add-t32 (read-group-claims t) (read-group-at t) read-group.Post
+read-group-add-t32 t c = omega (arith, count-few _ _ _ _ _ _ _ _ _ (group-is _ _ _ _ _ _ _ _ _ _ (c .before .end .given .1) (c .before .before .before .before .before .before .before .read-group .ensures)))
+
+read-group-enum-known-no : (t : ℕ) → read-group-lts.Need-enum-known-no (read-group-claims t) (read-group-at t) read-group.Post
+read-group-enum-known-no t c = search needs
+
+read-group-enum-known-after-2 : (t : ℕ) → read-group-lts.Need-enum-known-after-2 (read-group-claims t) (read-group-at t) read-group.Post
+read-group-enum-known-after-2 t c = search needs
+
+read-group-enum-told : (t : ℕ) → read-group-lts.Need-enum-told (read-group-claims t) (read-group-at t) read-group.Post
+read-group-enum-told t c = search needs
+
+read-group-enum-known-no-2 : (t : ℕ) → read-group-lts.Need-enum-known-no-2 (read-group-claims t) (read-group-at t) read-group.Post
+read-group-enum-known-no-2 t c = search needs
+
+read-group-same-length : (t : ℕ) → read-group-lts.Need-same-length (read-group-claims t) (read-group-at t) read-group.Post
+read-group-same-length t c = c .before .before .before .before .before .before .before .read-group .kept .1 .1 .1 .0 ∙ c .before .before .before .before .before .before .before .before .before .before .before .before .before .before .before .before .before .before .before .before .before .before .read-pattern .kept .1 .1 .1 .0
+
+read-group-same-length-2 : (t : ℕ) → read-group-lts.Need-same-length-2 (read-group-claims t) (read-group-at t) read-group.Post
+read-group-same-length-2 t c = c .before .before .before .before .before .before .before .read-group .kept .1 .1 .1 .1 .0 ∙ c .before .before .before .before .before .before .before .before .before .before .before .before .before .before .before .before .before .before .before .before .before .before .read-pattern .kept .1 .1 .1 .1 .0
+
+read-group-returns : (t : ℕ) → read-group-lts.Need-returns (read-group-claims t) (read-group-at t) read-group.Post
+read-group-returns t c = group-comma _ _ _ _ _ _ _ _ (pattern-is _ _ _ _ _ _ _ _ _ (c .before .before .before .before .before .before .before .before .before .before .before .before .before .before .before .before .next .given .1) (c .before .before .before .before .before .before .before .before .before .before .before .before .before .before .before .before .before .before .before .before .before .before .read-pattern .ensures)) _ (c .before .before .before .before .before .before .before .before .before .before .before .before .before .separator .ensures) _ (c .before .before .before .before .before .before .before .before .before .before .before .after .given .1) _ _ _ _ (group-is _ _ _ _ _ _ _ _ _ _ (c .before .end .given .1) (c .before .before .before .before .before .before .before .read-group .ensures))
+
+read-group-same-length-3 : (t : ℕ) → read-group-lts.Need-same-length-3 (read-group-claims t) (read-group-at t) read-group.Post
+read-group-same-length-3 t c = c .before .before .before .before .before .before .before .read-group .kept .1 .1 .1 .0 ∙ c .before .before .before .before .before .before .before .before .before .before .before .before .before .before .before .before .before .before .before .before .before .before .read-pattern .kept .1 .1 .1 .0
+
+read-group-same-length-4 : (t : ℕ) → read-group-lts.Need-same-length-4 (read-group-claims t) (read-group-at t) read-group.Post
+read-group-same-length-4 t c = c .before .before .before .before .before .before .before .read-group .kept .1 .1 .1 .1 .0 ∙ c .before .before .before .before .before .before .before .before .before .before .before .before .before .before .before .before .before .before .before .before .before .before .read-pattern .kept .1 .1 .1 .1 .0
+
+read-group-returns-2 : (t : ℕ) → read-group-lts.Need-returns-2 (read-group-claims t) (read-group-at t) read-group.Post
+read-group-returns-2 t c = group-comma-fault _ _ _ _ _ _ _ _ (pattern-is _ _ _ _ _ _ _ _ _ (c .before .before .before .before .before .before .before .before .before .before .before .before .before .before .before .before .next .given .1) (c .before .before .before .before .before .before .before .before .before .before .before .before .before .before .before .before .before .before .before .before .before .before .read-pattern .ensures)) _ (c .before .before .before .before .before .before .before .before .before .before .before .before .before .separator .ensures) _ (c .before .before .before .before .before .before .before .before .before .before .before .after .given .1) _ _ _ _ _ (c .before .no .given .1) (c .before .before .before .before .before .before .before .read-group .ensures)
+
+read-group-same-length-5 : (t : ℕ) → read-group-lts.Need-same-length-5 (read-group-claims t) (read-group-at t) read-group.Post
+read-group-same-length-5 t c = search needs
+
+read-group-same-length-6 : (t : ℕ) → read-group-lts.Need-same-length-6 (read-group-claims t) (read-group-at t) read-group.Post
+read-group-same-length-6 t c = search needs
+
+read-group-returns-3 : (t : ℕ) → read-group-lts.Need-returns-3 (read-group-claims t) (read-group-at t) read-group.Post
+read-group-returns-3 t c = group-close _ _ _ _ _ _ _ _ (pattern-is _ _ _ _ _ _ _ _ _ (c .before .before .before .before .before .before .next .given .1) (c .before .before .before .before .before .before .before .before .before .before .before .before .read-pattern .ensures)) _ (c .before .before .before .separator .ensures) _ (c .before .after2 .given .1)
+
+read-group-same-length-7 : (t : ℕ) → read-group-lts.Need-same-length-7 (read-group-claims t) (read-group-at t) read-group.Post
+read-group-same-length-7 t c = search needs
+
+read-group-same-length-8 : (t : ℕ) → read-group-lts.Need-same-length-8 (read-group-claims t) (read-group-at t) read-group.Post
+read-group-same-length-8 t c = search needs
+
+read-group-returns-4 : (t : ℕ) → read-group-lts.Need-returns-4 (read-group-claims t) (read-group-at t) read-group.Post
+read-group-returns-4 t c = group-other _ _ _ _ _ _ _ _ (pattern-is _ _ _ _ _ _ _ _ _ (c .before .before .before .before .before .next .given .1) (c .before .before .before .before .before .before .before .before .before .before .before .read-pattern .ensures)) _ (c .before .before .separator .ensures) (c .enum-told .given .1)
+
+read-group-same-length-9 : (t : ℕ) → read-group-lts.Need-same-length-9 (read-group-claims t) (read-group-at t) read-group.Post
+read-group-same-length-9 t c = search needs
+
+read-group-same-length-10 : (t : ℕ) → read-group-lts.Need-same-length-10 (read-group-claims t) (read-group-at t) read-group.Post
+read-group-same-length-10 t c = search needs
+
+read-group-returns-5 : (t : ℕ) → read-group-lts.Need-returns-5 (read-group-claims t) (read-group-at t) read-group.Post
+read-group-returns-5 t c = group-fault _ _ _ _ _ _ _ _ _ _ (c .before .no2 .given .1) (c .before .before .before .before .before .before .before .read-pattern .ensures)
+
+abbrev read-pattern-Inv-loop : read-pattern-lts.InvT-loop
+read-pattern-Inv-loop s depth recs₀ pool₀ from₀ recs pool from = Going s depth from₀ from recs₀ recs pool₀ pool
+
+abbrev read-pattern-μ-loop : read-pattern-lts.MeasureT-loop
+read-pattern-μ-loop s depth recs₀ pool₀ from₀ recs pool from = reach s from
+
+read-pattern-loop-holds : (t : ℕ) → read-pattern-lts.Need-loop-holds (read-pattern-claims t) (read-pattern-at t) read-pattern.Post read-pattern-Inv-loop read-pattern-μ-loop
+read-pattern-loop-holds t c = going-start _ _ _ _ _ (c .before .before .before .pre .1 .0)
+
+read-pattern-read-atom-requires : (t : ℕ) → read-pattern-lts.Need-read-atom-requires (read-pattern-claims t) (read-pattern-at t) read-pattern.Post read-pattern-Inv-loop read-pattern-μ-loop
+read-pattern-read-atom-requires t c κs = let g = c .before .before .loop .inv in let v = c .before .before .before .before .before .before .pre .1 .1 in (omega (arith, g .on, c .before .before .before .before .before .before .pre .0), (g .ready, record { source = v .source; recs-fit = omega (arith, v .recs-fit, g .recs-size); text-fits = omega (arith, v .text-fits, g .text-size) }))
+
+read-pattern-enum-known-next : (t : ℕ) → read-pattern-lts.Need-enum-known-next (read-pattern-claims t) (read-pattern-at t) read-pattern.Post read-pattern-Inv-loop read-pattern-μ-loop
+read-pattern-enum-known-next t c = search needs
+
+read-pattern-last-requires : (t : ℕ) → read-pattern-lts.Need-last-requires (read-pattern-claims t) (read-pattern-at t) read-pattern.Post read-pattern-Inv-loop read-pattern-μ-loop
+read-pattern-last-requires t c κs = search needs
+
+read-pattern-same-length : (t : ℕ) → read-pattern-lts.Need-same-length (read-pattern-claims t) (read-pattern-at t) read-pattern.Post read-pattern-Inv-loop read-pattern-μ-loop
+read-pattern-same-length t c = c .before .before .before .before .before .before .before .before .before .before .read-atom .kept .1 .1 .1 .0 ∙ c .before .before .before .before .before .before .before .before .before .before .before .before .before .loop .inv .recs-size
+
+read-pattern-same-length-2 : (t : ℕ) → read-pattern-lts.Need-same-length-2 (read-pattern-claims t) (read-pattern-at t) read-pattern.Post read-pattern-Inv-loop read-pattern-μ-loop
+read-pattern-same-length-2 t c = c .before .before .before .before .before .before .before .before .before .before .read-atom .kept .1 .1 .1 .1 .0 ∙ c .before .before .before .before .before .before .before .before .before .before .before .before .before .loop .inv .text-size
+
+read-pattern-returns : (t : ℕ) → read-pattern-lts.Need-returns (read-pattern-claims t) (read-pattern-at t) read-pattern.Post read-pattern-Inv-loop read-pattern-μ-loop
+read-pattern-returns t c = going-last _ _ _ _ _ _ _ _ (c .before .before .before .before .before .before .before .before .before .before .before .before .before .loop .inv) _ _ _ (atom-is _ _ _ _ _ _ _ _ _ (c .before .before .before .before .next .given .1) (c .before .before .before .before .before .before .before .before .before .before .read-atom .ensures)) _ (c .before .last .ensures) (c .if1 .taken)
+
+read-pattern-loop-less : (t : ℕ) → read-pattern-lts.Need-loop-less (read-pattern-claims t) (read-pattern-at t) read-pattern.Post read-pattern-Inv-loop read-pattern-μ-loop
+read-pattern-loop-less t c = let h = (atom-is _ _ _ _ _ _ _ _ _ (c .before .before .before .before .next .given .1) (c .before .before .before .before .before .before .before .before .before .before .read-atom .ensures)) in let m = h .moved in omega (arith, m .on, m .within)
+
+read-pattern-loop-again : (t : ℕ) → read-pattern-lts.Need-loop-again (read-pattern-claims t) (read-pattern-at t) read-pattern.Post read-pattern-Inv-loop read-pattern-μ-loop
+read-pattern-loop-again t c = going-more _ _ _ _ _ _ _ _ (c .before .before .before .before .before .before .before .before .before .before .before .before .before .loop .inv) _ _ _ (atom-is _ _ _ _ _ _ _ _ _ (c .before .before .before .before .next .given .1) (c .before .before .before .before .before .before .before .before .before .before .read-atom .ensures)) _ (c .before .last .ensures) (c .if1 .left) (c .before .before .before .before .before .before .before .before .before .before .read-atom .kept .1 .1 .1 .0) (c .before .before .before .before .before .before .before .before .before .before .read-atom .kept .1 .1 .1 .1 .0)
+
+read-pattern-enum-known-no : (t : ℕ) → read-pattern-lts.Need-enum-known-no (read-pattern-claims t) (read-pattern-at t) read-pattern.Post read-pattern-Inv-loop read-pattern-μ-loop
+read-pattern-enum-known-no t c = search needs
+
+read-pattern-same-length-3 : (t : ℕ) → read-pattern-lts.Need-same-length-3 (read-pattern-claims t) (read-pattern-at t) read-pattern.Post read-pattern-Inv-loop read-pattern-μ-loop
+read-pattern-same-length-3 t c = c .before .before .before .before .before .before .before .read-atom .kept .1 .1 .1 .0 ∙ c .before .before .before .before .before .before .before .before .before .before .loop .inv .recs-size
+
+read-pattern-same-length-4 : (t : ℕ) → read-pattern-lts.Need-same-length-4 (read-pattern-claims t) (read-pattern-at t) read-pattern.Post read-pattern-Inv-loop read-pattern-μ-loop
+read-pattern-same-length-4 t c = c .before .before .before .before .before .before .before .read-atom .kept .1 .1 .1 .1 .0 ∙ c .before .before .before .before .before .before .before .before .before .before .loop .inv .text-size
+
+read-pattern-returns-2 : (t : ℕ) → read-pattern-lts.Need-returns-2 (read-pattern-claims t) (read-pattern-at t) read-pattern.Post read-pattern-Inv-loop read-pattern-μ-loop
+read-pattern-returns-2 t c = going-fault _ _ _ _ _ _ _ _ (c .before .before .before .before .before .before .before .before .before .before .loop .inv) _ _ _ _ _ (c .before .no .given .1) (c .before .before .before .before .before .before .before .read-atom .ensures)
+
+pub +read-atom+read-group+read-pattern-spec : {M : Type 1} → statement M
++read-atom+read-group+read-pattern-spec =
+    close μ-read-atom μ-read-group μ-read-pattern (λ t. read-atom-lts.spec (read-atom-claims t) (read-atom-at t) read-atom.Post
+    (read-atom-count-requires t)
+    (read-atom-enum-known-rep t)
+    (read-atom-class-requires t)
+    (read-atom-enum-told t)
+    (read-atom-coded-requires t)
+    (read-atom-enum-known-after t)
+    (read-atom-worded-requires t)
+    (read-atom-enum-known-after-2 t)
+    (read-atom-returns t)
+    (read-atom-add-read-group t)
+    (read-atom-add-read-group-2 t)
+    (read-atom-read-group-requires t)
+    (read-atom-enum-known-end t)
+    (read-atom-last-requires t)
+    (read-atom-cast-put-record t)
+    (read-atom-cast-put-record-2 t)
+    (read-atom-put-record-requires t)
+    (read-atom-enum-known-no t)
+    (read-atom-enum-told-2 t)
+    (read-atom-enum-known-no-2 t)
+    (read-atom-same-length t)
+    (read-atom-returns-2 t)
+    (read-atom-same-length-2 t)
+    (read-atom-same-length-3 t)
+    (read-atom-returns-3 t)
+    (read-atom-same-length-4 t)
+    (read-atom-same-length-5 t)
+    (read-atom-returns-4 t)
+    (read-atom-same-length-6 t)
+    (read-atom-same-length-7 t)
+    (read-atom-returns-5 t)
+    (read-atom-returns-6 t)
+    (read-atom-returns-7 t))
+    (λ t. read-group-lts.spec (read-group-claims t) (read-group-at t) read-group.Post
+    (read-group-read-pattern-requires t)
+    (read-group-enum-known-next t)
+    (read-group-separator-requires t)
+    (read-group-enum-known-after t)
+    (read-group-read-group-requires t)
+    (read-group-enum-known-end t)
+    (read-group-add-t32 t)
+    (read-group-enum-known-no t)
+    (read-group-enum-known-after-2 t)
+    (read-group-enum-told t)
+    (read-group-enum-known-no-2 t)
+    (read-group-same-length t)
+    (read-group-same-length-2 t)
+    (read-group-returns t)
+    (read-group-same-length-3 t)
+    (read-group-same-length-4 t)
+    (read-group-returns-2 t)
+    (read-group-same-length-5 t)
+    (read-group-same-length-6 t)
+    (read-group-returns-3 t)
+    (read-group-same-length-7 t)
+    (read-group-same-length-8 t)
+    (read-group-returns-4 t)
+    (read-group-same-length-9 t)
+    (read-group-same-length-10 t)
+    (read-group-returns-5 t))
+    λ t. read-pattern-lts.spec
+    (read-atom-below t, read-atom.Post, last-reads.Asked, last-reads.Learnt)
+    (read-pattern-at t)
+    read-pattern.Post
+    read-pattern-Inv-loop
+    read-pattern-μ-loop
+    (read-pattern-loop-holds t)
+    (read-pattern-read-atom-requires t)
+    (read-pattern-enum-known-next t)
+    (read-pattern-last-requires t)
+    (read-pattern-same-length t)
+    (read-pattern-same-length-2 t)
+    (read-pattern-returns t)
+    (read-pattern-loop-less t)
+    (read-pattern-loop-again t)
+    (read-pattern-enum-known-no t)
+    (read-pattern-same-length-3 t)
+    (read-pattern-same-length-4 t)
+    (read-pattern-returns-2 t)

@@ -1,0 +1,47 @@
+// Compiling pattern source to a table: read into local buffers, and then, if there is room, write.
+ghost use mathlib.Core.Path.{_≡_};
+ghost use Rattle.pattern.specs.Answers.{compileOf};
+ghost use Rattle.compiler.specs.Compiling.{answer-of};
+
+pub mod body;
+pub mod copy;
+pub mod count;
+pub mod cursor;
+pub mod emit;
+pub mod reader;
+pub mod refusal;
+
+use crate::cursor::Cursor;
+use crate::emit::Compiled;
+use crate::emit::emit;
+use crate::reader::Parsed;
+use crate::reader::State;
+use crate::reader::read_pattern;
+use pattern::limits;
+
+pub fn compile(source: &[u8], table: &mut [u8]) -> Compiled
+    ensures { λ r. ⌜ record { answer = answer-of r; bytes = now (table .exit) } ≡ compileOf (now (source .entry)) (now (table .entry)) ⌝ }
+{
+    if limits::SOURCE_LIMIT < source.len() {
+        return Compiled::Refused(refusal::LONG, limits::SOURCE_LIMIT);
+    }
+    let mut recs = [0u8; 640];
+    let mut pool = [0u8; 512];
+    let st = State {
+        at: Cursor { at: 0 },
+        atoms: 0,
+        pool: 0,
+    };
+    match read_pattern(source, st, 0, &mut recs, &mut pool) {
+        Parsed::Done(end) => {
+            let stop = end.at;
+            let at = stop.at;
+            if at < source.len() {
+                Compiled::Refused(refusal::FORM, at)
+            } else {
+                emit(at, end.atoms, end.pool, &recs, &pool, table)
+            }
+        }
+        Parsed::Fault(no, pos) => Compiled::Refused(no, pos),
+    }
+}

@@ -1,0 +1,170 @@
+// The readers of a pattern, an atom and a group call each other. Records and literal values go to lent buffers.
+ghost use mathlib.Core.Path.{_≡_};
+ghost use Prim.Native.Nat.{_≤_};
+ghost use lib.ListN.{length};
+ghost use Rattle.compiler.specs.Readers.{Ready, Room, LeafReady, CodedRead, WordedRead, PatternRead, AtomRead, GroupRead};
+use crate::body::Letters;
+use crate::body::Literal;
+use crate::body::codes_from;
+use crate::body::quoted;
+use crate::copy::put_record;
+use crate::count::Counted;
+use crate::count::count;
+use crate::cursor::Class;
+use crate::cursor::Cursor;
+use crate::cursor::Separator;
+use crate::refusal;
+use pattern::limits;
+use pattern::repeat::Repeat;
+
+// How far a reader has come: the place in the source, the atoms so far, and the length of the pool.
+pub struct State {
+    pub at: Cursor,
+    pub atoms: usize,
+    pub pool: usize,
+}
+
+// Where a pattern or an atom ends, or a refusal and its position.
+pub enum Parsed {
+    Done(State),
+    Fault(u8, usize),
+}
+
+// Where a group ends and how many branches it has, or a refusal and its position.
+pub enum Grouped {
+    Done(State, usize),
+    Fault(u8, usize),
+}
+
+// An atom of code letters, after its count.
+fn coded(s: &[u8], c: Cursor, rep: Repeat, n: usize, p: usize, recs: &mut [u8]) -> Parsed
+    requires { ⌜ LeafReady (now s) (c .at) n p (now recs) ⌝ }
+    ensures { λ r. ⌜ CodedRead (now (s .entry)) (c .at) n p rep (now (recs .entry)) (now (recs .exit)) r ⌝ }
+{
+    match codes_from(s, c) {
+        Letters::Set(set, next) => {
+            put_record(recs, n, 1, next.last(s), rep, set as u16, 0);
+            Parsed::Done(State {
+                at: next,
+                atoms: n + 1,
+                pool: p,
+            })
+        }
+        Letters::Fault(pos) => Parsed::Fault(refusal::CODE, pos),
+    }
+}
+
+// An atom that is a literal, after its count and its first quote.
+fn worded(
+    s: &[u8],
+    c: Cursor,
+    rep: Repeat,
+    n: usize,
+    p: usize,
+    recs: &mut [u8],
+    pool: &mut [u8],
+) -> Parsed
+    requires { ⌜ LeafReady (now s) (c .at) n p (now recs) × (length (now s) ≤ length (now pool)) ⌝ }
+    ensures { λ r. ⌜ WordedRead (now (s .entry)) (c .at) n p rep (now (recs .entry)) (now (recs .exit)) (now (pool .entry)) (now (pool .exit)) r ⌝ }
+{
+    match quoted(s, c, p, pool) {
+        Literal::Value(next, end) => {
+            put_record(recs, n, 2, next.last(s), rep, p as u16, (end - p) as u16);
+            Parsed::Done(State {
+                at: next,
+                atoms: n + 1,
+                pool: end,
+            })
+        }
+        Literal::Fault(pos) => Parsed::Fault(refusal::FORM, pos),
+    }
+}
+
+pub fn read_pattern(s: &[u8], st: State, depth: usize, recs: &mut [u8], pool: &mut [u8]) -> Parsed
+    requires { ⌜ Ready (now s) st depth × Room (now s) (now recs) (now pool) ⌝ }
+    ensures { λ r. ⌜ PatternRead (now (s .entry)) st depth (now (recs .entry)) (now (recs .exit)) (now (pool .entry)) (now (pool .exit)) r ⌝ }
+{
+    let mut from = st;
+    loop {
+        match read_atom(s, from, depth, recs, pool) {
+            Parsed::Done(next) => {
+                let at = next.at;
+                if at.last(s) != 0 {
+                    return Parsed::Done(next);
+                }
+                from = next;
+            }
+            Parsed::Fault(no, pos) => return Parsed::Fault(no, pos),
+        }
+    }
+}
+
+fn read_atom(s: &[u8], st: State, depth: usize, recs: &mut [u8], pool: &mut [u8]) -> Parsed
+    requires { ⌜ Ready (now s) st depth × Room (now s) (now recs) (now pool) ⌝ }
+    ensures { λ r. ⌜ AtomRead (now (s .entry)) st depth (now (recs .entry)) (now (recs .exit)) (now (pool .entry)) (now (pool .exit)) r ⌝ }
+{
+    let at = st.at;
+    let n = st.atoms;
+    let p = st.pool;
+    match count(s, at, n) {
+        Counted::Repeat(rep, next) => match next.class(s) {
+            Class::Letter => coded(s, next, rep, n, p, recs),
+            Class::Quote(after) => worded(s, after, rep, n, p, recs, pool),
+            Class::Opening(after) => {
+                if limits::DEPTH_LIMIT <= depth {
+                    return Parsed::Fault(refusal::DEPTH, next.at);
+                }
+                let inner = State {
+                    at: after,
+                    atoms: n + 1,
+                    pool: p,
+                };
+                match read_group(s, inner, depth + 1, recs, pool) {
+                    Grouped::Done(end, k) => {
+                        let stop = end.at;
+                        put_record(recs, n, 3, stop.last(s), rep, k as u16, end.atoms as u16);
+                        Parsed::Done(end)
+                    }
+                    Grouped::Fault(no, pos) => Parsed::Fault(no, pos),
+                }
+            }
+            Class::Other => Parsed::Fault(refusal::FORM, next.at),
+        },
+        Counted::Fault(no, pos) => Parsed::Fault(no, pos),
+    }
+}
+
+// The branches of a group, with the closing bracket.
+fn read_group(s: &[u8], st: State, depth: usize, recs: &mut [u8], pool: &mut [u8]) -> Grouped
+    requires { ⌜ Ready (now s) st depth × Room (now s) (now recs) (now pool) ⌝ }
+    ensures { λ r. ⌜ GroupRead (now (s .entry)) st depth (now (recs .entry)) (now (recs .exit)) (now (pool .entry)) (now (pool .exit)) r ⌝ }
+{
+    match read_pattern(s, st, depth, recs, pool) {
+        Parsed::Done(next) => {
+            let at = next.at;
+            match at.separator(s) {
+                Separator::Comma(after) => {
+                    let again = State {
+                        at: after,
+                        atoms: next.atoms,
+                        pool: next.pool,
+                    };
+                    match read_group(s, again, depth, recs, pool) {
+                        Grouped::Done(end, k) => Grouped::Done(end, k + 1),
+                        Grouped::Fault(no, pos) => Grouped::Fault(no, pos),
+                    }
+                }
+                Separator::Closing(after) => {
+                    let end = State {
+                        at: after,
+                        atoms: next.atoms,
+                        pool: next.pool,
+                    };
+                    Grouped::Done(end, 1)
+                }
+                Separator::Other => Grouped::Fault(refusal::FORM, at.at),
+            }
+        }
+        Parsed::Fault(no, pos) => Grouped::Fault(no, pos),
+    }
+}
