@@ -1,0 +1,199 @@
+-- The parts, in plain values: the search for a last end, and the loop over the top-level atoms. Assumes nothing.
+use mathlib.Core.Path.{_≡_, refl, sym, ap, ap₂, subst, _∙_}
+use mathlib.Core.Bool.{Bool, true, false, cond}
+use mathlib.Core.List.{List, [], _∷_, _++_, append-assoc, append-nil}
+use Prim.Native.Nat.{ℕ, zero, suc, _+_, _*_, _-_, _/_, _%_, _≤_, _<_}
+use native.Mathlib.Omega.{arith}
+use lib.ListN.{length, getD, set, drop, length-append, length-set, length-drop}
+use lib.Seq.{drop-cons, drop-drop, set-at, append-snoc}
+use Rattle.pattern.specs.Bytes.{Bytes, word, over}
+use Rattle.pattern.specs.Syntax.{pattern, atom, Syntax, last, then, size, top-size, nodes}
+use Rattle.pattern.specs.Decision.{Rel, trial, decide}
+use Rattle.pattern.specs.Parts.{longest, end, parts}
+use Rattle.pattern.specs.Decode.{layout, its, tree-of}
+use Rattle.pattern.specs.Answers.{part-bytes}
+use Rattle.pattern.proofs.RoundTrip.{some-atom, some-pattern}
+use Rattle.pattern.proofs.Nodes.{At}
+use Rattle.table.specs.declared.Record.{Record}
+use Rattle.table.specs.Fields.{record-of}
+use Rattle.matcher.specs.Cells.{Plane, Readable, on}
+use Rattle.matcher.specs.Atoms.{atoms, node, head, Work, Settled}
+use Rattle.matcher.specs.Parted.{Parting, Parted}
+use Rattle.matcher.proofs.Planes.{Same, plane-on, plane-flags}
+use Rattle.matcher.proofs.Relations.{trial-same}
+use Rattle.matcher.proofs.Views.{at-node, at-size, ends-last, ends-then}
+use Rattle.matcher.proofs.Groups.{work-room}
+
+-- ---- the last end
+
+module _ (p : ℕ → Bool) (i m : ℕ) where
+  pub longest-none : m ≤ i → longest (suc m - i) p ≡ 0
+  unfolding longest
+  longest-none h = go (suc m - i) (omega arith)
+    where
+      same : (b : Bool) → _≡_ {A = ℕ} (cond b 0 0) 0
+      same true = refl
+      same false = refl
+
+      go : (c : ℕ) → c ≤ 1 → longest c p ≡ 0
+      go zero h = refl
+      go (suc zero) h = same (p 0)
+      go (suc (suc c)) h = absurd (omega arith)
+
+  module _ (h : i < m) where
+    turn : suc m - i ≡ suc (m - i)
+    turn = omega arith
+
+    pub longest-hit : p (m - i) ≡ true → longest (suc m - i) p ≡ m - i
+    unfolding longest
+    longest-hit e = rw (turn, e)
+
+    pub longest-miss : p (m - i) ≡ false → longest (suc m - i) p ≡ longest (suc (m - 1) - i) p
+    unfolding longest
+    longest-miss e = let z : suc (m - 1) - i ≡ m - i = omega arith in rw (turn, e, z)
+
+longest-same : (p q : ℕ → Bool) (c : ℕ) → ((d : ℕ) → d < c → p d ≡ q d) → longest c p ≡ longest c q
+unfolding longest
+longest-same p q zero h = refl
+longest-same p q (suc c) h = rw (h c (omega arith), longest-same p q c (λ d l. h d (omega arith)))
+
+longest-le : (p : ℕ → Bool) (c : ℕ) → longest (suc c) p ≤ c
+unfolding longest
+longest-le p zero = pick (p 0)
+  where
+    pick : (b : Bool) → cond b 0 0 ≤ 0
+    pick true = omega arith
+    pick false = omega arith
+longest-le p (suc c) = pick (p (suc c)) (longest-le p c)
+  where
+    pick : (b : Bool) → longest (suc c) p ≤ c → cond b (suc c) (longest (suc c) p) ≤ suc c
+    pick true h = omega arith
+    pick false h = omega arith
+
+-- ---- two bytes more
+
+two-more : (done lent : Bytes) (at a b : ℕ) → length done ≡ at → at + 2 ≤ length lent → set (set (done ++ drop at lent) at a) (at + 1) b ≡ (done ++ a ∷ b ∷ []) ++ drop (at + 2) lent
+two-more done lent at a b e h =
+    let z : suc (suc at) ≡ at + 2 = omega arith in
+    let rest : drop at lent ≡ getD lent at 0 ∷ getD lent (suc at) 0 ∷ drop (at + 2) lent
+    = drop-cons lent at 0 (omega arith) ∙ ap (λ (l : Bytes). getD lent at 0 ∷ l) (drop-cons lent (suc at) 0 (omega arith) ∙ ap (λ (k : ℕ). getD lent (suc at) 0 ∷ drop k lent) z) in
+    let one : set (done ++ drop at lent) at a ≡ done ++ a ∷ getD lent (suc at) 0 ∷ drop (at + 2) lent
+    = ap (λ (l : Bytes). set (done ++ l) at a) rest ∙ set-at done (getD lent at 0) _ a at e in
+    let y : length (done ++ a ∷ []) ≡ at + 1 = omega (arith, length-append done (a ∷ [])) in
+    let tail : Bytes = drop (at + 2) lent in
+    ap (λ (l : Bytes). set l (at + 1) b) (one ∙ sym (append-assoc done (a ∷ []) (getD lent (suc at) 0 ∷ tail)))
+    ∙ set-at (done ++ a ∷ []) (getD lent (suc at) 0) tail b (at + 1) y
+    ∙ append-assoc done (a ∷ []) (b ∷ tail) ∙ sym (append-assoc done (a ∷ b ∷ []) tail)
+
+-- ---- the top-level atoms
+
+-- `done` is written, and what is left begins with atom x at place i
+pub record PartsAt (table label lent₀ lent : Bytes) (x i at : ℕ) : Type 0 where
+  pub there : x < atoms table
+  pub inner : i ≤ length label
+  pub long : length lent ≡ length lent₀
+  pub room : at + 2 * top-size (node table x) ≤ length lent₀
+  pub done : Bytes
+  pub so-far : length done ≡ at
+  pub stored : lent ≡ done ++ drop at lent₀
+  pub left : part-bytes (parts label (tree-of table) 0) ≡ done ++ part-bytes (parts label (node table x) i)
+
+some-top : (p : Syntax pattern) → 1 ≤ top-size p
+unfolding top-size
+some-top (last a) = omega arith
+some-top (then a p) = omega arith
+
+root : (table : Bytes) → At (nodes (tree-of table)) 0 (tree-of table)
+root table = record { rest = []; from = sym (append-nil (nodes (tree-of table))) }
+
+pub node-root : (table : Bytes) → node table 0 ≡ tree-of table
+node-root table = at-node table (root table)
+
+parts-last : (l : Bytes) (p : Syntax pattern) (a : Syntax atom) (i : ℕ) → p ≡ last a → (part-bytes (parts l p i) ≡ word (length l) []) × (top-size p ≡ 1)
+unfolding parts part-bytes top-size
+parts-last l p a i e = (ap (λ (q : Syntax pattern). part-bytes (parts l q i)) e, ap top-size e)
+
+parts-then : (l : Bytes) (p : Syntax pattern) (a : Syntax atom) (q : Syntax pattern) (i : ℕ) → p ≡ then a q → (part-bytes (parts l p i) ≡ word (end l a q i) (part-bytes (parts l q (end l a q i)))) × (top-size p ≡ suc (top-size q))
+unfolding parts part-bytes top-size
+parts-then l p a q i e = (ap (λ (y : Syntax pattern). part-bytes (parts l y i)) e, ap top-size e)
+
+module _ (table label s : Bytes) (w : ℕ) (lent₀ : Bytes) (ok : Parting table label s w lent₀) where
+  pub parts-start : PartsAt table label lent₀ lent₀ 0 0 0
+  parts-start = record {
+    there = omega (arith, some-pattern (tree-of table));
+    inner = omega arith;
+    long = refl;
+    room = omega (arith, ok .fits, ap top-size (node-root table));
+    done = [];
+    so-far = refl;
+    stored = refl;
+    left = ap (λ (p : Syntax pattern). part-bytes (parts label p 0)) (sym (node-root table));
+  }
+
+  module _ (lent : Bytes) (x i at : ℕ) (inv : PartsAt table label lent₀ lent x i at) where
+    pub parts-room : at + 2 ≤ length lent
+    parts-room = omega (arith, inv .room, inv .long, some-top (node table x))
+
+    module _ (r : Record) (is : r ≡ record-of (its table (layout table) x)) where
+      -- one part more
+      stored-more : (m : ℕ) → set (set lent at (m % 256)) (at + 1) (m / 256) ≡ (inv .done ++ word m []) ++ drop (at + 2) lent₀
+      stored-more m =
+          ap (λ (l : Bytes). set (set l at (m % 256)) (at + 1) (m / 256)) (inv .stored)
+          ∙ two-more (inv .done) lent₀ at (m % 256) (m / 256) (inv .so-far) (omega (arith, inv .room, some-top (node table x)))
+
+      so-far-more : (m : ℕ) → length (inv .done ++ word m []) ≡ at + 2
+      so-far-more m = omega (arith, inv .so-far, length-append (inv .done) (word m []))
+
+      pub parts-end : r .ends ≡ 1 → (lent′ : Bytes) → lent′ ≡ set (set lent at (length label % 256)) (at + 1) (length label / 256) → Parted table label lent₀ lent′
+      unfolding over
+      parts-end e lent′ got =
+          let (l, n) = parts-last label _ _ i (ends-last table (ok .work .good) x (inv .there) r is e) in
+          let whole : part-bytes (parts label (tree-of table) 0) ≡ inv .done ++ word (length label) [] = inv .left ∙ ap (λ (y : Bytes). inv .done ++ y) l in
+          record { written = got ∙ stored-more (length label) ∙ sym (rw (whole, so-far-more (length label))) }
+
+      module _ (n : r .ends ≡ 1 → ⊥) (next : ℕ) (e : next ≡ x + size (head (node table x))) where
+        then-is : node table x ≡ then (head (node table x)) (node table next)
+        then-is = ends-then table (ok .work .good) x (inv .there) r is n .0 ∙ ap (λ (k : ℕ). then (head (node table x)) (node table k)) (sym e)
+
+        pub parts-next : next < atoms table
+        parts-next = rw e (ends-then table (ok .work .good) x (inv .there) r is n .1)
+
+        own : Plane s w (2 * x) (decide label (head (node table x)))
+        own = ok .settled .own x (omega arith) (inv .there)
+
+        rest : Plane s w (2 * next + 1) (decide label (node table next))
+        rest = ok .settled .rest next (omega arith) parts-next
+
+        pub parts-left : Readable s w (2 * x)
+        parts-left = record { room = work-room (ok .work) (2 * x) (omega (arith, inv .there)); flags = plane-flags own }
+
+        pub parts-right : Readable s w (2 * next + 1)
+        parts-right = record { room = work-room (ok .work) (2 * next + 1) (omega (arith, parts-next)); flags = plane-flags rest }
+
+        module _ (m : ℕ) (found : m ≡ i + longest (suc (length label) - i) (trial (on s w (2 * x)) (on s w (2 * next + 1)) i (length label))) where
+          pub parts-in : m ≤ length label
+          parts-in =
+              let z : suc (length label) - i ≡ suc (length label - i) = omega (arith, inv .inner) in
+              let y = rw z at found in
+              omega (arith, inv .inner, longest-le (trial (on s w (2 * x)) (on s w (2 * next + 1)) i (length label)) (length label - i))
+
+          end-is : m ≡ end label (head (node table x)) (node table next) i
+          unfolding end
+          end-is =
+              let wide = ok .work .wide in
+              found ∙ ap (λ (k : ℕ). i + k) (longest-same _ _ (suc (length label) - i) (trial-same w _ _ _ _ (plane-on own) (plane-on rest) i (length label) (inv .inner) (omega arith)))
+
+          pub parts-step : (lent′ : Bytes) → lent′ ≡ set (set lent at (m % 256)) (at + 1) (m / 256) → PartsAt table label lent₀ lent′ next m (at + 2)
+          parts-step lent′ got =
+              let (l, k) = parts-then label _ _ _ i then-is in
+              let whole : part-bytes (parts label (node table x) i) ≡ word m (part-bytes (parts label (node table next) m)) = rw end-is l in
+              record {
+                there = parts-next;
+                inner = parts-in;
+                long = ap length got ∙ (simp length-set (inv .long));
+                room = omega (arith, inv .room);
+                done = inv .done ++ word m [];
+                so-far = so-far-more m;
+                stored = got ∙ stored-more m;
+                left = inv .left ∙ ap (λ (y : Bytes). inv .done ++ y) whole ∙ sym (append-assoc (inv .done) (word m []) _);
+              }

@@ -1,0 +1,220 @@
+-- The join of an atom with its followers, and the loop over all atoms, in plain values. Assumes nothing.
+use mathlib.Core.Path.{_≡_, refl, sym, ap, ap₂, subst, _∙_}
+use mathlib.Core.Bool.{Bool, true, false}
+use mathlib.Core.List.{List, [], _∷_}
+use mathlib.Core.Logic.{⊎-elim}
+use Prim.Native.Nat.{ℕ, zero, suc, _+_, _*_, _-_, _/_, _≤_, _<_}
+use native.Mathlib.Nat.{eq-or-lt-of-le}
+use native.Mathlib.Omega.{arith}
+use lib.ListN.{length, getD, drop}
+use lib.Seq.{drop-cons, drop-length}
+use Rattle.pattern.specs.Bytes.{Bytes}
+use Rattle.pattern.specs.Syntax.{pattern, atom, Syntax, last, then, size, nodes}
+use Rattle.pattern.specs.Decision.{Rel, join, decide}
+use Rattle.pattern.specs.Trials.{joins, repeats, own, total, trials}
+use Rattle.pattern.specs.Decode.{blank, layout, its, tree-of}
+use Rattle.pattern.proofs.Bound.{nodes-size}
+use Rattle.pattern.proofs.RoundTrip.{some-atom}
+use Rattle.table.specs.declared.Record.{Record}
+use Rattle.table.specs.Fields.{record-of}
+use Rattle.matcher.specs.declared.join.Tally.{Tally}
+use Rattle.matcher.specs.declared.fill.Source.the-variants.{Copy}
+use Rattle.matcher.specs.Cells.{Plane, Kept, Not, on}
+use Rattle.matcher.specs.Budget.{Counted}
+use Rattle.matcher.specs.Joined.{join-trials, Ready, Joined}
+use Rattle.matcher.specs.Filled.{held-in, Fit, Aside, Fillable, Filled}
+use Rattle.matcher.specs.Atoms.{atoms, node, head, Work, Settled}
+use Rattle.matcher.specs.Bodied.{Bodying}
+use Rattle.matcher.specs.Steps.{Later, NoPlane, Owned, follow-trials, Following, Followed, Stepped, AllSettled}
+use Rattle.matcher.proofs.Planes.{Same, kept-all, kept-then, kept-less, plane-on, plane-same, plane-flags, plane-kept}
+use Rattle.matcher.proofs.Relations.{join-same, join-trials-same, joins-all}
+use Rattle.matcher.proofs.Counting.{counted-whole, counted-room, counted-all, counted-stop}
+use Rattle.matcher.proofs.Views.{ends-last, ends-then}
+use Rattle.matcher.proofs.Groups.{settled-kept, work-long, work-room, work-few}
+
+-- ---- the followers
+
+follows-last : (l : Bytes) (p : Syntax pattern) (a : Syntax atom) → p ≡ last a → (follow-trials l p ≡ 0) × (decide l p ≡ decide l a)
+unfolding follow-trials decide
+follows-last l p a e = (ap (follow-trials l) e, ap (λ (z : Syntax pattern). decide l z) e)
+
+follows-then : (l : Bytes) (p : Syntax pattern) (a : Syntax atom) (q : Syntax pattern) → p ≡ then a q → (follow-trials l p ≡ joins (length l) (decide l a) (decide l q)) × (decide l p ≡ join (decide l a) (decide l q))
+unfolding follow-trials decide
+follows-then l p a q e = (ap (follow-trials l) e, ap (λ (z : Syntax pattern). decide l z) e)
+
+module _ (table label s : Bytes) (w x : ℕ) (ok : Following table label s w x) where
+  pub follow-few : 2 * x + 6 ≤ length s
+  follow-few = omega (arith, work-few (ok .work), ok .there)
+
+  pub follow-copy : Fillable table label s w (Copy (2 * x)) (2 * x + 1)
+  unfolding Fit Aside
+  follow-copy = record { wide = ok .work .wide; fit = work-room (ok .work) (2 * x) (omega (arith, ok .there)); aside = tt; into = work-room (ok .work) (2 * x + 1) (omega (arith, ok .there)) }
+
+  module _ (r : Record) (is : r ≡ record-of (its table (layout table) x)) where
+    pub follow-last : (budget spent : ℕ) → spent ≤ budget → r .ends ≡ 1 → (s′ : Bytes) → Filled table label s s′ w (Copy (2 * x)) (2 * x + 1) → Followed table label s s′ w x budget spent record { trials = spent; stopped = false }
+    unfolding held-in
+    follow-last budget spent h e s′ f =
+        let (none, same) = follows-last label _ _ (ends-last table (ok .work .good) x (ok .there) r is e) in
+        let z : spent + follow-trials label (node table x) ≡ spent = omega arith in
+        record {
+          counted = rw z (counted-whole h);
+          whole = λ _. plane-same (f .plane) (λ i j hi hj. plane-on (ok .here) i j hi hj ∙ sym (ap (λ (R : Rel). R i j) same));
+          kept = kept-less (2 * x + 1 + 1) (2 * x + 2) (omega arith) (f .kept) (λ q i j n. n);
+        }
+
+    module _ (n : r .ends ≡ 1 → ⊥) (next : ℕ) (e : next ≡ x + size (head (node table x))) where
+      pub follow-next : next < atoms table
+      follow-next = rw e (ends-then table (ok .work .good) x (ok .there) r is n .1)
+
+      follow-plane : Plane s w (2 * next + 1) (decide label (node table next))
+      follow-plane = ok .settled .rest next (omega (arith, some-atom (head (node table x)))) follow-next
+
+      pub follow-ready : Ready s w (2 * x) (2 * next + 1) (2 * x + 1)
+      follow-ready = record {
+        from-left = record { room = work-room (ok .work) (2 * x) (omega (arith, ok .there)); flags = plane-flags (ok .here) };
+        from-right = record { room = work-room (ok .work) (2 * next + 1) (omega (arith, follow-next)); flags = plane-flags follow-plane };
+        into = work-room (ok .work) (2 * x + 1) (omega (arith, ok .there));
+        not-left = λ y. omega arith;
+        not-right = λ y. omega (arith, some-atom (head (node table x)));
+      }
+
+      pub follow-then : (budget spent : ℕ) (s′ : Bytes) (t : Tally) → Joined s s′ w (2 * x) (2 * next + 1) (2 * x + 1) budget spent t → Followed table label s s′ w x budget spent t
+      follow-then budget spent s′ t got =
+          let m = ends-then table (ok .work .good) x (ok .there) r is n .0 in
+          let (tried, same) = follows-then label _ _ _ (m ∙ ap (λ (k : ℕ). then (head (node table x)) (node table k)) (sym e)) in
+          let z : w ≡ suc (length label) = omega (arith, ok .work .wide) in
+          let count : join-trials w (on s w (2 * x)) (on s w (2 * next + 1)) ≡ follow-trials label (node table x)
+          = join-trials-same w _ _ _ _ (plane-on (ok .here)) (plane-on follow-plane) ∙ ap (λ (v : ℕ). join-trials v (decide label (head (node table x))) (decide label (node table next))) z
+          ∙ sym (joins-all (length label) _ _) ∙ sym tried in
+          record {
+            counted = rw (← count) (got .counted);
+            whole = λ f. plane-same (got .whole f) (λ i j hi hj. join-same w _ _ _ _ (plane-on (ok .here)) (plane-on follow-plane) i j hi hj ∙ sym (ap (λ (R : Rel). R i j) same));
+            kept = kept-less (2 * x + 1 + 1) (2 * x + 2) (omega arith) (got .kept) (λ q i j k. k);
+          }
+
+-- ---- both planes of an atom
+
+own-is : (l : Bytes) (p : Syntax pattern) → own l p ≡ repeats l (head p) + follow-trials l p
+unfolding own head follow-trials
+own-is l (last a) = omega arith
+own-is l (then a p) = refl
+
+module _ (table label s : Bytes) (w top x budget spent : ℕ) (ok : Bodying table label s w top x) (s₁ : Bytes) (t : Tally) (got : Owned table label s s₁ w top x budget spent t) where
+  pub step-stop : t .stopped ≡ true → Stepped table label s s₁ w top x budget spent t
+  step-stop e = record {
+    counted = counted-stop (got .counted) e (omega (arith, own-is label (node table x)));
+    whole = λ f. absurd (let z : _≡_ {A = ℕ} 0 1 = cc in omega arith);
+    kept = kept-less (top + 4) (top + 4) (omega arith) (got .kept) (λ q i j n. absurd n);
+  }
+
+  module _ (l₁ : length s₁ ≡ length s) (e : t .stopped ≡ false) where
+    pub step-within : t .trials ≤ budget
+    step-within = omega (arith, counted-room (got .counted) e, counted-all (got .counted) e)
+
+    pub step-following : Following table label s₁ w x
+    step-following = record {
+      work = work-long l₁ (ok .work);
+      there = ok .there;
+      settled = settled-kept (got .kept) (λ q i j l m. (omega arith, omega (arith, ok .topmost))) (ok .settled);
+      here = got .whole e;
+    }
+
+    pub step-end : (s₂ : Bytes) (u : Tally) → Followed table label s₁ s₂ w x budget (t .trials) u → Stepped table label s s₂ w top x budget spent u
+    step-end s₂ u f =
+        let z : t .trials + follow-trials label (node table x) ≡ spent + own label (node table x) = omega (arith, counted-all (got .counted) e, own-is label (node table x)) in
+        let later : Settled table label s₂ w (suc x) = settled-kept (f .kept) (λ q i j l m y. omega arith) (step-following .settled) in
+        let few : 2 * x + 2 ≤ top + 4 = omega (arith, ok .topmost, ok .there) in
+        record {
+          counted = rw (← z) (f .counted);
+          whole = λ g. record {
+            own = λ y l m. ⊎-elim (λ k. rw (← k) (plane-kept (f .kept) (λ i j v b. omega arith) (got .whole e))) (λ k. later .own y k m) (eq-or-lt-of-le l);
+            rest = λ y l m. ⊎-elim (λ k. rw (← k) (f .whole g)) (λ k. later .rest y k m) (eq-or-lt-of-le l);
+          };
+          kept = kept-then got-kept (kept-less (2 * x + 2) (top + 4) few (f .kept) (λ q i j n. n)) (λ q i j n. n) (λ q i j n. absurd n);
+        }
+      where
+        got-kept : Kept s s₁ w (top + 4) NoPlane
+        got-kept = kept-less (top + 4) (top + 4) (omega arith) (got .kept) (λ q i j n. absurd n)
+
+-- ---- all atoms
+
+total-drop : (f : Syntax pattern → ℕ) (k : ℕ) (xs : List (Syntax pattern)) → total f (drop k xs) ≤ total f xs
+unfolding total
+total-drop f zero xs = omega arith
+total-drop f (suc k) [] = omega arith
+total-drop f (suc k) (x ∷ xs) = omega (arith, total-drop f k xs)
+
+-- the planes of the atoms from x on are settled, and their trials are spent
+pub record AllAt (table label s₀ : Bytes) (w top budget : ℕ) (s : Bytes) (x spent : ℕ) : Type 0 where
+  pub there : x ≤ atoms table
+  pub long : length s ≡ length s₀
+  pub within : spent ≤ budget
+  pub count : spent ≡ total (own label) (drop x (nodes (tree-of table)))
+  pub settled : Settled table label s w x
+  pub kept : Kept s₀ s w (top + 4) NoPlane
+
+module _ (table label s₀ : Bytes) (w top budget : ℕ) (ok : Work table label s₀ w) (top-is : top ≡ 2 * atoms table) where
+  pub all-start : AllAt table label s₀ w top budget s₀ (top / 2) 0
+  unfolding total
+  all-start =
+      let h : top / 2 ≡ length (nodes (tree-of table)) = omega (arith, nodes-size (tree-of table)) in
+      record {
+        there = omega arith;
+        long = refl;
+        within = omega arith;
+        count = sym (ap (λ (k : ℕ). total (own label) (drop k (nodes (tree-of table)))) h ∙ ap (total (own label)) (drop-length (nodes (tree-of table))));
+        settled = record { own = λ y l m. absurd (omega arith); rest = λ y l m. absurd (omega arith) };
+        kept = kept-all s₀ w (top + 4) NoPlane;
+      }
+
+  module _ (s : Bytes) (x spent : ℕ) (inv : AllAt table label s₀ w top budget s x spent) where
+    pub all-end : x ≤ 0 → AllSettled table label s₀ s w top budget record { trials = spent; stopped = false }
+    unfolding trials
+    all-end h =
+        let z : x ≡ 0 = omega arith in
+        let whole : spent ≡ total (own label) (nodes (tree-of table)) = inv .count ∙ ap (λ (k : ℕ). total (own label) (drop k (nodes (tree-of table)))) z in
+        record {
+          counted = rw (← whole) (counted-whole (inv .within));
+          whole = λ _. rw z at (inv .settled);
+          kept = inv .kept;
+        }
+
+    module _ (more : 0 < x) where
+      one : suc (x - 1) ≡ x
+      one = omega arith
+
+      pub all-bodying : Bodying table label s w top (x - 1)
+      all-bodying = record {
+        work = work-long (inv .long) ok;
+        topmost = top-is;
+        there = omega (arith, inv .there);
+        settled = rw one (inv .settled);
+      }
+
+      counts : total (own label) (drop (x - 1) (nodes (tree-of table))) ≡ own label (node table (x - 1)) + spent
+      unfolding total node
+      counts =
+          ap (total (own label)) (drop-cons (nodes (tree-of table)) (x - 1) (last blank) (omega (arith, nodes-size (tree-of table), inv .there)))
+          ∙ ap (λ (k : ℕ). own label (node table (x - 1)) + k) (ap (λ (k : ℕ). total (own label) (drop k (nodes (tree-of table)))) one ∙ sym (inv .count))
+
+      module _ (s′ : Bytes) (t : Tally) (got : Stepped table label s s′ w top (x - 1) budget spent t) where
+        still : Kept s₀ s′ w (top + 4) NoPlane
+        still = kept-then (inv .kept) (got .kept) (λ q i j n. n) (λ q i j n. n)
+
+        pub all-stop : t .stopped ≡ true → AllSettled table label s₀ s′ w top budget t
+        unfolding trials
+        all-stop e = record {
+          counted = counted-stop (got .counted) e (omega (arith, counts, total-drop (own label) (x - 1) (nodes (tree-of table))));
+          whole = λ f. absurd (let z : _≡_ {A = ℕ} 0 1 = cc in omega arith);
+          kept = still;
+        }
+
+        pub all-step : length s′ ≡ length s → t .stopped ≡ false → AllAt table label s₀ w top budget s′ (x - 1) (t .trials)
+        all-step len e = record {
+          there = omega (arith, inv .there);
+          long = len ∙ inv .long;
+          within = omega (arith, counted-room (got .counted) e, counted-all (got .counted) e);
+          count = omega (arith, counted-all (got .counted) e, counts);
+          settled = got .whole e;
+          kept = still;
+        }

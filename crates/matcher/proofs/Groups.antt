@@ -1,0 +1,207 @@
+-- The plane of an atom's body, in plain values: leaves, and the loop over the branches of a group. Assumes nothing.
+use mathlib.Core.Path.{_≡_, refl, sym, ap, ap₂, subst, _∙_}
+use mathlib.Core.Bool.{Bool, true, false, _||_}
+use mathlib.Core.List.{List, [], _∷_, _++_}
+use mathlib.Core.Logic.{⊎-elim}
+use Prim.Native.Nat.{ℕ, zero, suc, _+_, _*_, _-_, _≤_, _<_}
+use native.Mathlib.Omega.{arith}
+use native.Mathlib.Nat.{eq-or-lt-of-le}
+use borrow.Author.Tests.{eq-eqb, ne-eqb}
+use lib.Dec.{eqb}
+use lib.ListN.{length, getD}
+use lib.Seq.{slice, slice-empty, length-slice}
+use Rattle.pattern.specs.Bytes.{Bytes, same}
+use Rattle.pattern.specs.Syntax.{pattern, body, branches, Syntax, codes, literal, group, only, or, size, nodes}
+use Rattle.pattern.specs.Decision.{Rel, decide}
+use Rattle.pattern.specs.Table.{choices}
+use Rattle.pattern.specs.Decode.{Layout, layout, its, tree-of}
+use Rattle.pattern.proofs.Tests.{le-or-lt}
+use Rattle.pattern.proofs.Bound.{nodes-size}
+use Rattle.pattern.proofs.RoundTrip.{some-pattern}
+use Rattle.pattern.proofs.Nodes.{At, at-branch}
+use Rattle.table.specs.declared.Record.{Record}
+use Rattle.table.specs.Fields.{record-of}
+use Rattle.matcher.specs.declared.fill.Source.{Source}
+use Rattle.matcher.specs.declared.fill.Source.the-variants.{Nothing, Empty, Codes, Literal, Either}
+use Rattle.matcher.specs.Cells.{InRoom, Plane, Kept, Not, on}
+use Rattle.matcher.specs.Filled.{held-in, Fit, Aside, Fillable, Filled}
+use Rattle.matcher.specs.Atoms.{GoodTable, atoms, node, head, inside, Work, Settled}
+use Rattle.matcher.specs.Bodied.{Bodying, Bodied}
+use Rattle.matcher.proofs.Planes.{Same, kept-all, kept-then, plane-on, plane-same, plane-flags, plane-kept, room-of, planes-le}
+use Rattle.matcher.proofs.Slices.{same-false}
+use Rattle.matcher.proofs.Views.{at-node, at-size, Branches, told-codes, told-empty, told-literal, told-group}
+
+-- settled planes stay settled where they are kept
+pub settled-kept : {table label s s′ : Bytes} {w x N : ℕ} {P : ℕ → ℕ → ℕ → Type 0} → Kept s s′ w N P → ((q i j : ℕ) → 2 * x ≤ q → q < 2 * atoms table → P q i j)
+    → Settled table label s w x → Settled table label s′ w x
+settled-kept k f h = record {
+  own = λ y l m. plane-kept k (λ i j n. f _ i j (omega arith) (omega arith)) (h .own y l m);
+  rest = λ y l m. plane-kept k (λ i j n. f _ i j (omega arith) (omega arith)) (h .rest y l m);
+}
+
+-- room is a matter of length
+pub work-long : {table label s s′ : Bytes} {w : ℕ} → length s′ ≡ length s → Work table label s w → Work table label s′ w
+work-long e h = record { good = h .good; short = h .short; wide = h .wide; room = rw e (h .room) }
+
+pub work-room : {table label s : Bytes} {w : ℕ} → Work table label s w → (p : ℕ) → p < 2 * atoms table + 4 → InRoom s w p
+work-room {table} {label} {s} {w} h p l = room-of s w p (2 * atoms table + 4) l (h .room)
+
+pub work-few : {table label s : Bytes} {w : ℕ} → Work table label s w → 2 * atoms table + 4 ≤ length s
+work-few {table} {label} {s} {w} h = omega (arith, planes-le w (2 * atoms table + 4) (omega (arith, h .wide)), h .room)
+
+-- an empty literal is satisfied by the empty stretches
+no-bytes : (l : Bytes) (i j : ℕ) → i ≤ j → j ≤ length l → eqb i j ≡ same (slice i j l) []
+unfolding same
+no-bytes l i j h k =
+    ⊎-elim
+    (λ e. eq-eqb i j e ∙ sym (ap (λ (x : ℕ). same (slice i x l) []) (sym e) ∙ ap (λ (x : Bytes). same x []) (slice-empty i l)))
+    (λ n. ne-eqb i j (λ e. omega arith) ∙ sym (same-false (slice i j l) [] (λ e. omega (arith, length-slice i j l k, ap length e))))
+    (eq-or-lt-of-le h)
+
+module _ (table label s : Bytes) (w top x : ℕ) (ok : Bodying table label s w top x) where
+  -- plane top can be filled from a source that lies where it should
+  pub body-fill : (source : Source) → Fit table s w source → Aside source top → Fillable table label s w source top
+  body-fill source f a = record { wide = ok .work .wide; fit = f; aside = a; into = work-room (ok .work) top (omega (arith, ok .topmost)) }
+
+  module _ (r : Record) (got : r ≡ record-of (its table (layout table) x)) (s′ : Bytes) where
+    pub body-codes : r .kind ≡ 1 → Filled table label s s′ w (Codes (r .a)) top → Bodied table label s s′ w top x
+    unfolding held-in decide
+    body-codes e f =
+        let z = told-codes table (ok .work .good) x (ok .there) r got e in
+        record { plane = plane-same (f .plane) (λ i j hi hj. rw z); kept = f .kept }
+
+    pub body-empty : r .kind ≡ 2 → r .b ≡ 0 → Filled table label s s′ w Empty top → Bodied table label s s′ w top x
+    unfolding held-in decide
+    body-empty e n f =
+        let z = told-empty table (ok .work .good) x (ok .there) r got e n in
+        let wide = ok .work .wide in
+        record { plane = plane-same (f .plane) (λ i j hi hj. rw z (no-bytes label i j hi (omega arith))); kept = f .kept }
+
+    pub body-literal : r .kind ≡ 2 → (r .b ≡ 0 → ⊥) → let from : ℕ = layout table .pool + r .a in Filled table label s s′ w (Literal from (from + r .b)) top → Bodied table label s s′ w top x
+    unfolding held-in decide
+    body-literal e n f =
+        let z = told-literal table (ok .work .good) x (ok .there) r got e n .0 in
+        record { plane = plane-same (f .plane) (λ i j hi hj. rw z); kept = f .kept }
+
+-- ---- the branches of a group
+
+-- what is left: branches bs from atom first on; what they and plane top say is what the group says
+pub record Rest (table label s : Bytes) (w top x many first k : ℕ) : Type 0 where
+  pub bs : Syntax branches
+  pub at : At (nodes (tree-of table)) first bs
+  pub ahead : x < first
+  pub count : choices bs + k ≡ many
+  pub flags : Plane s w top (on s w top)
+  pub both : Same w (λ i j. on s w top i j || decide label bs i j) (decide label (inside (head (node table x))))
+
+pub record UniteAt (table label s₁ : Bytes) (w top x many : ℕ) (s : Bytes) (first k : ℕ) : Type 0 where
+  pub below : k ≤ many
+  pub long : length s ≡ length s₁
+  pub kept : Kept s₁ s w (top + 1) (Not top)
+  pub settled : Settled table label s w (suc x)
+  pub more : k < many → Rest table label s w top x many first k
+  pub done : many ≤ k → Plane s w top (decide label (inside (head (node table x))))
+
+or-assoc : (a b c : Bool) → (a || b) || c ≡ a || (b || c)
+or-assoc true b c = refl
+or-assoc false b c = refl
+
+some-choices : (bs : Syntax branches) → 1 ≤ choices bs
+unfolding choices
+some-choices (only p) = omega arith
+some-choices (or p bs) = omega arith
+
+module _ (table label s₀ s₁ : Bytes) (w top x : ℕ) (ok : Bodying table label s₀ w top x) (len : length s₁ ≡ length s₀) (blank : Filled table label s₀ s₁ w Nothing top)
+    (r : Record) (got : r ≡ record-of (its table (layout table) x)) (n1 : r .kind ≡ 1 → ⊥) (n2 : r .kind ≡ 2 → ⊥) where
+  g : Branches table x (r .a) (r .b) (inside (head (node table x)))
+  g = told-group table (ok .work .good) x (ok .there) r got n1 n2
+
+  away : (q i j : ℕ) → 2 * suc x ≤ q → q < 2 * atoms table → Not top q i j
+  away q i j l m e = omega (arith, ok .topmost)
+
+  pub unite-start : UniteAt table label s₁ w top x (r .a) s₁ (x + 1) 0
+  unfolding held-in decide
+  unite-start =
+      let c = some-choices (g .all) in
+      record {
+        below = omega arith;
+        long = refl;
+        kept = kept-all s₁ w (top + 1) (Not top);
+        settled = settled-kept (blank .kept) away (ok .settled);
+        more = λ _. record {
+          bs = g .all;
+          at = g .inner;
+          ahead = omega arith;
+          count = omega (arith, g .count);
+          flags = plane-flags (blank .plane);
+          both = λ i j hi hj. rw (plane-on (blank .plane) i j hi hj, g .is);
+        };
+        done = λ h. absurd (omega (arith, g .count));
+      }
+
+  module _ (s : Bytes) (first k : ℕ) (inv : UniteAt table label s₁ w top x (r .a) s first k) where
+    pub unite-end : r .a ≤ k → Bodied table label s₀ s w top x
+    unite-end h = record { plane = inv .done h; kept = kept-then (blank .kept) (inv .kept) (λ q i j n. n) (λ q i j n. n) }
+
+    module _ (more : k < r .a) where
+      h : Rest table label s w top x (r .a) first k
+      h = inv .more more
+
+      work : Work table label s w
+      work = work-long (inv .long ∙ len) (ok .work)
+
+      -- the branch that begins at first
+      first-branch : (bs : Syntax branches) → At (nodes (tree-of table)) first bs → (p : Syntax pattern) × At (nodes (tree-of table)) first p
+      unfolding nodes
+      first-branch (only p) a = (p, record { rest = a .rest; from = a .from })
+      first-branch (or p bs) a = (p, at-branch a .0)
+
+      pub unite-there : first < atoms table
+      unite-there = let (p, a) = first-branch (h .bs) (h .at) in omega (arith, at-size table a, some-pattern p)
+
+      pub unite-fill : Fillable table label s w (Either top (2 * first + 1)) top
+      unfolding Fit Aside
+      unite-fill = record {
+        wide = work .wide;
+        fit = (work-room work top (omega (arith, ok .topmost)), work-room work (2 * first + 1) (omega (arith, unite-there)));
+        aside = tt;
+        into = work-room work top (omega (arith, ok .topmost));
+      }
+
+      module _ (s′ : Bytes) (len′ : length s′ ≡ length s) (f : Filled table label s s′ w (Either top (2 * first + 1)) top) (first′ : ℕ) (e : first′ ≡ first + size (node table first)) where
+        -- plane top has the branch p besides
+        joined : (p : Syntax pattern) → At (nodes (tree-of table)) first p → Plane s′ w top (λ i j. on s w top i j || decide label p i j)
+        unfolding held-in
+        joined p a =
+            plane-same (f .plane) (λ i j hi hj. rw (plane-on (inv .settled .rest first (h .ahead) unite-there) i j hi hj, at-node table a))
+
+        after : (bs : Syntax branches) → At (nodes (tree-of table)) first bs → choices bs + k ≡ r .a
+            → Same w (λ i j. on s w top i j || decide label bs i j) (decide label (inside (head (node table x))))
+            → (k + 1 < r .a → Rest table label s′ w top x (r .a) first′ (k + 1)) × (r .a ≤ k + 1 → Plane s′ w top (decide label (inside (head (node table x)))))
+        unfolding choices decide nodes
+        after (only p) a c b = (λ l. absurd (omega arith), λ l. plane-same (joined p (record { rest = a .rest; from = a .from })) b)
+        after (or p bs) a c b =
+            let (u, v) = at-branch a in
+            let z : first + length (nodes p) ≡ first′ = omega (arith, nodes-size p, ap (λ (y : Syntax pattern). size y) (at-node table u)) in (
+              λ l. record {
+                bs = bs;
+                at = subst (λ (y : ℕ). At (nodes (tree-of table)) y bs) z v;
+                ahead = omega (arith, h .ahead);
+                count = omega arith;
+                flags = plane-flags (joined p u);
+                both = λ i j hi hj. rw (plane-on (joined p u) i j hi hj) (or-assoc (on s w top i j) (decide label p i j) (decide label bs i j) ∙ b i j hi hj);
+              },
+              λ l. absurd (omega (arith, some-choices bs)),
+            )
+
+        pub unite-step : UniteAt table label s₁ w top x (r .a) s′ first′ (k + 1)
+        unite-step =
+            let (m, d) = after (h .bs) (h .at) (h .count) (h .both) in
+            record {
+              below = omega arith;
+              long = len′ ∙ inv .long;
+              kept = kept-then (inv .kept) (f .kept) (λ q i j n. n) (λ q i j n. n);
+              settled = settled-kept (f .kept) away (inv .settled);
+              more = m;
+              done = d;
+            }

@@ -1,0 +1,157 @@
+-- The loops of a join, in plain values: what holds where the cells before i of column j, or the columns before j, are stored. Assumes nothing.
+use mathlib.Core.Path.{_≡_, refl, sym, ap, _∙_}
+use mathlib.Core.Bool.{Bool, true, false}
+use mathlib.Core.List.{List}
+use mathlib.Core.Logic.{⊎-elim}
+use Prim.Native.Nat.{ℕ, suc, _+_, _-_, _*_, _≤_, _<_}
+use native.Mathlib.Nat.{eq-or-lt-of-le}
+use native.Mathlib.Omega.{arith}
+use lib.ListN.{length, getD, set, length-set}
+use Rattle.pattern.specs.Decision.{Rel, trial, join, any}
+use Rattle.pattern.specs.Trials.{tries, sum}
+use Rattle.matcher.specs.declared.join.Search.{Search}
+use Rattle.matcher.specs.declared.join.Tally.{Tally}
+use Rattle.matcher.specs.Cells.{InRoom, Plane, Readable, Kept, Not, on, at, cell, bitOf}
+use Rattle.matcher.specs.Seek.{seek, trialsOf, stoppedOf, foundOf}
+use Rattle.matcher.specs.Joined.{column-trials, join-trials, Ready, Columned, Joined}
+use Rattle.matcher.proofs.Planes.{Same, mark-here, mark-kept, kept-all, kept-then, kept-less, on-kept, read-kept}
+use Rattle.matcher.proofs.Relations.{tries-same, any-same, trial-same, join-same, column-same}
+use Rattle.matcher.proofs.Counting.{Counting, count-start, count-step, count-stop, count-end, counted-over, counted-past}
+use Rattle.matcher.proofs.Seeking.{Says, seek-says}
+
+-- the cells outside column j of plane p
+abbrev Off : ℕ → ℕ → ℕ → ℕ → ℕ → Type 0
+Off p j q i b = q ≡ p → b ≡ j → ⊥
+
+-- a join that could be made still can
+ready-kept : {s s′ : List ℕ} {w left right out N : ℕ} → length s′ ≡ length s → Kept s s′ w N (Not out) → Ready s w left right out → Ready s′ w left right out
+ready-kept e k h = record {
+  from-left = read-kept e k (λ i j l. h .not-left) (h .from-left);
+  from-right = read-kept e k (λ i j l. h .not-right) (h .from-right);
+  into = rw e (h .into);
+  not-left = h .not-left;
+  not-right = h .not-right;
+}
+
+pub record ColumnAt (s₀ : List ℕ) (w left right out j budget trials : ℕ) (s : List ℕ) (spent i : ℕ) : Type 0 where
+  pub counting : Counting (λ a. tries (suc j - a) (trial (on s₀ w left) (on s₀ w right) a j)) (suc j) budget trials spent i
+  pub long : length s ≡ length s₀
+  pub done : (a : ℕ) → a < i → cell s w out a j ≡ bitOf (join (on s₀ w left) (on s₀ w right) a j)
+  pub kept : Kept s₀ s w (out + 1) (Off out j)
+
+module _ (s₀ : List ℕ) (w left right out j budget trials : ℕ) where
+  pub column-start : trials ≤ budget → ColumnAt s₀ w left right out j budget trials s₀ trials 0
+  column-start h = record {
+    counting = count-start _ (suc j) budget trials h;
+    long = refl;
+    done = λ a l. absurd (omega arith);
+    kept = kept-all s₀ w (out + 1) (Off out j);
+  }
+
+  module _ (hj : j < w) (ok : Ready s₀ w left right out) (s : List ℕ) (spent i : ℕ) (inv : ColumnAt s₀ w left right out j budget trials s spent i) where
+    others : Kept s₀ s w (out + 1) (Not out)
+    others = kept-less (out + 1) (out + 1) (omega arith) (inv .kept) (λ q a b n e f. n e)
+
+    pub column-ready : Ready s w left right out
+    column-ready = ready-kept (inv .long) others ok
+
+    pub column-end : j < i → Columned s₀ s w left right out j budget trials record { trials = spent; stopped = false }
+    unfolding column-trials
+    column-end h = record {
+      counted = count-end _ (suc j) budget trials spent i (inv .counting) (omega arith);
+      whole = λ _ a l. inv .done a (omega arith);
+      kept = inv .kept;
+    }
+
+    module _ (more : i ≤ j) (r : Search) (got : r ≡ seek (trial (on s w left) (on s w right) i j) i budget (suc j - i) spent) where
+      same-trial : (d : ℕ) → d < suc j - i → trial (on s w left) (on s w right) i j d ≡ trial (on s₀ w left) (on s₀ w right) i j d
+      same-trial = trial-same w _ _ _ _ (on-kept others (λ a b l. ok .not-left)) (on-kept others (λ a b l. ok .not-right)) i j more hj
+
+      tried : tries (suc j - i) (trial (on s w left) (on s w right) i j) ≡ tries (suc j - i) (trial (on s₀ w left) (on s₀ w right) i j)
+      tried = tries-same _ _ (suc j - i) same-trial
+
+      found : any (suc j - i) (trial (on s w left) (on s w right) i j) ≡ join (on s₀ w left) (on s₀ w right) i j
+      unfolding join
+      found = any-same _ _ (suc j - i) same-trial
+
+      says : Says budget (spent + tries (suc j - i) (trial (on s w left) (on s w right) i j)) (any (suc j - i) (trial (on s w left) (on s w right) i j)) r
+      says = rw got (seek-says (trial (on s w left) (on s w right) i j) i budget (suc j - i) spent (inv .counting .within))
+
+      pub column-stop : stoppedOf r ≡ true → Columned s₀ s w left right out j budget trials record { trials = budget; stopped = true }
+      unfolding column-trials
+      column-stop e =
+          let past = counted-past (count-stop _ (suc j) budget trials spent i (inv .counting) (omega arith) _ tried _ _ (says .counted) e) e in
+          record { counted = counted-over past; whole = λ x. absurd (let z : _≡_ {A = Bool} true false = x in let y : _≡_ {A = ℕ} 0 1 = cc in omega arith); kept = inv .kept }
+
+      pub column-step : stoppedOf r ≡ false → ColumnAt s₀ w left right out j budget trials (set s (at w out i j) (bitOf (foundOf r))) (trialsOf budget r) (i + 1)
+      column-step e =
+          let lit : bitOf (foundOf r) ≡ bitOf (join (on s₀ w left) (on s₀ w right) i j) = ap bitOf (says .finds e ∙ found) in
+          let hi : i < w = omega arith in
+          let k = mark-kept w out i j hi hj s (bitOf (foundOf r)) in
+          record {
+            counting = count-step _ (suc j) budget trials spent i (inv .counting) (omega arith) _ tried _ _ (says .counted) e;
+            long = length-set s (at w out i j) (bitOf (foundOf r)) ∙ inv .long;
+            done = λ a l. ⊎-elim (λ z. rw z (mark-here w out i j hi hj s (bitOf (foundOf r)) (column-ready .into) ∙ lit)) (λ z. k .same out a j (omega arith) hj (λ _ y _. omega arith) ∙ inv .done a z) (eq-or-lt-of-le (let y : a ≤ i = omega arith in y));
+            kept = kept-then (inv .kept) k (λ q a b n. n) (λ q a b n x y z. n x z);
+          }
+
+-- ---- the columns
+
+pub record PlaneAt (s₀ : List ℕ) (w left right out budget trials : ℕ) (s : List ℕ) (spent j : ℕ) : Type 0 where
+  pub counting : Counting (column-trials (on s₀ w left) (on s₀ w right)) w budget trials spent j
+  pub long : length s ≡ length s₀
+  pub done : (a b : ℕ) → a ≤ b → b < j → cell s w out a b ≡ bitOf (join (on s₀ w left) (on s₀ w right) a b)
+  pub kept : Kept s₀ s w (out + 1) (Not out)
+
+module _ (s₀ : List ℕ) (w left right out budget trials : ℕ) where
+  pub plane-start : trials ≤ budget → PlaneAt s₀ w left right out budget trials s₀ trials 0
+  plane-start h = record {
+    counting = count-start _ w budget trials h;
+    long = refl;
+    done = λ a b l m. absurd (omega arith);
+    kept = kept-all s₀ w (out + 1) (Not out);
+  }
+
+  module _ (ok : Ready s₀ w left right out) (s : List ℕ) (spent j : ℕ) (inv : PlaneAt s₀ w left right out budget trials s spent j) where
+    pub plane-ready : Ready s w left right out
+    plane-ready = ready-kept (inv .long) (inv .kept) ok
+
+    pub plane-end : w ≤ j → Joined s₀ s w left right out budget trials record { trials = spent; stopped = false }
+    unfolding join-trials
+    plane-end h = record {
+      counted = count-end _ w budget trials spent j (inv .counting) h;
+      whole = λ _. record { holds = λ a b l m. inv .done a b l (omega arith) };
+      kept = inv .kept;
+    }
+
+    module _ (more : j < w) (s′ : List ℕ) (r : Tally) (got : Columned s s′ w left right out j budget spent r) where
+      left-same : Same w (on s w left) (on s₀ w left)
+      left-same = on-kept (inv .kept) (λ a b l. ok .not-left)
+
+      right-same : Same w (on s w right) (on s₀ w right)
+      right-same = on-kept (inv .kept) (λ a b l. ok .not-right)
+
+      columns-tried : column-trials (on s w left) (on s w right) j ≡ column-trials (on s₀ w left) (on s₀ w right) j
+      columns-tried = column-same w _ _ _ _ left-same right-same j more
+
+      all-kept : Kept s₀ s′ w (out + 1) (Not out)
+      all-kept = kept-then (inv .kept) (got .kept) (λ q a b n. n) (λ q a b n x y. n x)
+
+      pub plane-stop : r .stopped ≡ true → Joined s₀ s′ w left right out budget trials r
+      unfolding join-trials
+      plane-stop e = record {
+        counted = count-stop _ w budget trials spent j (inv .counting) more _ columns-tried _ _ (got .counted) e;
+        whole = λ x. absurd (let z : _≡_ {A = ℕ} 0 1 = cc in omega arith);
+        kept = all-kept;
+      }
+
+      pub plane-step : length s′ ≡ length s → r .stopped ≡ false → PlaneAt s₀ w left right out budget trials s′ (r .trials) (j + 1)
+      plane-step len e = record {
+        counting = count-step _ w budget trials spent j (inv .counting) more _ columns-tried _ _ (got .counted) e;
+        long = len ∙ inv .long;
+        done = λ a b l m. ⊎-elim
+            (λ z. let y : a ≤ j = omega arith in rw z (got .whole e a y ∙ ap bitOf (join-same w _ _ _ _ left-same right-same a j y more)))
+            (λ z. got .kept .same out a b (omega arith) (omega arith) (λ _ y. omega arith) ∙ inv .done a b l z)
+            (eq-or-lt-of-le (let y : b ≤ j = omega arith in y));
+        kept = all-kept;
+      }

@@ -1,0 +1,15 @@
+pub mod Planes
+pub mod Counting
+pub mod Relations
+pub mod Seeking
+pub mod Joining
+pub mod Slices
+pub mod Filling
+pub mod Bodies
+pub mod Views
+pub mod Groups
+pub mod Settling
+pub mod Following
+pub mod Ends
+pub mod Runs
+pub mod Refusals

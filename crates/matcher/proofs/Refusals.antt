@@ -1,0 +1,137 @@
+-- The refusals of a match from 11 to 14, in order, and what holds where none applies. Assumes nothing.
+use mathlib.Core.Path.{_≡_, refl, sym, ap, subst, _∙_}
+use mathlib.Core.Bool.{Bool, true, false}
+use mathlib.Core.List.{List, [], _∷_}
+use mathlib.Core.Option.{Option, none, some}
+use Prim.Native.Nat.{ℕ, suc, _+_, _*_, _≤_, _<_}
+use native.Mathlib.Nat.{mul-le-mul-left, mul-le-mul-right}
+use native.Mathlib.Omega.{arith}
+use borrow.Author.Tests.{lt-ltb, le-ltb}
+use lib.Dec.{ltb}
+use lib.ListN.{length}
+use Rattle.pattern.specs.Numbers.{atom-limit, label-limit, TABLE, LABEL, WORK, PARTS}
+use Rattle.pattern.specs.Bytes.{Bytes}
+use Rattle.pattern.specs.Syntax.{pattern, Syntax, last, then, size, top-size}
+use Rattle.pattern.specs.Scan.{refuse}
+use Rattle.pattern.specs.Print.{print}
+use Rattle.pattern.specs.Decode.{tree-of, decode}
+use Rattle.pattern.specs.Answers.{refusal, work, lent-fault, tried, matchOf, Matched as Outcome}
+use Rattle.pattern.proofs.Accepted.{accepted-exactly}
+use Rattle.pattern.proofs.RoundTrip.{some-atom, tree-encode}
+use Rattle.pattern.proofs.Calls.{print-accepted, decoded-encode}
+use Rattle.table.specs.declared.Summary.{Summary}
+use Rattle.table.specs.declared.Tested.{Tested}
+use Rattle.table.specs.declared.Tested.the-variants.{Bad, Good}
+use Rattle.table.specs.Walk.{tested}
+use Rattle.matcher.specs.Atoms.{GoodTable, atoms}
+use Rattle.matcher.specs.Answered.{Running}
+
+-- a refusal leaves the lent bytes as they were
+abbrev refused : ℕ → Bytes → Bytes → Outcome
+refused f scratch parts = record { answer = refusal f 0; scratch = scratch; parts = parts }
+
+-- what a call does with the tree that is read, if there is one
+abbrev on-tree : (label scratch parts : Bytes) → ℕ → Option (Syntax pattern) → Outcome
+on-tree label scratch parts budget o = elim o [
+  | none ↦ refused TABLE scratch parts
+  | some t ↦ elim (lent-fault t label scratch parts) [ some f ↦ refused f scratch parts | none ↦ tried t label scratch parts budget ]
+]
+
+-- what a call does with a fault of what is lent, if there is one
+abbrev on-fault : Syntax pattern → (label scratch parts : Bytes) → ℕ → Option ℕ → Outcome
+on-fault t label scratch parts budget o = elim o [ some f ↦ refused f scratch parts | none ↦ tried t label scratch parts budget ]
+
+none-bad : (o : Option (Syntax pattern)) → Bad ≡ tested o → o ≡ none
+unfolding tested
+none-bad none e = refl
+none-bad (some t) e = absurd (let z : _≡_ {A = ℕ} 0 1 = cc in omega arith)
+
+pub bad-table : (table label scratch parts : Bytes) (budget : ℕ) → Bad ≡ tested (decode table) → refused TABLE scratch parts ≡ matchOf table label scratch parts budget
+unfolding matchOf
+bad-table table label scratch parts budget e = sym (ap (on-tree label scratch parts budget) (none-bad (decode table) e))
+
+top-le : (p : Syntax pattern) → top-size p ≤ size p
+unfolding top-size size
+top-le (last a) = some-atom a
+top-le (then a p) = omega (arith, some-atom a, top-le p)
+
+module _ (table : Bytes) where
+  -- the tree of a good table is what it is read as, within the limits
+  read-tree : (t : Syntax pattern) → decode table ≡ some t → (tree-of table ≡ t) × (size t ≤ atom-limit)
+  read-tree t d =
+      let (n, h, g) = accepted-exactly (print t) t .0 (print-accepted table t d) in
+      (ap tree-of (sym (decoded-encode table t d)) ∙ tree-encode t (g .parts), g .atoms)
+
+  some-good : (s : Summary) (o : Option (Syntax pattern)) → Good s ≡ tested o → (t : Syntax pattern) × (o ≡ some t) × (s .atoms ≡ size t) × (s .top ≡ top-size t)
+  unfolding tested
+  some-good s none e = absurd (let z : _≡_ {A = ℕ} 0 1 = cc in omega arith)
+  some-good s (some t) e =
+      let y : s ≡ record { atoms = size t; top = top-size t; source = length (print t) } = cc in
+      (t, refl, ap (λ (x : Summary). x .atoms) y, ap (λ (x : Summary). x .top) y)
+
+  module _ (s : Summary) (e : Good s ≡ tested (decode table)) where
+    -- the table is good, and the summary is of its tree
+    told : GoodTable table × (s .atoms ≡ atoms table) × (s .top ≡ top-size (tree-of table)) × (atoms table ≤ atom-limit)
+    told =
+        let (t, d, a, b) = some-good s (decode table) e in
+        let (r, n) = read-tree t d in
+        (record { decoded = d ∙ ap some (sym r) }, a ∙ ap size (sym r), b ∙ ap top-size (sym r), rw r n)
+
+    pub few-atoms : s .atoms ≤ atom-limit
+    few-atoms = let (g, a, b, n) = told in omega arith
+
+    pub few-tops : s .top ≤ atom-limit
+    few-tops = let (g, a, b, n) = told in omega (arith, top-le (tree-of table))
+
+    -- the scratch bytes are few enough to count
+    module _ (n : ℕ) (h : n ≤ label-limit) where
+      pub rows-few : (2 * s .atoms + 4) * (n + 1) ≤ 33792
+      rows-few =
+          let a : 2 * s .atoms + 4 ≤ 132 = omega (arith, few-atoms) in
+          let b : n + 1 ≤ 256 = omega arith in
+          omega (arith, mul-le-mul-right (n + 1) a, mul-le-mul-left 132 b)
+
+      pub bytes-few : (2 * s .atoms + 4) * (n + 1) * (n + 1) ≤ 8650752
+      bytes-few =
+          let b : n + 1 ≤ 256 = omega arith in
+          omega (arith, mul-le-mul-right (n + 1) rows-few, mul-le-mul-left 33792 b)
+
+    module _ (label scratch parts : Bytes) (budget : ℕ) where
+      faulted : (o : Option ℕ) → lent-fault (tree-of table) label scratch parts ≡ o → on-fault (tree-of table) label scratch parts budget o ≡ matchOf table label scratch parts budget
+      unfolding matchOf
+      faulted o f = sym (ap (on-tree label scratch parts budget) (told .0 .decoded) ∙ ap (on-fault (tree-of table) label scratch parts budget) f)
+
+      work-is : work (tree-of table) (length label) ≡ (2 * s .atoms + 4) * (length label + 1) * (length label + 1)
+      work-is = ap (λ (k : ℕ). (2 * k + 4) * (length label + 1) * (length label + 1)) (sym (told .1))
+
+      pub long-label : label-limit < length label → refused LABEL scratch parts ≡ matchOf table label scratch parts budget
+      unfolding lent-fault refuse
+      long-label h = faulted (some LABEL) (rw (lt-ltb label-limit (length label) h))
+
+      module _ (h : length label ≤ label-limit) where
+        pub little-work : length scratch < (2 * s .atoms + 4) * (length label + 1) * (length label + 1) → refused WORK scratch parts ≡ matchOf table label scratch parts budget
+        unfolding lent-fault refuse
+        little-work k =
+            let l : length scratch < work (tree-of table) (length label) = rw work-is k in
+            faulted (some WORK) (rw (le-ltb label-limit (length label) h, lt-ltb (length scratch) (work (tree-of table) (length label)) l))
+
+        module _ (k : (2 * s .atoms + 4) * (length label + 1) * (length label + 1) ≤ length scratch) where
+          room : work (tree-of table) (length label) ≤ length scratch
+          room = rw work-is k
+
+          pub few-parts : length parts < 2 * s .top → refused PARTS scratch parts ≡ matchOf table label scratch parts budget
+          unfolding lent-fault refuse
+          few-parts m =
+              let l : length parts < 2 * top-size (tree-of table) = rw (← told .2) m in
+              faulted (some PARTS) (rw (le-ltb label-limit (length label) h, le-ltb (length scratch) (work (tree-of table) (length label)) room, lt-ltb (length parts) (2 * top-size (tree-of table)) l))
+
+          module _ (m : 2 * s .top ≤ length parts) where
+            fits : 2 * top-size (tree-of table) ≤ length parts
+            fits = rw (← told .2) m
+
+            pub all-lent : Running table label scratch parts (s .atoms)
+            all-lent = record { good = told .0; counted = told .1; short = h; room = room; fits = fits }
+
+            pub no-fault : tried (tree-of table) label scratch parts budget ≡ matchOf table label scratch parts budget
+            unfolding lent-fault refuse
+            no-fault = faulted none (rw (le-ltb label-limit (length label) h, le-ltb (length scratch) (work (tree-of table) (length label)) room, le-ltb (length parts) (2 * top-size (tree-of table)) fits))

@@ -1,0 +1,116 @@
+-- A match where no refusal but 15 can come, in plain values. Assumes nothing.
+use mathlib.Core.Path.{_≡_, refl, sym, ap, ap₂, _∙_}
+use mathlib.Core.Bool.{Bool, true, false}
+use mathlib.Core.List.{List, [], _∷_, _++_}
+use mathlib.Core.Option.{Option, none, some}
+use Prim.Native.Nat.{ℕ, suc, _+_, _*_, _≤_, _<_}
+use native.Mathlib.Nat.{mul-le-mul-left, mul-one}
+use native.Mathlib.Omega.{arith}
+use borrow.Author.Tests.{le-leb, lt-leb}
+use lib.Dec.{leb}
+use lib.ListN.{length, getD, drop, replicate, length-drop, length-replicate}
+use lib.Seq.{ext-getD, getD-drop}
+use Rattle.pattern.specs.Numbers.{BUDGET}
+use Rattle.pattern.specs.Bytes.{Bytes, over}
+use Rattle.pattern.specs.Syntax.{pattern, Syntax, size}
+use Rattle.pattern.specs.Decision.{decide}
+use Rattle.pattern.specs.Parts.{parts, verdict}
+use Rattle.pattern.specs.Trials.{trials}
+use Rattle.pattern.specs.Decode.{tree-of}
+use Rattle.pattern.specs.Answers.{Answer, result, work, cleared, part-bytes, judged, tried, Matched as Outcome}
+use Rattle.pattern.proofs.Tests.{if-true, if-false}
+use Rattle.pattern.proofs.RoundTrip.{some-pattern}
+use Rattle.matcher.specs.declared.join.Tally.{Tally}
+use Rattle.matcher.specs.Cells.{InRoom, Kept, on}
+use Rattle.matcher.specs.Atoms.{atoms, node, Work, Settled}
+use Rattle.matcher.specs.Steps.{NoPlane, AllSettled}
+use Rattle.matcher.specs.Parted.{Parting, Parted}
+use Rattle.matcher.specs.Answered.{Running}
+use Rattle.matcher.proofs.Planes.{plane-on}
+use Rattle.matcher.proofs.Counting.{counted-room, counted-all, counted-past}
+use Rattle.matcher.proofs.Groups.{work-long, work-room}
+use Rattle.matcher.proofs.Ends.{node-root}
+
+-- lists that agree from q on have one rest from q on
+drop-same : (s s′ : Bytes) (q : ℕ) → length s′ ≡ length s → ((x : ℕ) → q ≤ x → getD s′ x 0 ≡ getD s x 0) → drop q s′ ≡ drop q s
+drop-same s s′ q e h =
+    ext-getD 0 (drop q s′) (drop q s) (simp (length-drop, e)) (λ i l. getD-drop q s′ i 0 ∙ h (q + i) (omega arith) ∙ sym (getD-drop q s i 0))
+
+module _ (table label scratch lent : Bytes) (count : ℕ) (ok : Running table label scratch lent count) where
+  abbrev t : Syntax pattern
+  t = tree-of table
+
+  abbrev w : ℕ
+  w = length label + 1
+
+  abbrev len : ℕ
+  len = (2 * count + 4) * w * w
+
+  len-is : len ≡ work t (length label)
+  len-is = ap (λ (k : ℕ). (2 * k + 4) * w * w) (ok .counted)
+
+  pub run-room : len ≤ length scratch
+  run-room = rw len-is (ok .room)
+
+  pub run-rows : (2 * count + 4) * w ≤ length scratch
+  run-rows = let one : 1 ≤ w = omega arith in omega (arith, run-room, mul-le-mul-left ((2 * count + 4) * w) one, mul-one ((2 * count + 4) * w))
+
+  pub run-few : 2 * count + 4 ≤ length scratch
+  run-few = let one : 1 ≤ w = omega arith in omega (arith, run-rows, mul-le-mul-left (2 * count + 4) one, mul-one (2 * count + 4))
+
+  pub run-work : Work table label scratch w
+  run-work = record { good = ok .good; short = ok .short; wide = refl; room = ok .room }
+
+  -- what a list as long as scratch has room for
+  module _ (s : Bytes) (long : length s ≡ length scratch) where
+    pub run-clear : len ≤ length s
+    run-clear = rw long run-room
+
+    pub run-cell : InRoom s w 1
+    run-cell = work-room {s = s} (work-long long run-work) 1 (omega arith)
+
+  pub run-top : 2 * count ≡ 2 * atoms table
+  run-top = ap (λ (k : ℕ). 2 * k) (ok .counted)
+
+  module _ (budget : ℕ) (s : Bytes) (long : length s ≡ length scratch) (r : Tally) (got : AllSettled table label scratch s w (2 * count) budget r) where
+    -- the planes' bytes are zero, the others as they were
+    cleared-is : (s′ : Bytes) → s′ ≡ replicate len 0 ++ drop len s → s′ ≡ cleared t (length label) scratch
+    unfolding cleared over
+    cleared-is s′ e =
+        e ∙ ap (λ (l : Bytes). replicate len 0 ++ l) (drop-same scratch s len long (got .kept .rest) ∙ ap (λ (k : ℕ). drop k scratch) (sym (length-replicate {A = ℕ} len 0)))
+        ∙ ap (λ (k : ℕ). let z : Bytes = replicate k 0 in z ++ drop (length z) scratch) len-is
+
+    pub run-stop : r .stopped ≡ true → (s′ : Bytes) → s′ ≡ replicate len 0 ++ drop len s
+        → _≡_ {A = Outcome} record { answer = record { number = BUDGET; position = 0; value = 0; trials = budget }; scratch = s′; parts = lent } (tried t label scratch lent budget)
+    unfolding tried
+    run-stop e s′ c =
+        ap (λ (x : Bytes). record { answer = record { number = BUDGET; position = 0; value = 0; trials = budget }; scratch = x; parts = lent }) (cleared-is s′ c)
+        ∙ sym (if-false _ _ _ (lt-leb _ _ (counted-past (got .counted) e)))
+
+    module _ (e : r .stopped ≡ false) where
+      judged-is : (o : Option (List ℕ)) → verdict label t ≡ o → tried t label scratch lent budget ≡ judged t label scratch lent o
+      unfolding tried
+      judged-is o v = if-true _ _ _ (le-leb _ _ (counted-room (got .counted) e)) ∙ ap (judged t label scratch lent) v
+
+      -- the cell of the whole label is the decision
+      decided : on s w 1 0 (length label) ≡ decide label t 0 (length label)
+      decided =
+          plane-on (got .whole e .rest 0 (omega arith) (omega (arith, some-pattern t))) 0 (length label) (omega arith) (omega arith)
+          ∙ ap (λ (p : Syntax pattern). decide label p 0 (length label)) (node-root table)
+
+      pub run-parting : Parting table label s w lent
+      run-parting = record { work = work-long long run-work; settled = got .whole e; fits = ok .fits }
+
+      pub run-yes : on s w 1 0 (length label) ≡ true → (lent′ : Bytes) → Parted table label lent lent′ → (s′ : Bytes) → s′ ≡ replicate len 0 ++ drop len s
+          → _≡_ {A = Outcome} record { answer = result 1 (r .trials); scratch = s′; parts = lent′ } (tried t label scratch lent budget)
+      unfolding verdict judged
+      run-yes h lent′ p s′ c =
+          let z : verdict label t ≡ some (parts label t 0) = if-true _ _ _ (sym decided ∙ h) in
+          sym (judged-is (some (parts label t 0)) z ∙ sym (rw (cleared-is s′ c, p .written, counted-all (got .counted) e)))
+
+      pub run-no : on s w 1 0 (length label) ≡ false → (s′ : Bytes) → s′ ≡ replicate len 0 ++ drop len s
+          → _≡_ {A = Outcome} record { answer = result 0 (r .trials); scratch = s′; parts = lent } (tried t label scratch lent budget)
+      unfolding verdict judged
+      run-no h s′ c =
+          let z : verdict label t ≡ none = if-false _ _ _ (sym decided ∙ h) in
+          sym (judged-is none z ∙ sym (rw (cleared-is s′ c, counted-all (got .counted) e)))

@@ -1,0 +1,60 @@
+-- The search for an end, step by step, and what it comes to by the paper's count. Assumes nothing.
+use mathlib.Core.Path.{_≡_, refl, sym, ap, _∙_}
+use mathlib.Core.Bool.{Bool, true, false, cond, _||_}
+use Prim.Native.Nat.{ℕ, zero, suc, _+_, _-_, _≤_, _<_}
+use native.Mathlib.Omega.{arith}
+use borrow.Author.Tests.{eq-eqb, ne-eqb, eqb-true, eqb-false}
+use lib.Dec.{eqb}
+use Rattle.pattern.specs.Decision.{any}
+use Rattle.pattern.specs.Trials.{tries}
+use Rattle.matcher.specs.declared.join.Search.{Search}
+use Rattle.matcher.specs.declared.join.Search.the-variants.{Found, Missing, Stopped}
+use Rattle.matcher.specs.Budget.{Counted}
+use Rattle.matcher.specs.Seek.{seek, trialsOf, stoppedOf, foundOf}
+use Rattle.matcher.proofs.Counting.{counted-whole, counted-over}
+
+module _ (p : ℕ → Bool) (i budget m t : ℕ) where
+  pub seek-none : m ≤ i → seek p i budget (m - i) t ≡ Missing t
+  unfolding seek
+  seek-none h = let e : m - i ≡ 0 = omega arith in rw e
+
+  module _ (h : i < m) where
+    left : m - i ≡ suc (m - 1 - i)
+    left = omega arith
+
+    here : i + (m - 1 - i) ≡ m - 1
+    here = omega arith
+
+    pub seek-stop : t ≡ budget → seek p i budget (m - i) t ≡ Stopped
+    unfolding seek
+    seek-stop e = rw (left, eq-eqb t budget e)
+
+    module _ (n : t ≡ budget → ⊥) where
+      pub seek-hit : p (m - 1 - i) ≡ true → seek p i budget (m - i) t ≡ Found (m - 1) (t + 1)
+      unfolding seek
+      seek-hit e = rw (left, here, ne-eqb t budget n, e)
+
+      pub seek-miss : p (m - 1 - i) ≡ false → seek p i budget (m - i) t ≡ seek p i budget (m - 1 - i) (t + 1)
+      unfolding seek
+      seek-miss e = rw (left, ne-eqb t budget n, e)
+
+-- what an answer says, where the trials come to total and found says whether an end holds
+pub record Says (budget total : ℕ) (found : Bool) (r : Search) : Type 0 where
+  pub counted : Counted budget total (trialsOf budget r) (stoppedOf r)
+  pub finds : stoppedOf r ≡ false → foundOf r ≡ found
+
+pub seek-says : (p : ℕ → Bool) (i budget c t : ℕ) → t ≤ budget → Says budget (t + tries c p) (any c p) (seek p i budget c t)
+unfolding seek tries any
+seek-says p i budget zero t h = let e : t + 0 ≡ t = omega arith in rw e record { counted = counted-whole h; finds = λ _. refl }
+seek-says p i budget (suc c) t h = pick (eqb t budget) (p c) (λ e. eqb-true t budget e) (λ e. eqb-false t budget e) (λ l. seek-says p i budget c (t + 1) l)
+  where
+    pick : (x g : Bool) → (x ≡ true → t ≡ budget) → (x ≡ false → t ≡ budget → ⊥)
+        → (t + 1 ≤ budget → Says budget (t + 1 + tries c p) (any c p) (seek p i budget c (t + 1)))
+        → Says budget (t + cond g 1 (suc (tries c p))) (g || any c p) (cond x Stopped (cond g (Found (i + c) (t + 1)) (seek p i budget c (t + 1))))
+    pick true true f q rest = let e = f refl in record { counted = counted-over (omega arith); finds = λ b. absurd (let z : true ≡ false = b in eqb-false 0 0 z refl) }
+    pick true false f q rest = let e = f refl in record { counted = counted-over (omega arith); finds = λ b. absurd (let z : true ≡ false = b in eqb-false 0 0 z refl) }
+    pick false true f q rest = let e = q refl in record { counted = counted-whole (omega arith); finds = λ _. refl }
+    pick false false f q rest =
+        let e = q refl in
+        let z : t + suc (tries c p) ≡ t + 1 + tries c p = omega arith in
+        rw z (rest (omega arith))

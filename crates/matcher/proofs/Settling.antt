@@ -1,0 +1,166 @@
+-- One atom after the other, in plain values. Assumes nothing.
+use mathlib.Core.Path.{_≡_, refl, sym, ap, ap₂, subst, _∙_}
+use mathlib.Core.Bool.{Bool, true, false, _&&_, _||_}
+use mathlib.Core.List.{List, [], _∷_, _++_}
+use mathlib.Core.Logic.{⊎-elim}
+use mathlib.Core.Option.{Option, none, some}
+use Prim.Native.Nat.{ℕ, zero, suc, _+_, _*_, _-_, _/_, _≤_, _<_, min}
+use native.Mathlib.Nat.{eq-or-lt-of-le}
+use native.Mathlib.Omega.{arith}
+use borrow.Author.Tests.{le-leb, lt-leb}
+use lib.Dec.{eqb, leb}
+use lib.ListN.{length, getD, drop}
+use lib.Seq.{drop-cons}
+use Rattle.pattern.specs.Numbers.{label-limit, open-high}
+use Rattle.pattern.specs.Bytes.{Bytes}
+use Rattle.pattern.specs.Syntax.{pattern, atom, body, Syntax, last, then, repeat, size, nodes}
+use Rattle.pattern.specs.Decision.{Rel, any, made, most, join, repeated, decide}
+use Rattle.pattern.specs.Trials.{sum, joins, repeats, own, total, trials}
+use Rattle.pattern.specs.Table.{high-field}
+use Rattle.pattern.specs.Decode.{blank, layout, its, tree-of}
+use Rattle.pattern.proofs.Bound.{nodes-size}
+use Rattle.table.specs.declared.Record.{Record}
+use Rattle.table.specs.Fields.{record-of}
+use Rattle.matcher.specs.declared.join.Tally.{Tally}
+use Rattle.matcher.specs.declared.fill.Source.{Source}
+use Rattle.matcher.specs.declared.fill.Source.the-variants.{Nothing, Empty, Copy, Gate}
+use Rattle.matcher.specs.Cells.{InRoom, Plane, Readable, Kept, Not, on}
+use Rattle.matcher.specs.Budget.{Counted}
+use Rattle.matcher.specs.Joined.{join-trials, Ready, Joined}
+use Rattle.matcher.specs.Filled.{held-in, Fit, Aside, Fillable, Filled}
+use Rattle.matcher.specs.Made.{fewer, body-trials, Making, MadeOf}
+use Rattle.matcher.specs.Atoms.{GoodTable, atoms, node, head, inside, Work, Settled}
+use Rattle.matcher.specs.Bodied.{Bodying, Bodied}
+use Rattle.matcher.specs.Steps.{Later, NoPlane, Begun, Owned, follow-trials, Following, Followed, Stepped, AllSettled}
+use Rattle.matcher.proofs.Planes.{Same, kept-all, kept-then, kept-less, plane-on, plane-same, plane-flags, plane-kept}
+use Rattle.matcher.proofs.Relations.{any-same, sum-same, join-same, join-trials-same, joins-all, made-same}
+use Rattle.matcher.proofs.Counting.{counted-whole, counted-room, counted-all, counted-past, counted-stop}
+use Rattle.matcher.proofs.Views.{told-count, ends-last, ends-then}
+use Rattle.matcher.proofs.Groups.{settled-kept, work-long, work-room, work-few}
+
+-- ---- the planes to start from
+
+module _ (table label s : Bytes) (w top x : ℕ) (ok : Bodying table label s w top x) (s₁ : Bytes) (l₁ : length s₁ ≡ length s) (body : Bodied table label s s₁ w top x) where
+  room₁ : (p : ℕ) → p < top + 4 → InRoom s₁ w p
+  room₁ p h = work-room {s = s₁} (work-long l₁ (ok .work)) p (omega (arith, ok .topmost))
+
+  pub begin-empty : Fillable table label s₁ w Empty (top + 1)
+  unfolding Fit Aside
+  begin-empty = record { wide = ok .work .wide; fit = tt; aside = tt; into = room₁ (top + 1) (omega arith) }
+
+  module _ (s₂ : Bytes) (l₂ : length s₂ ≡ length s₁) (empty : Filled table label s₁ s₂ w Empty (top + 1)) where
+    room₂ : (p : ℕ) → p < top + 4 → InRoom s₂ w p
+    room₂ p h = work-room {s = s₂} (work-long (l₂ ∙ l₁) (ok .work)) p (omega (arith, ok .topmost))
+
+    pub begin-nothing : Fillable table label s₂ w Nothing (2 * x)
+    unfolding Fit Aside
+    begin-nothing = record { wide = ok .work .wide; fit = tt; aside = tt; into = room₂ (2 * x) (omega (arith, ok .topmost, ok .there)) }
+
+    pub begin-end : (s₃ : Bytes) → length s₃ ≡ length s₂ → Filled table label s₂ s₃ w Nothing (2 * x) → Begun table label s s₃ w top x
+    unfolding held-in
+    begin-end s₃ l₃ nothing =
+        let below : 2 * x < top = omega (arith, ok .topmost, ok .there) in
+        let b : Plane s₃ w top (decide label (inside (head (node table x)))) = plane-kept (nothing .kept) (λ i j l e. omega arith) (plane-kept (empty .kept) (λ i j l e. omega arith) (body .plane)) in
+        record {
+          making = record {
+            wide = ok .work .wide;
+            room = rw (l₃ ∙ l₂ ∙ l₁, ok .topmost) (ok .work .room);
+            below = below;
+            body = plane-flags b;
+            empty = plane-kept (nothing .kept) (λ i j l e. omega arith) (empty .plane);
+            nothing = nothing .plane;
+          };
+          body = b;
+          kept = kept-then
+              (kept-less (top + 1) (top + 4) (omega arith) (body .kept) (λ q i j n. n))
+              (kept-then (kept-less (top + 1 + 1) (top + 4) (omega arith) (empty .kept) (λ q i j n. n)) (kept-less (2 * x + 1) (top + 4) (omega arith) (nothing .kept) (λ q i j n. n)) (λ q i j n e. omega arith) (λ q i j (m, n) e. omega arith))
+              (λ q i j (m, n) e. omega arith) (λ q i j n. n);
+        }
+
+-- ---- an atom's own plane
+
+-- the count of bodies that is tried is the paper's K
+most-min : (n : ℕ) (high : Option ℕ) → n ≤ label-limit → min n (high-field high) ≡ most n high
+unfolding most
+most-min n none h = omega arith
+most-min n (some m) h = refl
+
+and-true : (b : Bool) → b && true ≡ b
+and-true true = refl
+and-true false = refl
+
+repeats-is : (l : Bytes) (a : Syntax atom) (low : ℕ) (high : Option ℕ) → a ≡ repeat low high (inside a)
+    → repeats l a ≡ sum (most (length l) high) (λ k. joins (length l) (decide l (inside a)) (made (decide l (inside a)) k))
+unfolding repeats inside
+repeats-is l a low high e = ap (repeats l) e
+
+decide-is : (l : Bytes) (a : Syntax atom) (low : ℕ) (high : Option ℕ) → a ≡ repeat low high (inside a) → decide l a ≡ repeated (length l) low high (decide l (inside a))
+unfolding decide inside
+decide-is l a low high e = ap (λ (z : Syntax atom). decide l z) e
+
+module _ (table label s : Bytes) (w top x budget spent : ℕ) (ok : Bodying table label s w top x) (s₁ : Bytes) (l₁ : length s₁ ≡ length s) (got : Begun table label s s₁ w top x)
+    (r : Record) (is : r ≡ record-of (its table (layout table) x)) (s₂ : Bytes) (l₂ : length s₂ ≡ length s₁) (low times : ℕ) (low-is : low ≡ min (r .low) (length label)) (times-is : times ≡ min (length label) (r .high))
+    (t : Tally) (made-of : MadeOf s₁ s₂ w top (2 * x) low times budget spent t) where
+  abbrev a : Syntax atom
+  a = head (node table x)
+
+  abbrev R : Rel
+  R = decide label (inside a)
+
+  bodies : Same w (on s₁ w top) R
+  bodies = plane-on (got .body)
+
+  tried : sum times (body-trials w (on s₁ w top)) ≡ repeats label a
+  tried =
+      let (high, e, f) = told-count table (ok .work .good) x (ok .there) r is in
+      let m : times ≡ most (length label) high = times-is ∙ ap (min (length label)) (sym f) ∙ most-min (length label) high (ok .work .short) in
+      let z : w ≡ suc (length label) = omega (arith, ok .work .wide) in
+      ap (λ (k : ℕ). sum k (body-trials w (on s₁ w top))) m
+      ∙ sum-same (most (length label) high) _ _ (λ k h. join-trials-same w _ _ _ _ bodies (made-same w _ _ bodies k) ∙ ap (λ (v : ℕ). join-trials v R (made R k)) z ∙ sym (joins-all (length label) R (made R k)))
+      ∙ sym (repeats-is label a (r .low) high e)
+
+  -- the stretches made of enough bodies, numbers cut to the label's length
+  enough : t .stopped ≡ false → Plane s₂ w (2 * x) (fewer R low (suc times))
+  enough e = plane-same (made-of .whole e) (λ i j hi hj. any-same _ _ (suc times) (λ k h. ap (λ (b : Bool). leb low k && b) (made-same w _ _ bodies k i j hi hj)))
+
+  decided : (i j : ℕ) → decide label a i j ≡ fewer R low (suc times) i j && (leb (r .low) (length label) || R i i)
+  unfolding repeated
+  decided i j =
+      let (high, e, f) = told-count table (ok .work .good) x (ok .there) r is in
+      let m : times ≡ most (length label) high = times-is ∙ ap (min (length label)) (sym f) ∙ most-min (length label) high (ok .work .short) in
+      ap (λ (S : Rel). S i j) (decide-is label a (r .low) high e) ∙ rw (low-is, m)
+
+  later : Kept s s₂ w (top + 4) (Later top x)
+  later = kept-then (got .kept) (made-of .kept) (λ q i j n. n) (λ q i j (m, n). (λ e. omega arith, λ e. omega arith, λ e. omega arith))
+
+  pub own-stop : t .stopped ≡ true → Owned table label s s₂ w top x budget spent t
+  own-stop e = record {
+    counted = rw (← tried) (made-of .counted);
+    whole = λ f. absurd (let z : _≡_ {A = ℕ} 0 1 = cc in omega arith);
+    kept = later;
+  }
+
+  pub own-low : t .stopped ≡ false → r .low ≤ length label → Owned table label s s₂ w top x budget spent t
+  own-low e h = record {
+    counted = rw (← tried) (made-of .counted);
+    whole = λ f. plane-same (enough e) (λ i j hi hj. sym (decided i j ∙ rw (le-leb (r .low) (length label) h) (and-true (fewer R low (suc times) i j))));
+    kept = later;
+  }
+
+  pub own-gate : Fillable table label s₂ w (Gate (2 * x) top) (2 * x)
+  unfolding Fit Aside
+  own-gate =
+      let below = got .making .below in
+      let room : (p : ℕ) → p < top + 4 → InRoom s₂ w p = λ p h. work-room {s = s₂} (work-long (l₂ ∙ l₁) (ok .work)) p (omega (arith, ok .topmost)) in
+      record { wide = ok .work .wide; fit = (room (2 * x) (omega arith), room top (omega arith)); aside = λ e. omega arith; into = room (2 * x) (omega arith) }
+
+  pub own-high : t .stopped ≡ false → length label < r .low → (s₃ : Bytes) → Filled table label s₂ s₃ w (Gate (2 * x) top) (2 * x) → Owned table label s s₃ w top x budget spent t
+  unfolding held-in
+  own-high e h s₃ f =
+      let below = got .making .below in
+      let b : Plane s₂ w top R = plane-kept (made-of .kept) (λ i j l. (λ y. omega arith, λ y. omega arith, λ y. omega arith)) (got .body) in
+      record {
+        counted = rw (← tried) (made-of .counted);
+        whole = λ _. plane-same (f .plane) (λ i j hi hj. sym (decided i j ∙ rw (lt-leb (r .low) (length label) h, plane-on (enough e) i j hi hj, plane-on b i i (omega arith) (omega arith))));
+        kept = kept-then later (kept-less (2 * x + 1) (top + 4) (omega arith) (f .kept) (λ q i j n. n)) (λ q i j n. n) (λ q i j (m, n) y. omega arith);
+      }

@@ -1,0 +1,61 @@
+-- Stretches of a label beside a set of codes and beside bytes of the table. Assumes nothing.
+use mathlib.Core.Path.{_≡_, refl, sym, ap, ap₂, _∙_}
+use mathlib.Core.Bool.{Bool, true, false, _&&_}
+use mathlib.Core.List.{List, [], _∷_}
+use Prim.Native.Nat.{ℕ, suc, _+_, _-_, _≤_, _<_}
+use native.Mathlib.Numerals.{add-one}
+use native.Mathlib.Omega.{arith}
+use borrow.Author.Tests.{eq-eqb, ne-eqb}
+use lib.Dec.{eqb}
+use lib.ListN.{length, getD}
+use lib.Seq.{slice, slice-empty, slice-cons, length-slice}
+use Rattle.pattern.specs.Bytes.{Bytes, same}
+use Rattle.pattern.specs.Codes.{in-set}
+use Rattle.pattern.specs.Decision.{one}
+use Rattle.pattern.proofs.Tests.{Decides}
+use Rattle.pattern.proofs.Agree.{same-decides}
+
+one-short : (set : ℕ) (s : Bytes) → (length s ≡ 1 → ⊥) → one set s ≡ false
+unfolding one
+one-short set [] h = refl
+one-short set (b ∷ []) h = absurd (h refl)
+one-short set (b ∷ c ∷ s) h = refl
+
+module _ (set : ℕ) (l : Bytes) (i j : ℕ) (hj : j ≤ length l) where
+  pub one-byte : j - i ≡ 1 → one set (slice i j l) ≡ in-set set (getD l i 0)
+  unfolding one
+  one-byte e =
+      let z : j ≡ suc i = omega arith in
+      ap (one set) (slice-cons i j l 0 (omega arith) hj ∙ ap (λ (t : Bytes). getD l i 0 ∷ t) (ap (λ (k : ℕ). slice (suc i) k l) z ∙ slice-empty (suc i) l))
+
+  pub one-not : (j - i ≡ 1 → ⊥) → one set (slice i j l) ≡ false
+  one-not h = one-short set (slice i j l) (λ e. h (sym (length-slice i j l hj) ∙ e))
+
+pub same-false : (s v : Bytes) → (s ≡ v → ⊥) → same s v ≡ false
+same-false s v h = go (same s v) (same-decides s v)
+  where
+    go : (b : Bool) → Decides b (s ≡ v) → b ≡ false
+    go true d = absurd (h (d .sound tt))
+    go false d = refl
+
+module _ (l t : Bytes) (i j from to : ℕ) (hj : j ≤ length l) (ht : to ≤ length t) where
+  pub same-apart : (to - from ≡ j - i → ⊥) → same (slice i j l) (slice from to t) ≡ false
+  same-apart h = same-false _ _ (λ e. h (sym (length-slice from to t ht) ∙ ap length (sym e) ∙ length-slice i j l hj))
+
+  pub same-end : (k : ℕ) → i + k ≡ j → from + k ≡ to → same (slice (i + k) j l) (slice (from + k) to t) ≡ true
+  unfolding same
+  same-end k e f = rw (e, f) (ap₂ same (slice-empty j l) (slice-empty to t))
+
+  module _ (k : ℕ) (h : i + k < j) (g : from + k < to) where
+    next : same (slice (i + k) j l) (slice (from + k) to t) ≡ eqb (getD l (i + k) 0) (getD t (from + k) 0) && same (slice (i + (k + 1)) j l) (slice (from + (k + 1)) to t)
+    unfolding same
+    next =
+        let a : suc (i + k) ≡ i + (k + 1) = omega arith in
+        let b : suc (from + k) ≡ from + (k + 1) = omega arith in
+        ap₂ same (slice-cons (i + k) j l 0 h hj) (slice-cons (from + k) to t 0 g ht) ∙ rw (← a, ← b)
+
+    pub same-differ : (getD l (i + k) 0 ≡ getD t (from + k) 0 → ⊥) → same (slice (i + k) j l) (slice (from + k) to t) ≡ false
+    same-differ n = next ∙ rw (ne-eqb _ _ n)
+
+    pub same-more : getD l (i + k) 0 ≡ getD t (from + k) 0 → same (slice (i + k) j l) (slice (from + k) to t) ≡ same (slice (i + (k + 1)) j l) (slice (from + (k + 1)) to t)
+    same-more e = next ∙ rw (eq-eqb _ _ e)

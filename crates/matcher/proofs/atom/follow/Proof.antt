@@ -1,0 +1,59 @@
+-- `matcher::atom::follow` meets its contract. Assumes nothing.
+use native.Mathlib.Omega.{arith}
+use Rattle.matcher.proofs.Groups.{work-few}
+use Rattle.matcher.proofs.Following.{follow-few, follow-copy, follow-last, follow-next, follow-ready, follow-then}
+use Rattle.matcher.proofs.atom.follow.Statement.{statement}
+use Rattle.matcher.proofs.atom.follow.Tie as tie
+
+record-at-requires : tie.Need-record-at-requires
+record-at-requires c κs = (c .before .before .before .pre .1 .work .good, c .before .before .before .pre .1 .there)
+
+mul-t14 : tie.Need-mul-t14
+mul-t14 c = omega (arith, follow-few _ _ _ _ _ (c .before .before .before .before .before .before .before .pre .1))
+
+mul-fill : tie.Need-mul-fill
+mul-fill c = omega (arith, follow-few _ _ _ _ _ (c .before .before .before .before .before .before .before .pre .1))
+
+add-fill : tie.Need-add-fill
+add-fill c = omega (arith, follow-few _ _ _ _ _ (c .before .before .before .before .before .before .before .pre .1))
+
+fill-requires : tie.Need-fill-requires
+fill-requires c κs = follow-copy _ _ _ _ _ (c .before .before .before .before .before .before .before .pre .1)
+
+same-length : tie.Need-same-length
+same-length c = c .before .before .fill .kept .1 .1 .0
+
+returns : tie.Need-returns
+returns c = follow-last _ _ _ _ _ (c .before .before .before .before .before .before .before .before .before .before .pre .1) _ (c .before .before .before .before .before .before .record-at .ensures) _ _ (c .before .before .before .before .before .before .before .before .before .before .pre .0) (c .before .before .before .before .if1 .taken) _ (c .before .before .fill .ensures)
+
+after-requires : tie.Need-after-requires
+after-requires c κs = (c .before .before .before .before .before .before .pre .1 .work .good, c .before .before .before .before .before .before .pre .1 .there)
+
+mul-join : tie.Need-mul-join
+mul-join c = omega (arith, follow-few _ _ _ _ _ (c .before .before .before .before .before .before .before .before .pre .1))
+
+mul-join-2 : tie.Need-mul-join-2
+mul-join-2 c = omega (arith, work-few (c .before .before .before .before .before .before .before .before .pre .1 .work), follow-next _ _ _ _ _ (c .before .before .before .before .before .before .before .before .pre .1) _ (c .before .before .before .before .record-at .ensures) (c .before .before .if1 .left) _ (c .before .after .ensures))
+
+add-join : tie.Need-add-join
+add-join c = omega (arith, work-few (c .before .before .before .before .before .before .before .before .pre .1 .work), follow-next _ _ _ _ _ (c .before .before .before .before .before .before .before .before .pre .1) _ (c .before .before .before .before .record-at .ensures) (c .before .before .if1 .left) _ (c .before .after .ensures))
+
+mul-join-3 : tie.Need-mul-join-3
+mul-join-3 c = omega (arith, follow-few _ _ _ _ _ (c .before .before .before .before .before .before .before .before .pre .1))
+
+add-join-2 : tie.Need-add-join-2
+add-join-2 c = omega (arith, follow-few _ _ _ _ _ (c .before .before .before .before .before .before .before .before .pre .1))
+
+join-requires : tie.Need-join-requires
+join-requires c κs = (c .before .before .before .before .before .before .before .before .pre .0, follow-ready _ _ _ _ _ (c .before .before .before .before .before .before .before .before .pre .1) _ (c .before .before .before .before .record-at .ensures) (c .before .before .if1 .left) _ (c .before .after .ensures))
+
+same-length-2 : tie.Need-same-length-2
+same-length-2 c = c .before .before .join .kept .0
+
+returns-2 : tie.Need-returns-2
+returns-2 c = follow-then _ _ _ _ _ (c .before .before .before .before .before .before .before .before .before .before .before .pre .1) _ (c .before .before .before .before .before .before .before .record-at .ensures) (c .before .before .before .before .before .if1 .left) _ (c .before .before .before .before .after .ensures) _ _ _ _ (c .before .before .join .ensures)
+
+pub follow-spec : {M : Type 1} → statement M
+follow-spec =
+    tie.close
+    (tie.spec record-at-requires mul-t14 mul-fill add-fill fill-requires same-length returns after-requires mul-join mul-join-2 add-join mul-join-3 add-join-2 join-requires same-length-2 returns-2)

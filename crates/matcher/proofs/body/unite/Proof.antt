@@ -1,0 +1,91 @@
+-- `matcher::body::unite` meets its contract: the invariant is `UniteAt`. Assumes nothing.
+use mathlib.Core.Path.{_≡_, sym, ap, _∙_}
+use Prim.Native.Nat.{ℕ, _-_, _<_}
+use native.Mathlib.Omega.{arith}
+use borrow.Author.Needs.{needs}
+use denote.Ref.{now}
+use Rattle.table.specs.declared.Record.{Record}
+use Rattle.matcher.specs.Atoms.{atoms}
+use Rattle.matcher.specs.Filled.{Fit, Aside}
+use Rattle.matcher.proofs.Groups.{work-few, body-fill, UniteAt, unite-start, unite-there, unite-fill, unite-step, unite-end}
+use Rattle.matcher.proofs.body.unite.Statement.{statement}
+use Rattle.matcher.proofs.body.unite.Tie as tie
+
+abbrev Inv-loop : tie.InvT-loop
+Inv-loop table label scratch₀ w top x branches first₀ k₀ scratch first k = UniteAt table label scratch₀ w top x branches scratch first k
+
+abbrev μ-loop : tie.MeasureT-loop
+μ-loop table label scratch₀ w top x branches first₀ k₀ scratch first k = branches - k
+
+record-at-requires : tie.Need-record-at-requires Inv-loop μ-loop
+record-at-requires c κs = (c .before .before .before .pre .0 .work .good, c .before .before .before .pre .0 .there)
+
+cast-branches : tie.Need-cast-branches Inv-loop μ-loop
+cast-branches c = search needs
+
+fill-requires : tie.Need-fill-requires Inv-loop μ-loop
+unfolding Fit Aside
+fill-requires c κs = body-fill _ _ _ _ _ _ (c .before .before .before .before .before .before .pre .0) _ tt tt
+
+add-first : tie.Need-add-first Inv-loop μ-loop
+add-first c = omega (arith, work-few (c .before .before .before .before .before .before .before .before .before .pre .0 .work), c .before .before .before .before .before .before .before .before .before .pre .0 .there)
+
+loop-holds : tie.Need-loop-holds Inv-loop μ-loop
+loop-holds c =
+    let p = c .before .before .before .before .before .before .before .before .before .pre in
+    let got = c .before .before .before .before .before .record-at .ensures in
+    let kind = ap (λ (z : Record). z .kind) got in
+    unite-start _ _ _ _ _ _ _ (p .0) (c .before .before .fill .kept .1 .1 .0) (c .before .before .fill .ensures) _ got (λ e. p .1 .0 (sym kind ∙ e)) (λ e. p .1 .1 (sym kind ∙ e))
+
+-- the branch that is next begins in the table
+there : (c : tie.After-fill-arg2 Inv-loop μ-loop) → c .before .before .loop .first < atoms (now (c .before .before .before .before .before .before .before .before .before .before .before .before .args .table))
+there c =
+    let p = c .before .before .before .before .before .before .before .before .before .before .before .before .pre in
+    let got = c .before .before .before .before .before .before .before .before .record-at .ensures in
+    let kind = ap (λ (z : Record). z .kind) got in
+    unite-there _ _ _ _ _ _ _ (p .0) (c .before .before .before .before .before .fill .kept .1 .1 .0) (c .before .before .before .before .before .fill .ensures) _ got (λ e. p .1 .0 (sym kind ∙ e)) (λ e. p .1 .1 (sym kind ∙ e)) _ _ _ (c .before .before .loop .inv) (c .before .loop-test .taken)
+
+mul-t19 : tie.Need-mul-t19 Inv-loop μ-loop
+mul-t19 c = omega (arith, there c, work-few (c .before .before .before .before .before .before .before .before .before .before .before .before .pre .0 .work))
+
+add-t20 : tie.Need-add-t20 Inv-loop μ-loop
+add-t20 c = omega (arith, there c, work-few (c .before .before .before .before .before .before .before .before .before .before .before .before .pre .0 .work))
+
+fill-requires-2 : tie.Need-fill-requires-2 Inv-loop μ-loop
+fill-requires-2 c κs =
+    let p = c .before .before .before .before .before .before .before .before .before .before .before .before .pre in
+    let got = c .before .before .before .before .before .before .before .before .record-at .ensures in
+    let kind = ap (λ (z : Record). z .kind) got in
+    unite-fill _ _ _ _ _ _ _ (p .0) (c .before .before .before .before .before .fill .kept .1 .1 .0) (c .before .before .before .before .before .fill .ensures) _ got (λ e. p .1 .0 (sym kind ∙ e)) (λ e. p .1 .1 (sym kind ∙ e)) _ _ _ (c .before .before .loop .inv) (c .before .loop-test .taken)
+
+branch-end-requires : tie.Need-branch-end-requires Inv-loop μ-loop
+branch-end-requires c κs = (c .before .before .before .before .before .before .before .before .before .before .before .before .before .before .before .pre .0 .work .good, there (c .before .before .before))
+
+add-k : tie.Need-add-k Inv-loop μ-loop
+add-k c = omega arith
+
+loop-less : tie.Need-loop-less Inv-loop μ-loop
+loop-less c = omega arith
+
+loop-again : tie.Need-loop-again Inv-loop μ-loop
+loop-again c =
+    let p = c .before .before .before .before .before .before .before .before .before .before .before .before .before .before .before .before .pre in
+    let got = c .before .before .before .before .before .before .before .before .before .before .before .before .record-at .ensures in
+    let kind = ap (λ (z : Record). z .kind) got in
+    unite-step _ _ _ _ _ _ _ (p .0) (c .before .before .before .before .before .before .before .before .before .fill .kept .1 .1 .0) (c .before .before .before .before .before .before .before .before .before .fill .ensures) _ got (λ e. p .1 .0 (sym kind ∙ e)) (λ e. p .1 .1 (sym kind ∙ e)) _ _ _ (c .before .before .before .before .before .before .loop .inv) (c .before .before .before .before .before .loop-test .taken)
+    _ (c .before .before .before .fill2 .kept .1 .1 .0) (c .before .before .before .fill2 .ensures) _ (c .branch-end .ensures)
+
+same-length : tie.Need-same-length Inv-loop μ-loop
+same-length c = c .before .loop .inv .long ∙ c .before .before .before .before .fill .kept .1 .1 .0
+
+returns : tie.Need-returns Inv-loop μ-loop
+returns c =
+    let p = c .before .before .before .before .before .before .before .before .before .before .before .pre in
+    let got = c .before .before .before .before .before .before .before .record-at .ensures in
+    let kind = ap (λ (z : Record). z .kind) got in
+    unite-end _ _ _ _ _ _ _ (p .0) (c .before .before .before .before .fill .kept .1 .1 .0) (c .before .before .before .before .fill .ensures) _ got (λ e. p .1 .0 (sym kind ∙ e)) (λ e. p .1 .1 (sym kind ∙ e)) _ _ _ (c .before .loop .inv) (c .loop-test .left)
+
+pub unite-spec : {M : Type 1} → statement M
+unite-spec =
+    tie.close
+    (tie.spec Inv-loop μ-loop record-at-requires cast-branches fill-requires add-first loop-holds mul-t19 add-t20 fill-requires-2 branch-end-requires add-k loop-less loop-again same-length returns)

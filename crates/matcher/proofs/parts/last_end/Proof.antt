@@ -1,0 +1,62 @@
+-- `matcher::parts::last_end` meets its contract: the ends above m don't hold. Assumes nothing.
+use mathlib.Core.Path.{_≡_, refl, sym, ap, _∙_}
+use mathlib.Core.Bool.{Bool, true, false}
+use Prim.Native.Nat.{ℕ, suc, _+_, _-_, _≤_, _<_}
+use native.Mathlib.Omega.{arith}
+use lib.Bits.{bitAnd}
+use denote.Ref.{now}
+use Rattle.pattern.specs.Decision.{trial}
+use Rattle.pattern.specs.Parts.{longest}
+use Rattle.matcher.specs.Cells.{on}
+use Rattle.matcher.proofs.Planes.{trial-hit, trial-miss}
+use Rattle.matcher.proofs.Ends.{longest-none, longest-hit, longest-miss}
+use Rattle.matcher.proofs.parts.last_end.Statement.{statement}
+use Rattle.matcher.proofs.parts.last_end.Tie as tie
+
+abbrev Inv-loop : tie.InvT-loop
+Inv-loop scratch w left right i n m₀ m =
+    (i ≤ m) × (m ≤ n) × (longest (suc n - i) (trial (on scratch w left) (on scratch w right) i n) ≡ longest (suc m - i) (trial (on scratch w left) (on scratch w right) i n))
+
+abbrev μ-loop : tie.MeasureT-loop
+μ-loop scratch w left right i n m₀ m = m
+
+loop-holds : tie.Need-loop-holds Inv-loop μ-loop
+loop-holds c = (c .before .pre .0, omega arith, refl)
+
+byte-requires : tie.Need-byte-requires Inv-loop μ-loop
+byte-requires c κs = let p = c .before .before .before .pre in (omega arith, (omega arith, p .1 .1 .0 .room))
+
+byte-requires-2 : tie.Need-byte-requires-2 Inv-loop μ-loop
+byte-requires-2 c κs = let p = c .before .before .before .before .pre in (omega arith, (p .1 .0, p .1 .1 .1 .room))
+
+returns : tie.Need-returns Inv-loop μ-loop
+returns c =
+    let p = c .before .before .before .before .before .before .pre in
+    let l = c .before .before .before .before .loop in
+    let h : bitAnd (c .before .before .byte .result) (c .before .byte2 .result) ≡ 0 → ⊥ = c .if1 .taken in
+    let hit = trial-hit _ _ _ _ (p .1 .1 .0 .flags) (p .1 .1 .1 .flags) _ (l .m) _ (omega arith) (omega arith) (p .1 .0) (rw (c .before .before .byte .ensures, c .before .byte2 .ensures) at h) in
+    let a = c .before .before .before .before .before .before .args in
+    omega (arith, l .inv .2, longest-hit (trial (on (now (a .scratch)) (a .w) (a .left)) (on (now (a .scratch)) (a .w) (a .right)) (a .i) (a .n)) (a .i) (l .m) (c .before .before .before .loop-test .taken) hit)
+
+sub-m : tie.Need-sub-m Inv-loop μ-loop
+sub-m c = omega arith
+
+loop-less : tie.Need-loop-less Inv-loop μ-loop
+loop-less c = omega arith
+
+loop-again : tie.Need-loop-again Inv-loop μ-loop
+loop-again c =
+    let p = c .before .before .before .before .before .before .pre in
+    let l = c .before .before .before .before .loop in
+    let h : bitAnd (c .before .before .byte .result) (c .before .byte2 .result) ≡ 0 = c .if1 .left in
+    let miss = trial-miss _ _ _ _ (p .1 .1 .0 .flags) (p .1 .1 .1 .flags) _ (l .m) _ (omega arith) (omega arith) (p .1 .0) (rw (c .before .before .byte .ensures, c .before .byte2 .ensures) at h) in
+    (omega arith, omega arith, l .inv .2 ∙ longest-miss _ _ (l .m) (c .before .before .before .loop-test .taken) miss)
+
+returns-2 : tie.Need-returns-2 Inv-loop μ-loop
+returns-2 c =
+    let l = c .before .loop in
+    let a = c .before .before .before .args in
+    omega (arith, l .inv .2, longest-none (trial (on (now (a .scratch)) (a .w) (a .left)) (on (now (a .scratch)) (a .w) (a .right)) (a .i) (a .n)) (a .i) (l .m) (c .loop-test .left))
+
+pub last-end-spec : {M : Type 1} → statement M
+last-end-spec = tie.close (tie.spec Inv-loop μ-loop loop-holds byte-requires byte-requires-2 returns sub-m loop-less loop-again returns-2)

@@ -1,0 +1,82 @@
+-- `matcher::parts::write_parts` meets its contract: the invariant is `PartsAt`. Assumes nothing.
+use mathlib.Core.Path.{_≡_, _∙_}
+use Prim.Native.Nat.{ℕ, _-_}
+use native.Mathlib.Omega.{arith}
+use Rattle.pattern.proofs.RoundTrip.{some-atom}
+use denote.Ref.{now}
+use Rattle.matcher.specs.Atoms.{atoms, node, head}
+use Rattle.matcher.proofs.Groups.{work-few}
+use Rattle.matcher.proofs.Ends.{PartsAt, parts-start, parts-room, parts-end, parts-next, parts-left, parts-right, parts-in, parts-step}
+use Rattle.matcher.proofs.parts.write_parts.Statement.{statement}
+use Rattle.matcher.proofs.parts.write_parts.Tie as tie
+
+abbrev Inv-loop : tie.InvT-loop
+Inv-loop table label scratch w parts₀ n x₀ i₀ at₀ parts x i at = PartsAt table label parts₀ parts x i at
+
+abbrev μ-loop : tie.MeasureT-loop
+μ-loop table label scratch w parts₀ n x₀ i₀ at₀ parts x i at = atoms table - x
+
+loop-holds : tie.Need-loop-holds Inv-loop μ-loop
+loop-holds c = parts-start _ _ _ _ _ (c .before .before .before .before .pre)
+
+record-at-requires : tie.Need-record-at-requires Inv-loop μ-loop
+record-at-requires c κs = (c .before .before .before .before .before .pre .work .good, c .loop .inv .there)
+
+put-requires : tie.Need-put-requires Inv-loop μ-loop
+put-requires c κs = (parts-room _ _ _ _ _ (c .before .before .before .before .before .before .before .before .before .pre) _ _ _ _ (c .before .before .before .before .loop .inv), omega (arith, c .before .before .before .before .before .before .before .before .before .pre .work .short))
+
+same-length : tie.Need-same-length Inv-loop μ-loop
+same-length c = c .before .before .put .kept .0 ∙ c .before .before .before .before .before .before .before .loop .inv .long
+
+returns : tie.Need-returns Inv-loop μ-loop
+returns c = parts-end _ _ _ _ _ (c .before .before .before .before .before .before .before .before .before .before .before .before .pre) _ _ _ _ (c .before .before .before .before .before .before .before .loop .inv) _ (c .before .before .before .before .before .before .record-at .ensures) (c .before .before .before .before .if1 .taken) _ (c .before .before .put .ensures)
+
+after-requires : tie.Need-after-requires Inv-loop μ-loop
+after-requires c κs = (c .before .before .before .before .before .before .before .before .pre .work .good, c .before .before .before .loop .inv .there)
+
+mul-last-end : tie.Need-mul-last-end Inv-loop μ-loop
+mul-last-end c = omega (arith, work-few (c .before .before .before .before .before .before .before .before .before .pre .work), c .before .before .before .before .loop .inv .there)
+
+mul-last-end-2 : tie.Need-mul-last-end-2 Inv-loop μ-loop
+mul-last-end-2 c = omega (arith, work-few (c .before .before .before .before .before .before .before .before .before .pre .work), parts-next _ _ _ _ _ (c .before .before .before .before .before .before .before .before .before .pre) _ _ _ _ (c .before .before .before .before .loop .inv) _ (c .before .before .before .record-at .ensures) (c .before .if1 .left) _ (c .after .ensures))
+
+add-last-end : tie.Need-add-last-end Inv-loop μ-loop
+add-last-end c = omega (arith, work-few (c .before .before .before .before .before .before .before .before .before .pre .work), parts-next _ _ _ _ _ (c .before .before .before .before .before .before .before .before .before .pre) _ _ _ _ (c .before .before .before .before .loop .inv) _ (c .before .before .before .record-at .ensures) (c .before .if1 .left) _ (c .after .ensures))
+
+last-end-requires : tie.Need-last-end-requires Inv-loop μ-loop
+last-end-requires c κs =
+    let p = c .before .before .before .before .before .before .before .before .before .pre in
+    let l = c .before .before .before .before .loop in (
+      l .inv .inner,
+      (
+        omega (arith, p .work .wide),
+        (
+          parts-left _ _ _ _ _ p _ _ _ _ (l .inv) _ (c .before .before .before .record-at .ensures) (c .before .if1 .left) _ (c .after .ensures),
+          parts-right _ _ _ _ _ p _ _ _ _ (l .inv) _ (c .before .before .before .record-at .ensures) (c .before .if1 .left) _ (c .after .ensures),
+        ),
+      ),
+    )
+
+put-requires-2 : tie.Need-put-requires-2 Inv-loop μ-loop
+put-requires-2 c κs =
+    let p = c .before .before .before .before .before .before .before .before .before .before .before .pre in
+    let l = c .before .before .before .before .before .before .loop in (
+      parts-room _ _ _ _ _ p _ _ _ _ (l .inv),
+      omega (arith, p .work .short, parts-in _ _ _ _ _ p _ _ _ _ (l .inv) _ (c .before .before .before .before .before .record-at .ensures) (c .before .before .before .if1 .left) _ (c .before .before .after .ensures) _ (c .before .last-end .ensures)),
+    )
+
+add-at : tie.Need-add-at Inv-loop μ-loop
+add-at c = omega (arith, parts-room _ _ _ _ _ (c .before .before .before .before .before .before .before .before .before .before .before .before .before .before .pre) _ _ _ _ (c .before .before .before .before .before .before .before .before .before .loop .inv), c .before .before .before .before .before .before .before .before .before .loop .inv .long)
+
+loop-less : tie.Need-loop-less Inv-loop μ-loop
+loop-less c =
+    let n = parts-next _ _ _ _ _ (c .before .before .before .before .before .before .before .before .before .before .before .before .before .before .pre) _ _ _ _ (c .before .before .before .before .before .before .before .before .before .loop .inv) _ (c .before .before .before .before .before .before .before .before .record-at .ensures) (c .before .before .before .before .before .before .if1 .left) _ (c .before .before .before .before .before .after .ensures) in
+    omega (arith, n, c .before .before .before .before .before .after .ensures, some-atom (head (node (now (c .before .before .before .before .before .before .before .before .before .before .before .before .before .before .args .table)) (c .before .before .before .before .before .before .before .before .before .loop .x))))
+
+loop-again : tie.Need-loop-again Inv-loop μ-loop
+loop-again c = parts-step _ _ _ _ _ (c .before .before .before .before .before .before .before .before .before .before .before .before .before .before .pre) _ _ _ _ (c .before .before .before .before .before .before .before .before .before .loop .inv) _ (c .before .before .before .before .before .before .before .before .record-at .ensures) (c .before .before .before .before .before .before .if1 .left) _ (c .before .before .before .before .before .after .ensures) _ (c .before .before .before .before .last-end .ensures) _ (c .before .before .put2 .ensures)
+
+pub write-parts-spec : {M : Type 1} → statement M
+write-parts-spec =
+    tie.close
+    (tie.spec Inv-loop μ-loop loop-holds record-at-requires put-requires same-length returns after-requires mul-last-end mul-last-end-2 add-last-end last-end-requires put-requires-2 add-at loop-less loop-again)

@@ -1,0 +1,31 @@
+-- The answer to a match, from the code's enum. Assumes nothing.
+use mathlib.Core.Path.{_≡_}
+use Prim.Native.Nat.{ℕ, _*_, _≤_}
+use lib.ListN.{length}
+use Rattle.pattern.specs.Numbers.{label-limit, BUDGET}
+use Rattle.pattern.specs.Bytes.{Bytes}
+use Rattle.pattern.specs.Syntax.{top-size}
+use Rattle.pattern.specs.Decode.{tree-of}
+use Rattle.pattern.specs.Answers.{Answer, refusal, result, work, Matched as Outcome}
+use Rattle.matcher.specs.declared.Matched.{Matched}
+use Rattle.matcher.specs.declared.Matched.the-variants.{Refused, Exhausted, No, Yes}
+use Rattle.matcher.specs.Atoms.{GoodTable, atoms}
+
+-- the paper's numbers for each case: "15 reports the budget as trials, every other refusal 0"
+abbrev pub answer-of : (budget : ℕ) → Matched → Answer
+answer-of budget (Refused number) = refusal number 0
+answer-of budget Exhausted = record { number = BUDGET; position = 0; value = 0; trials = budget }
+answer-of budget (No trials) = result 0 trials
+answer-of budget (Yes trials) = result 1 trials
+
+-- the answer with scratch and parts afterwards
+abbrev pub outcome-of : (budget : ℕ) → Matched → (scratch parts : Bytes) → Outcome
+outcome-of budget r scratch parts = record { answer = answer-of budget r; scratch = scratch; parts = parts }
+
+-- a good table, and a label and lent slices that fit it
+pub record Running (table label scratch parts : Bytes) (count : ℕ) : Type 0 where
+  pub good : GoodTable table
+  pub counted : count ≡ atoms table
+  pub short : length label ≤ label-limit
+  pub room : work (tree-of table) (length label) ≤ length scratch
+  pub fits : 2 * top-size (tree-of table) ≤ length parts

@@ -1,0 +1,18 @@
+-- The plane of an atom's body. Assumes nothing.
+use mathlib.Core.Path.{_≡_}
+use Prim.Native.Nat.{ℕ, suc, _+_, _*_, _<_}
+use Rattle.pattern.specs.Bytes.{Bytes}
+use Rattle.pattern.specs.Decision.{decide}
+use Rattle.matcher.specs.Cells.{Plane, Kept, Not}
+use Rattle.matcher.specs.Atoms.{atoms, node, head, inside, Work, Settled}
+
+-- the planes of all atoms after x are settled, and top is the first plane after those of the atoms
+pub record Bodying (table label s : Bytes) (w top x : ℕ) : Type 0 where
+  pub work : Work table label s w
+  pub topmost : top ≡ 2 * atoms table
+  pub there : x < atoms table
+  pub settled : Settled table label s w (suc x)
+
+pub record Bodied (table label s s′ : Bytes) (w top x : ℕ) : Type 0 where
+  pub plane : Plane s′ w top (decide label (inside (head (node table x))))
+  pub kept : Kept s s′ w (top + 1) (Not top)

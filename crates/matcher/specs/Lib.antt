@@ -1,0 +1,11 @@
+pub mod Cells
+pub mod Budget
+pub mod Seek
+pub mod Joined
+pub mod Filled
+pub mod Made
+pub mod Atoms
+pub mod Bodied
+pub mod Steps
+pub mod Parted
+pub mod Answered

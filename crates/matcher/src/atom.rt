@@ -1,0 +1,145 @@
+// One atom after the other, from the last record to the first: what an atom needs is settled before it.
+ghost use mathlib.Core.Path.{_≡_};
+ghost use Prim.Native.Nat.{_*_, _≤_, min};
+ghost use Rattle.matcher.specs.Atoms.{atoms, Work};
+ghost use Rattle.matcher.specs.Bodied.{Bodying};
+ghost use Rattle.matcher.specs.Steps.{Begun, Owned, Following, Followed, Stepped, AllSettled};
+use crate::body::fill_body;
+use crate::fill::Source;
+use crate::fill::fill;
+use crate::join::Tally;
+use crate::join::join;
+use crate::made::make;
+use crate::walk::after;
+use crate::walk::record_at;
+
+fn lesser(a: usize, b: usize) -> usize
+    ensures { λ r. ⌜ r ≡ min a b ⌝ }
+{
+    if a < b { a } else { b }
+}
+
+// The planes that making bodies starts from: the body in top, the empty stretches in top + 1, nothing in 2 x.
+fn begin(table: &[u8], label: &[u8], scratch: &mut [u8], w: usize, top: usize, x: usize)
+    requires { ⌜ Bodying (now table) (now label) (now scratch) w top x ⌝ }
+    ensures { λ _. ⌜ Begun (now (table .entry)) (now (label .entry)) (now (scratch .entry)) (now (scratch .exit)) w top x ⌝ }
+{
+    fill_body(table, label, scratch, w, top, x);
+    fill(table, label, scratch, w, Source::Empty, top + 1);
+    fill(table, label, scratch, w, Source::Nothing, 2 * x);
+}
+
+// Plane 2 x: the stretches that satisfy atom x. Where low is beyond the label's length, some body is empty.
+fn settle_own(
+    table: &[u8],
+    label: &[u8],
+    scratch: &mut [u8],
+    w: usize,
+    top: usize,
+    x: usize,
+    budget: u64,
+    trials: u64,
+) -> Tally
+    requires { ⌜ trials ≤ budget ⌝ ∗ ⌜ Bodying (now table) (now label) (now scratch) w top x ⌝ }
+    ensures { λ r. ⌜ Owned (now (table .entry)) (now (label .entry)) (now (scratch .entry)) (now (scratch .exit)) w top x budget trials r ⌝ }
+{
+    let own = 2 * x;
+    begin(table, label, scratch, w, top, x);
+    let r = record_at(table, x);
+    let n = label.len();
+    let low = r.low as usize;
+    let high = r.high as usize;
+    let t = make(
+        table,
+        label,
+        scratch,
+        w,
+        top,
+        own,
+        lesser(low, n),
+        lesser(n, high),
+        budget,
+        trials,
+    );
+    if t.stopped {
+        return t;
+    }
+    if n < low {
+        fill(table, label, scratch, w, Source::Gate(own, top), own);
+    }
+    t
+}
+
+// Plane 2 x + 1: the stretches that satisfy atom x and all that follow it in its branch.
+fn follow(
+    table: &[u8],
+    label: &[u8],
+    scratch: &mut [u8],
+    w: usize,
+    x: usize,
+    budget: u64,
+    trials: u64,
+) -> Tally
+    requires { ⌜ trials ≤ budget ⌝ ∗ ⌜ Following (now table) (now label) (now scratch) w x ⌝ }
+    ensures { λ r. ⌜ Followed (now (table .entry)) (now (label .entry)) (now (scratch .entry)) (now (scratch .exit)) w x budget trials r ⌝ }
+{
+    let r = record_at(table, x);
+    if r.ends == 1 {
+        fill(table, label, scratch, w, Source::Copy(2 * x), 2 * x + 1);
+        return Tally {
+            trials,
+            stopped: false,
+        };
+    }
+    let next = after(table, x);
+    join(scratch, w, 2 * x, 2 * next + 1, 2 * x + 1, budget, trials)
+}
+
+// Both planes of atom x.
+fn settle(
+    table: &[u8],
+    label: &[u8],
+    scratch: &mut [u8],
+    w: usize,
+    top: usize,
+    x: usize,
+    budget: u64,
+    trials: u64,
+) -> Tally
+    requires { ⌜ trials ≤ budget ⌝ ∗ ⌜ Bodying (now table) (now label) (now scratch) w top x ⌝ }
+    ensures { λ r. ⌜ Stepped (now (table .entry)) (now (label .entry)) (now (scratch .entry)) (now (scratch .exit)) w top x budget trials r ⌝ }
+{
+    let t = settle_own(table, label, scratch, w, top, x, budget, trials);
+    if t.stopped {
+        return t;
+    }
+    follow(table, label, scratch, w, x, budget, t.trials)
+}
+
+// Both planes of every atom.
+pub fn settle_all(
+    table: &[u8],
+    label: &[u8],
+    scratch: &mut [u8],
+    w: usize,
+    top: usize,
+    budget: u64,
+) -> Tally
+    requires { ⌜ Work (now table) (now label) (now scratch) w ⌝ ∗ ⌜ top ≡ 2 * atoms (now table) ⌝ }
+    ensures { λ r. ⌜ AllSettled (now (table .entry)) (now (label .entry)) (now (scratch .entry)) (now (scratch .exit)) w top budget r ⌝ }
+{
+    let mut x = top / 2;
+    let mut spent = 0;
+    while 0 < x {
+        x -= 1;
+        let t = settle(table, label, scratch, w, top, x, budget, spent);
+        if t.stopped {
+            return t;
+        }
+        spent = t.trials;
+    }
+    Tally {
+        trials: spent,
+        stopped: false,
+    }
+}

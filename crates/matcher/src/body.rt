@@ -1,0 +1,67 @@
+// The plane of an atom's body, from the table, the label, and the planes of the atoms inside.
+ghost use mathlib.Core.Path.{_≡_};
+ghost use Rattle.pattern.specs.Decode.{layout, its};
+ghost use Rattle.matcher.specs.Atoms.{GoodTable};
+ghost use Rattle.matcher.specs.Bodied.{Bodying, Bodied};
+use crate::fill::Source;
+use crate::fill::fill;
+use crate::walk::branch_end;
+use crate::walk::record_at;
+use pattern::limits::HEADER_SIZE;
+use pattern::limits::RECORD_SIZE;
+
+// Where the pool begins.
+fn pool(table: &[u8]) -> usize
+    requires { ⌜ GoodTable (now table) ⌝ }
+    ensures { λ r. ⌜ r ≡ layout (now (table .entry)) .pool ⌝ }
+{
+    HEADER_SIZE + RECORD_SIZE * (table[5] as usize)
+}
+
+// Plane top for the group x: what satisfies one of its branches.
+fn unite(table: &[u8], label: &[u8], scratch: &mut [u8], w: usize, top: usize, x: usize)
+    requires { ⌜ Bodying (now table) (now label) (now scratch) w top x ⌝ }
+    requires { ⌜ (its (now table) (layout (now table)) x .kind ≡ 1 → ⊥) ⌝ ∗ ⌜ (its (now table) (layout (now table)) x .kind ≡ 2 → ⊥) ⌝ }
+    ensures { λ _. ⌜ Bodied (now (table .entry)) (now (label .entry)) (now (scratch .entry)) (now (scratch .exit)) w top x ⌝ }
+{
+    let r = record_at(table, x);
+    let branches = r.a as usize;
+    fill(table, label, scratch, w, Source::Nothing, top);
+    let mut first = x + 1;
+    let mut k = 0;
+    while k < branches {
+        fill(
+            table,
+            label,
+            scratch,
+            w,
+            Source::Either(top, 2 * first + 1),
+            top,
+        );
+        first = branch_end(table, first);
+        k += 1;
+    }
+}
+
+// Plane top for the body of atom x.
+pub fn fill_body(table: &[u8], label: &[u8], scratch: &mut [u8], w: usize, top: usize, x: usize)
+    requires { ⌜ Bodying (now table) (now label) (now scratch) w top x ⌝ }
+    ensures { λ _. ⌜ Bodied (now (table .entry)) (now (label .entry)) (now (scratch .entry)) (now (scratch .exit)) w top x ⌝ }
+{
+    let r = record_at(table, x);
+    if r.kind == 1 {
+        fill(table, label, scratch, w, Source::Codes(r.a), top);
+        return;
+    }
+    if r.kind == 2 {
+        if r.b == 0 {
+            fill(table, label, scratch, w, Source::Empty, top);
+            return;
+        }
+        let from = pool(table) + r.a as usize;
+        let to = from + r.b as usize;
+        fill(table, label, scratch, w, Source::Literal(from, to), top);
+        return;
+    }
+    unite(table, label, scratch, w, top, x);
+}

@@ -1,0 +1,36 @@
+// Planes of w x w cells in one lent slice: the one place that works an index out.
+ghost use mathlib.Core.Path.{_≡_};
+ghost use Prim.Native.Nat.{_+_, _*_, _<_, _^_};
+ghost use lib.ListN.{set};
+ghost use Rattle.matcher.specs.Cells.{InRoom, at, cell, bitOf};
+
+// The index of cell (p, i, j).
+fn place(w: usize, p: usize, i: usize, j: usize) -> usize
+    requires { ⌜ i < w ⌝ ∗ ⌜ j < w ⌝ ∗ ⌜ (p + 1) * w * w < 2 ^ 64 ⌝ }
+    ensures { λ r. ⌜ r ≡ at w p i j ⌝ }
+{
+    (p * w + i) * w + j
+}
+
+// The byte of cell (p, i, j): 1 where plane p holds of the stretch i to j, else 0.
+pub fn byte(scratch: &[u8], w: usize, p: usize, i: usize, j: usize) -> u8
+    requires { ⌜ i < w ⌝ ∗ ⌜ j < w ⌝ ∗ ⌜ InRoom (now scratch) w p ⌝ }
+    ensures { λ r. ⌜ r ≡ cell (now (scratch .entry)) w p i j ⌝ }
+{
+    scratch[place(w, p, i, j)]
+}
+
+fn bit(b: bool) -> u8
+    ensures { λ r. ⌜ r ≡ bitOf b ⌝ }
+{
+    if b { 1 } else { 0 }
+}
+
+// Makes cell (p, i, j) say b.
+pub fn mark(scratch: &mut [u8], w: usize, p: usize, i: usize, j: usize, b: bool)
+    requires { ⌜ i < w ⌝ ∗ ⌜ j < w ⌝ ∗ ⌜ InRoom (now scratch) w p ⌝ }
+    ensures { λ _. ⌜ now (scratch .exit) ≡ set (now (scratch .entry)) (at w p i j) (bitOf b) ⌝ }
+{
+    let k = place(w, p, i, j);
+    scratch[k] = bit(b);
+}

@@ -1,0 +1,58 @@
+// The parts: where the stretches of the top-level atoms end, each as long as it can be. No trials: the planes are settled.
+ghost use mathlib.Core.Path.{_≡_};
+ghost use Prim.Native.Nat.{suc, _+_, _-_, _*_, _/_, _%_, _<_, _≤_};
+ghost use lib.ListN.{length, set};
+ghost use Rattle.pattern.specs.Decision.{trial};
+ghost use Rattle.pattern.specs.Parts.{longest};
+ghost use Rattle.matcher.specs.Cells.{on, Readable};
+ghost use Rattle.matcher.specs.Parted.{Parting, Parted};
+use crate::cells::byte;
+use crate::walk::after;
+use crate::walk::record_at;
+
+// The last m from which right reaches n, with left on i to m.
+fn last_end(scratch: &[u8], w: usize, left: usize, right: usize, i: usize, n: usize) -> usize
+    requires { ⌜ i ≤ n ⌝ ∗ ⌜ n < w ⌝ ∗ ⌜ Readable (now scratch) w left ⌝ ∗ ⌜ Readable (now scratch) w right ⌝ }
+    ensures { λ r. ⌜ r ≡ i + longest (suc n - i) (trial (on (now (scratch .entry)) w left) (on (now (scratch .entry)) w right) i n) ⌝ }
+{
+    let mut m = n;
+    while i < m {
+        if byte(scratch, w, left, i, m) & byte(scratch, w, right, m, n) != 0 {
+            return m;
+        }
+        m -= 1;
+    }
+    i
+}
+
+// A place as 16 bits, the lower byte first.
+fn put(parts: &mut [u8], at: usize, m: usize)
+    requires { ⌜ at + 2 ≤ length (now parts) ⌝ ∗ ⌜ m < 65536 ⌝ }
+    ensures { λ _. ⌜ now (parts .exit) ≡ set (set (now (parts .entry)) at (m % 256)) (at + 1) (m / 256) ⌝ }
+{
+    parts[at] = (m % 256) as u8;
+    parts[at + 1] = (m / 256) as u8;
+}
+
+// The ends of the stretches of the top-level atoms.
+pub fn write_parts(table: &[u8], label: &[u8], scratch: &[u8], w: usize, parts: &mut [u8])
+    requires { ⌜ Parting (now table) (now label) (now scratch) w (now parts) ⌝ }
+    ensures { λ _. ⌜ Parted (now (table .entry)) (now (label .entry)) (now (parts .entry)) (now (parts .exit)) ⌝ }
+{
+    let n = label.len();
+    let mut x = 0;
+    let mut i = 0;
+    let mut at = 0;
+    loop {
+        let r = record_at(table, x);
+        if r.ends == 1 {
+            put(parts, at, n);
+            return;
+        }
+        let next = after(table, x);
+        i = last_end(scratch, w, 2 * x, 2 * next + 1, i, n);
+        put(parts, at, i);
+        x = next;
+        at += 2;
+    }
+}
