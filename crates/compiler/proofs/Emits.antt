@@ -14,8 +14,8 @@ use Rattle.pattern.specs.Syntax.{pattern, Syntax, size}
 use Rattle.pattern.specs.Reading.{top, start}
 use Rattle.pattern.specs.Scan.{depth, Outcome, refused, accepted, scan, outcome}
 use Rattle.pattern.specs.Table.{pool, Rec, records, flat, header, encode}
-use Rattle.pattern.specs.Answers.{Answer, refusal, result, Output, put, compileOf}
-use Rattle.pattern.proofs.Tests.{if-true, if-false}
+use Rattle.pattern.specs.Answers.{Answer, refusal, result, Output, put, compiled, compileOf}
+use Rattle.pattern.proofs.Calls.{put-fits, put-short}
 use Rattle.pattern.proofs.Records.{length-flat, count-records}
 use Rattle.compiler.specs.declared.reader.State.{State}
 use Rattle.compiler.specs.declared.reader.Parsed.{Parsed}
@@ -41,15 +41,6 @@ stored-over l v h = let z : 0 + length v ≡ length v = omega arith in sets-eq v
 take-stored : (l v : Bytes) (n : ℕ) → n ≡ length v → n ≤ length l → take n (stored l 0 v) ≡ v
 unfolding over
 take-stored l v n e h = rw (e, stored-over l v (omega arith)) (take-append-seam v (drop (length v) l))
-
--- a result in lent bytes that are long enough, and in others
-put-fits : (position : ℕ) (w l : Bytes) → length w ≤ length l → put position w l ≡ output (result (length w) 0) (over w l)
-unfolding put
-put-fits position w l h = if-true (leb (length w) (length l)) _ _ (le-leb (length w) (length l) h)
-
-put-short : (position : ℕ) (w l : Bytes) → length l < length w → put position w l ≡ output (refusal ROOM position) l
-unfolding put
-put-short position w l h = if-false (leb (length w) (length l)) _ _ (lt-leb (length w) (length l) h)
 
 module _ (position n m : ℕ) (recs text table : Bytes) (emits : Emits n m recs text) where
   abbrev written : Bytes
@@ -94,10 +85,10 @@ output-of s table (refused f p) = output (refusal f p) table
 output-of s table (accepted t) = put (length s) (encode t) table
 
 compile-by : (s table : Bytes) (o : Outcome) → outcome s ≡ o → output-of s table o ≡ compileOf s table
-unfolding compileOf
-compile-by s table o e = go o ∙ ap (λ o. elim o [ refused f p ↦ output (refusal f p) table | accepted t ↦ put (length s) (encode t) table ]) (sym e)
+unfolding compileOf compiled
+compile-by s table o e = go o ∙ ap (λ o. compiled o s table) (sym e)
   where
-    go : (o : Outcome) → output-of s table o ≡ (elim o [ refused f p ↦ output (refusal f p) table | accepted t ↦ put (length s) (encode t) table ])
+    go : (o : Outcome) → output-of s table o ≡ compiled o s table
     go (refused f p) = refl
     go (accepted t) = refl
 

@@ -17,7 +17,7 @@ use Rattle.pattern.specs.Decision.{decide}
 use Rattle.pattern.specs.Parts.{parts, verdict}
 use Rattle.pattern.specs.Trials.{trials}
 use Rattle.pattern.specs.Decode.{tree-of}
-use Rattle.pattern.specs.Answers.{Answer, result, work, cleared, part-bytes, judged, tried, Matched as Outcome}
+use Rattle.pattern.specs.Answers.{Answer, result, work, cleared, part-bytes, judged, tried-if, tried, Matched as Outcome}
 use Rattle.pattern.proofs.Tests.{if-true, if-false}
 use Rattle.pattern.proofs.RoundTrip.{some-pattern}
 use Rattle.matcher.specs.declared.join.Tally.{Tally}
@@ -82,15 +82,16 @@ module _ (table label scratch lent : Bytes) (count : ℕ) (ok : Running table la
 
     pub run-stop : r .stopped ≡ true → (s′ : Bytes) → s′ ≡ replicate len 0 ++ drop len s
         → _≡_ {A = Outcome} record { answer = record { number = BUDGET; position = 0; value = 0; trials = budget }; scratch = s′; parts = lent } (tried t label scratch lent budget)
-    unfolding tried
+    unfolding tried tried-if
     run-stop e s′ c =
         ap (λ (x : Bytes). record { answer = record { number = BUDGET; position = 0; value = 0; trials = budget }; scratch = x; parts = lent }) (cleared-is s′ c)
-        ∙ sym (if-false _ _ _ (lt-leb _ _ (counted-past (got .counted) e)))
+        ∙ sym (ap (λ b. tried-if b t label scratch lent budget) (lt-leb _ _ (counted-past (got .counted) e)))
 
     module _ (e : r .stopped ≡ false) where
-      judged-is : (o : Option (List ℕ)) → verdict label t ≡ o → tried t label scratch lent budget ≡ judged t label scratch lent o
-      unfolding tried
-      judged-is o v = if-true _ _ _ (le-leb _ _ (counted-room (got .counted) e)) ∙ ap (judged t label scratch lent) v
+      judged-is : (o : Option (List ℕ)) → verdict label t ≡ o → tried t label scratch lent budget ≡ judged o t label scratch lent
+      unfolding tried tried-if
+      judged-is o v =
+          ap (λ b. tried-if b t label scratch lent budget) (le-leb _ _ (counted-room (got .counted) e)) ∙ ap (λ v. judged v t label scratch lent) v
 
       -- the cell of the whole label is the decision
       decided : on s w 1 0 (length label) ≡ decide label t 0 (length label)

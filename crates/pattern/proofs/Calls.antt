@@ -23,7 +23,7 @@ use Rattle.pattern.specs.Faults.{rows-at, Applies, Least}
 use Rattle.pattern.specs.Print.{print}
 use Rattle.pattern.specs.Table.{encode}
 use Rattle.pattern.specs.Decode.{decode}
-use Rattle.pattern.specs.Answers.{Answer, result, Output, put-if, put, compiled, compileOf, written-back, writeOf, Matched, cleared, part-bytes, lent-fault, judged, tried-if, tried, untried, tried-unless, matched, matchOf}
+use Rattle.pattern.specs.Answers.{Answer, refusal, result, Output, put-if, put, compiled, compileOf, written-back, writeOf, Matched, cleared, part-bytes, lent-fault, judged, tried-if, tried, untried, tried-unless, matched, matchOf}
 use Rattle.pattern.proofs.Longest.{partition-satisfies, verdict-means, verdict-length, part-bytes-length}
 use Rattle.pattern.proofs.Bound.{bound}
 use Rattle.pattern.proofs.Accepted.{accepted-exactly}
@@ -66,6 +66,15 @@ module _ (table : Bytes) (t : Syntax pattern) (good : decode table ≡ some t) w
 
 -- ---- writing back
 
+-- a result in lent bytes that are long enough, and in others
+pub put-fits : (position : ℕ) (x lent : Bytes) → length x ≤ length lent → put position x lent ≡ record { answer = result (length x) 0; bytes = over x lent }
+unfolding put put-if
+put-fits position x lent h = ap (λ b. put-if b position x lent) (le-leb _ _ h)
+
+pub put-short : (position : ℕ) (x lent : Bytes) → length lent < length x → put position x lent ≡ record { answer = refusal ROOM position; bytes = lent }
+unfolding put put-if
+put-short position x lent h = ap (λ b. put-if b position x lent) (lt-leb _ _ h)
+
 -- what an output that is not refused has at its start
 abbrev pub written : Output → Bytes
 written w = take (w .answer .value) (w .bytes)
@@ -83,13 +92,13 @@ write-printed (some t) source e = (t, refl, put-written _ 0 (print t) source e)
 -- demand 2: the source that is written back compiles to the table it was written from
 pub write-compile : (table source room : Bytes) → writeOf table source .answer .number ≡ 0 → length table ≤ length room
     → compileOf (written (writeOf table source)) room ≡ record { answer = result (length table) 0; bytes = over table room }
-unfolding writeOf compileOf compiled put put-if
+unfolding writeOf compileOf compiled
 write-compile table source room e h =
     let (t, d, w) = write-printed (decode table) source e in
     ap (λ x. compileOf x room) w
     ∙ ap (λ o. compiled o (print t) room) (print-accepted table t d)
     ∙ ap (λ x. put (length (print t)) x room) (decoded-encode table t d)
-    ∙ ap (λ b. put-if b (length (print t)) table room) (le-leb _ _ h)
+    ∙ put-fits _ table room h
 
 -- ---- matching
 
@@ -216,9 +225,9 @@ outcome-number source f p e =
 -- demand 2: a source is compiled just when it spells a tree within the limits and its table has room
 pub compile-accepted : (source table : Bytes) (t : Syntax pattern) → length source ≤ source-limit → Spells t source → Limited t → length (encode t) ≤ length table
     → compileOf source table ≡ record { answer = result (length (encode t)) 0; bytes = over (encode t) table }
-unfolding compileOf compiled put put-if
+unfolding compileOf compiled
 compile-accepted source table t l h g r =
-    ap (λ o. compiled o source table) (accepted-exactly source t .1 (l, h, g)) ∙ ap (λ b. put-if b (length source) (encode t) table) (le-leb _ _ r)
+    ap (λ o. compiled o source table) (accepted-exactly source t .1 (l, h, g)) ∙ put-fits _ (encode t) table r
 
 put-zero : (b : Bool) (position : ℕ) (x lent : Bytes) → put-if b position x lent .answer .number ≡ 0 → T b
 unfolding put-if

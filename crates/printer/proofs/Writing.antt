@@ -15,8 +15,8 @@ use Rattle.pattern.specs.Syntax.{pattern, Syntax, size}
 use Rattle.pattern.specs.Print.{print}
 use Rattle.pattern.specs.Table.{encode}
 use Rattle.pattern.specs.Decode.{decode}
-use Rattle.pattern.specs.Answers.{refusal, result, Output, put, writeOf}
-use Rattle.pattern.proofs.Tests.{if-true, if-false}
+use Rattle.pattern.specs.Answers.{refusal, result, Output, written-back, writeOf}
+use Rattle.pattern.proofs.Calls.{put-fits, put-short}
 use Rattle.pattern.proofs.Accepted.{accepted-exactly}
 use Rattle.pattern.proofs.RoundTrip.{encode-length, good-exactly}
 use Rattle.table.specs.Walk.{tested}
@@ -57,13 +57,9 @@ bad-is table e = go (decode table) e
     go none e = refl
     go (some t) e = let z : _≡_ {A = ℕ} 0 1 = cc in absurd (omega arith)
 
--- what the call gives for each answer of the test
-abbrev given : Bytes → Option (Syntax pattern) → Output
-given source o = elim o [ none ↦ record { answer = refusal TABLE 0; bytes = source } | some t ↦ put 0 (print t) source ]
-
 pub table-written : (table source : Bytes) → verdict.Bad ≡ tested (decode table) → output-of written.Table source ≡ writeOf table source
-unfolding writeOf answer-of
-table-written table source e = sym (ap (given source) (bad-is table e))
+unfolding writeOf written-back answer-of
+table-written table source e = sym (ap (λ o. written-back o source) (bad-is table e))
 
 -- ---- a good table
 
@@ -94,8 +90,8 @@ module _ (table : Bytes) (x : Summary) (g : Tree table x) where
 
   module _ (source : Bytes) where
     pub room-written : length source < x .source → output-of written.Room source ≡ writeOf table source
-    unfolding writeOf put answer-of
-    room-written h = sym (ap (given source) (g .decodes) ∙ if-false _ _ _ (lt-leb (length (print (g .tree))) (length source) (omega (arith, h, g .source))))
+    unfolding writeOf written-back answer-of
+    room-written h = sym (ap (λ o. written-back o source) (g .decodes) ∙ put-short 0 (print (g .tree)) source (omega (arith, h, g .source)))
 
     pub room-start : x .source ≤ length source → Room pattern body (x .atoms) source 0 0
     room-start h = record { ends = 1; pool = 0; depth = 0; tree = g .tree; set = standing; room = omega (arith, h, g .source) }
@@ -108,10 +104,10 @@ module _ (table : Bytes) (x : Summary) (g : Tree table x) where
       kept-length = puts-length puts
 
       pub length-written : output-of (written.Length (x .source)) source′ ≡ writeOf table source
-      unfolding writeOf put answer-of
+      unfolding writeOf written-back answer-of
       length-written =
           let k : length (print (g .tree)) ≤ length source = omega (arith, h, g .source) in
           let e : source′ ≡ over (print (g .tree)) source = puts .bytes ∙ stored-over source (print (g .tree)) k in
           let q : output-of (written.Length (x .source)) source′ ≡ record { answer = result (length (print (g .tree))) 0; bytes = over (print (g .tree)) source } =
           λ j. record { answer = result (g .source j) 0; bytes = e j } in
-          q ∙ sym (ap (given source) (g .decodes) ∙ if-true _ _ _ (le-leb (length (print (g .tree))) (length source) k))
+          q ∙ sym (ap (λ o. written-back o source) (g .decodes) ∙ put-fits 0 (print (g .tree)) source k)

@@ -88,7 +88,7 @@ module _ (s : Bytes) (bytes : (k : ℕ) → getD s k 0 < 256) where
       subst (Whole s) (inside g4)
       (record {
         same = sym (open-table o ∙ ap (header A (header-of s .length)) all ∙ ap (λ k. header k (header-of s .length) (flat (records 1 u 0 0) (pool u))) (sym c2) ∙ ap (λ k. header (size u) k (flat (records 1 u 0 0) (pool u))) (sym m2));
-        limited = record { parts = st .good; atoms = omega (arith, c2, n2) };
+        limited = record { tree = st .good; atoms = omega (arith, c2, n2) };
         clean = st .clean;
       })
 
@@ -127,7 +127,7 @@ module _ (t : Syntax pattern) where
       let n : record-size * size t + 0 ≡ 0 + record-size * length (records 1 t 0 0) = omega (arith, count-records 1 t 0 0) in
       record {
         placed = record { left = pool t; over = []; recs = refl; text = next-there contents 0 _ (records 1 t 0 0) (pool t) n refl ∙ sym (append-nil (pool t)) };
-        good = g .parts;
+        good = g .tree;
         clean = c;
         within = omega arith;
         pooled = omega (arith, length-flat (records 1 t 0 0) (pool t), count-records 1 t 0 0);
@@ -152,12 +152,12 @@ module _ (s : Bytes) (bytes : (k : ℕ) → getD s k 0 < 256) where
       let (source, a, m) = good-exactly s u .0 e in
       let (n, h, g) = accepted-exactly source u .0 a in
       let (k, _, _) = accepted-exactly (print u) u .0 (print-accepted s u e) in
-      (ap read (sym m) ∙ read-encode u g (spells-clean u source h), g .parts, k)
+      (ap read (sym m) ∙ read-encode u g (spells-clean u source h), g .tree, k)
 
   -- what is read is the tree of the bytes, if its source is short enough
   short-decodes : (t : Syntax pattern) → Whole s t → length (print t) ≤ source-limit → decode s ≡ some t
   short-decodes t w n =
-      good-exactly s t .1 (print t, accepted-exactly (print t) t .1 (n, clean-spells 0 t (w .limited .parts) (w .clean), w .limited), w .same)
+      good-exactly s t .1 (print t, accepted-exactly (print t) t .1 (n, clean-spells 0 t (w .limited .tree) (w .clean), w .limited), w .same)
 
   nothing-decodes : (o : Option (Syntax pattern)) → decode s ≡ o → ((u : Syntax pattern) → decode s ≡ some u → ⊥) → o ≡ none
   nothing-decodes none e f = refl
