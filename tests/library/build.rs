@@ -1,4 +1,4 @@
-//! Links libmpt.a: the path is MPT_LIB, or the main build's own place.
+//! Links libmpt.a. Its path is MPT_LIB, absolute or seen from this folder, or the main build's place.
 
 use std::path::PathBuf;
 

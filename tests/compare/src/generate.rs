@@ -30,7 +30,7 @@ fn repeat(random: &mut Random) -> (u32, Option<u32>) {
         26..=29 => (0, Some(small)),
         30..=35 => (small, Some(small + random.below(4) as u32)),
         36 => (random.between(5, 400) as u32, None),
-        37 => (random.between(5, 400) as u32, Some(random.between(300, 9_999) as u32)),
+        37 => (random.between(5, 400) as u32, Some(random.between(400, 9_999) as u32)),
         38 => {
             let large = random.pick(&[255, 256, 300, 9_000, 9_998, 9_999]);
             (large, Some(large))
