@@ -2,26 +2,29 @@
 //!
 //! bench [--quick]
 
+mod clock;
 mod naive;
 mod plain;
 
 use std::hint::black_box;
-use std::time::{Duration, Instant};
 
 /// The median time of each call, in nanoseconds, over samples taken in turn.
-fn medians<const CALLS: usize>(samples: usize, mut calls: [&mut dyn FnMut(); CALLS]) -> [f64; CALLS] {
+fn medians<const CALLS: usize>(
+    samples: usize,
+    mut calls: [&mut dyn FnMut(); CALLS],
+) -> [f64; CALLS] {
     let mut repeats = [1; CALLS];
     for (call, repeat) in calls.iter_mut().zip(&mut repeats) {
-        let start = Instant::now();
+        let start = clock::nanoseconds();
         call();
-        *repeat = (20_000_000 / start.elapsed().as_nanos().max(1)).clamp(1, 1_000_000);
+        *repeat = (20_000_000 / (clock::nanoseconds() - start).max(1)).clamp(1, 1_000_000);
     }
     let mut times = [(); CALLS].map(|_| Vec::new());
     for _ in 0..samples {
         for at in 0..CALLS {
-            let start = Instant::now();
+            let start = clock::nanoseconds();
             (0..repeats[at]).for_each(|_| calls[at]());
-            times[at].push(start.elapsed().as_nanos() as f64 / repeats[at] as f64);
+            times[at].push((clock::nanoseconds() - start) as f64 / repeats[at] as f64);
         }
     }
     times.map(|mut times| {
@@ -85,11 +88,20 @@ fn sources() -> Vec<(&'static str, Vec<u8>)> {
 
 fn compiling(samples: usize) {
     println!("\n(a) compiling a source of 512 bytes and 64 atoms, ns a call");
-    println!("{:<12}{:>12}{:>12}{:>10}", "source", "library", "plain", "ratio");
+    println!(
+        "{:<12}{:>12}{:>12}{:>10}",
+        "source", "library", "plain", "ratio"
+    );
     for (name, source) in sources() {
         let (mut ours, mut theirs) = (vec![0; 1_200], vec![0; 1_200]);
-        assert_eq!(compile(&source, &mut theirs), plain::compile(&source, &mut ours));
-        assert!(ours == theirs && source.len() == 512 && ours[5] == 64, "{name}");
+        assert_eq!(
+            compile(&source, &mut theirs),
+            plain::compile(&source, &mut ours)
+        );
+        assert!(
+            ours == theirs && source.len() == 512 && ours[5] == 64,
+            "{name}"
+        );
         let [library, plain] = medians(
             samples,
             [
@@ -97,21 +109,33 @@ fn compiling(samples: usize) {
                 &mut || _ = black_box(plain::compile(black_box(&source), &mut ours)),
             ],
         );
-        println!("{name:<12}{library:>12.0}{plain:>12.0}{:>10.2}", library / plain);
+        println!(
+            "{name:<12}{library:>12.0}{plain:>12.0}{:>10.2}",
+            library / plain
+        );
     }
 }
 
 fn writing_back(samples: usize) {
     println!("\n(b) testing and writing back a table of 64 atoms, ns a call");
-    println!("{:<12}{:<12}{:>12}{:>12}{:>10}", "table", "call", "library", "plain", "ratio");
+    println!(
+        "{:<12}{:<12}{:>12}{:>12}{:>10}",
+        "table", "call", "library", "plain", "ratio"
+    );
     let long = [b'1'; 256];
     for (name, source) in sources() {
         let table = table_of(&source);
         let (mut ours, mut theirs) = ([0; 512], [0; 512]);
-        assert_eq!(write_back(&table, &mut theirs), plain::write_back(&table, &mut ours));
+        assert_eq!(
+            write_back(&table, &mut theirs),
+            plain::write_back(&table, &mut ours)
+        );
         assert!(ours == theirs && plain::good(&table), "{name}");
         // A label that is too long is refused right after the table is tested.
-        assert_eq!(match_label(&table, &long, &mut [], &mut [], 0), Err((12, 0)));
+        assert_eq!(
+            match_label(&table, &long, &mut [], &mut [], 0),
+            Err((12, 0))
+        );
         let tests = medians(
             samples,
             [
@@ -127,7 +151,10 @@ fn writing_back(samples: usize) {
             ],
         );
         for (call, [library, plain]) in [("test", tests), ("write back", writes)] {
-            println!("{name:<12}{call:<12}{library:>12.0}{plain:>12.0}{:>10.2}", library / plain);
+            println!(
+                "{name:<12}{call:<12}{library:>12.0}{plain:>12.0}{:>10.2}",
+                library / plain
+            );
         }
     }
 }
@@ -138,7 +165,11 @@ type Way = fn(&[u8], &[u8], &mut [u8], &mut [u8], u64) -> Result<plain::Verdict,
 /// The trials of a match and the median time of the library and each plain way, in nanoseconds.
 fn time_match(table: &[u8], label: &[u8], samples: usize) -> (u64, [f64; 3]) {
     let work = (2 * usize::from(table[5]) + 4) * (label.len() + 1) * (label.len() + 1);
-    let ways: [Way; 3] = [match_label, plain::match_label, plain::match_label_unchecked];
+    let ways: [Way; 3] = [
+        match_label,
+        plain::match_label,
+        plain::match_label_unchecked,
+    ];
     let mut scratch = vec![0; work];
     // Every way gives the same answer and parts.
     let [first, second, third] = ways.map(|way| {
@@ -149,9 +180,23 @@ fn time_match(table: &[u8], label: &[u8], samples: usize) -> (u64, [f64; 3]) {
     let (_, trials) = first.0.unwrap();
     let mut calls = ways.map(|way| {
         let (mut scratch, mut parts) = (vec![0; work], [0; 128]);
-        move || _ = black_box(way(table, black_box(label), &mut scratch, &mut parts, black_box(u64::MAX)))
+        move || {
+            _ = black_box(way(
+                table,
+                black_box(label),
+                &mut scratch,
+                &mut parts,
+                black_box(u64::MAX),
+            ))
+        }
     });
-    (trials, medians(samples, calls.each_mut().map(|call| call as &mut dyn FnMut())))
+    (
+        trials,
+        medians(
+            samples,
+            calls.each_mut().map(|call| call as &mut dyn FnMut()),
+        ),
+    )
 }
 
 fn matching(samples: usize, lens: &[usize]) {
@@ -162,10 +207,18 @@ fn matching(samples: usize, lens: &[usize]) {
     );
     let digits = |n: usize| (0..n).map(|at| b'0' + (at % 10) as u8).collect::<Vec<u8>>();
     let mixed = |n: usize| (0..n).map(|at| b"12ab3c"[at % 6]).collect::<Vec<u8>>();
-    let price = |n: usize| (0..n).map(|at| *b"123.45".get(at).unwrap_or(&b'U')).collect::<Vec<u8>>();
+    let price = |n: usize| {
+        (0..n)
+            .map(|at| *b"123.45".get(at).unwrap_or(&b'U'))
+            .collect::<Vec<u8>>()
+    };
     type Label<'l> = &'l dyn Fn(usize) -> Vec<u8>;
-    let rows: [(&str, Label); 4] =
-        [(".E", &digits), (".(.(.N,.A))", &mixed), ("3N1\".\"2N.U", &price), (".N.A.N1\"!\"", &digits)];
+    let rows: [(&str, Label); 4] = [
+        (".E", &digits),
+        (".(.(.N,.A))", &mixed),
+        ("3N1\".\"2N.U", &price),
+        (".N.A.N1\"!\"", &digits),
+    ];
     for (source, label) in rows {
         let table = table_of(source.as_bytes());
         for &n in lens {
@@ -183,13 +236,24 @@ fn matching(samples: usize, lens: &[usize]) {
 /// `.(.(.(.N,.A)))1"!"` for the backtracking matcher.
 fn group_of_groups() -> Vec<naive::Atom> {
     use naive::{Atom, Pattern};
-    let any = |body| Atom { low: 0, high: usize::MAX, body };
+    let any = |body| Atom {
+        low: 0,
+        high: usize::MAX,
+        body,
+    };
     let digit = any(Pattern::Code(|byte| byte.is_ascii_digit()));
     let letter = any(Pattern::Code(|byte| byte.is_ascii_alphabetic()));
     let inner = any(Pattern::Group(vec![vec![digit], vec![letter]]));
     let middle = any(Pattern::Group(vec![vec![inner]]));
     let outer = any(Pattern::Group(vec![vec![middle]]));
-    vec![outer, Atom { low: 1, high: 1, body: Pattern::Byte(b'!') }]
+    vec![
+        outer,
+        Atom {
+            low: 1,
+            high: 1,
+            body: Pattern::Byte(b'!'),
+        },
+    ]
 }
 
 fn groups_of_groups(samples: usize, step: usize) {
@@ -197,7 +261,16 @@ fn groups_of_groups(samples: usize, step: usize) {
     println!("\n(d) {source} on digits ended by -!, milliseconds a call");
     println!(
         "{:>5}{:>14}{:>14}{:>12}{:>12}{:>12}{:>8}{:>8}{:>14}{:>14}",
-        "n", "bound", "trials", "library", "plain", "unsafe", "ratio", "ratio", "backtracking", "its steps"
+        "n",
+        "bound",
+        "trials",
+        "library",
+        "plain",
+        "unsafe",
+        "ratio",
+        "ratio",
+        "backtracking",
+        "its steps"
     );
     let table = table_of(source.as_bytes());
     let pattern = group_of_groups();
@@ -215,12 +288,16 @@ fn groups_of_groups(samples: usize, step: usize) {
             println!("{:>14}{:>14}", "-", "-");
             continue;
         }
-        let start = Instant::now();
-        let mut search = naive::Search::new(&label, start + Duration::from_secs(10));
+        let start = clock::nanoseconds();
+        let mut search = naive::Search::new(&label, start + 10_000_000_000);
         assert!(!search.run(&pattern));
         stopped = search.stopped;
-        let time = start.elapsed().as_secs_f64() * 1e3;
-        let shown = if stopped { "over 10 s".to_string() } else { format!("{time:.3}") };
+        let time = (clock::nanoseconds() - start) as f64 / 1e6;
+        let shown = if stopped {
+            "over 10 s".to_string()
+        } else {
+            format!("{time:.3}")
+        };
         println!("{shown:>14}{:>14}", search.steps);
     }
 }

@@ -1,6 +1,6 @@
 //! A backtracking matcher of the usual kind, stopped at a deadline.
 
-use std::time::Instant;
+use crate::clock;
 
 pub enum Pattern {
     Code(fn(u8) -> bool),
@@ -17,7 +17,8 @@ pub struct Atom {
 
 pub struct Search<'a> {
     label: &'a [u8],
-    deadline: Instant,
+    /// On the clock of this thread.
+    deadline: u64,
     pub steps: u64,
     pub stopped: bool,
 }
@@ -25,8 +26,13 @@ pub struct Search<'a> {
 type Then<'t> = &'t mut dyn FnMut(&mut Search, usize) -> bool;
 
 impl<'a> Search<'a> {
-    pub fn new(label: &'a [u8], deadline: Instant) -> Self {
-        Search { label, deadline, steps: 0, stopped: false }
+    pub fn new(label: &'a [u8], deadline: u64) -> Self {
+        Search {
+            label,
+            deadline,
+            steps: 0,
+            stopped: false,
+        }
     }
 
     pub fn run(&mut self, pattern: &[Atom]) -> bool {
@@ -37,19 +43,25 @@ impl<'a> Search<'a> {
     fn branch(&mut self, atoms: &[Atom], at: usize, then: Then) -> bool {
         match atoms.split_first() {
             None => then(self, at),
-            Some((first, rest)) => self.atom(first, 0, at, &mut |search, end| search.branch(rest, end, then)),
+            Some((first, rest)) => self.atom(first, 0, at, &mut |search, end| {
+                search.branch(rest, end, then)
+            }),
         }
     }
 
     /// One more repeat first, then what follows; an empty repeat isn't tried.
     fn atom(&mut self, atom: &Atom, done: usize, at: usize, then: Then) -> bool {
         self.steps += 1;
-        if self.stopped || (self.steps % 65_536 == 0 && Instant::now() > self.deadline) {
+        if self.stopped
+            || (self.steps.is_multiple_of(65_536) && clock::nanoseconds() > self.deadline)
+        {
             self.stopped = true;
             return false;
         }
         let more = done < atom.high
-            && self.body(&atom.body, at, &mut |search, end| end > at && search.atom(atom, done + 1, end, then));
+            && self.body(&atom.body, at, &mut |search, end| {
+                end > at && search.atom(atom, done + 1, end, then)
+            });
         more || (done >= atom.low && then(self, at))
     }
 

@@ -86,7 +86,12 @@ pub fn compile(source: &[u8], table: &mut [u8]) -> Result<usize, Refusal> {
     if source.len() > 512 {
         return Err((1, 512));
     }
-    let mut builder = Builder { records: [[0; 10]; 64], atoms: 0, pool: [0; 512], pool_len: 0 };
+    let mut builder = Builder {
+        records: [[0; 10]; 64],
+        atoms: 0,
+        pool: [0; 512],
+        pool_len: 0,
+    };
     let mut open = [0; 8];
     let mut depth = 0;
     let mut at = 0;
@@ -150,7 +155,13 @@ pub fn compile(source: &[u8], table: &mut [u8]) -> Result<usize, Refusal> {
                     builder.pool[builder.pool_len] = byte(at);
                     builder.pool_len += 1;
                 }
-                builder.put(2, low, high, offset as u16, (builder.pool_len - offset) as u16);
+                builder.put(
+                    2,
+                    low,
+                    high,
+                    offset as u16,
+                    (builder.pool_len - offset) as u16,
+                );
             }
             b'(' => {
                 if depth == 8 {
@@ -227,7 +238,11 @@ impl Table<'_> {
     /// The index of the first atom after atom `r`.
     fn after(&self, r: usize) -> usize {
         let record = self.record(r);
-        if record.kind == 3 { record.b } else { r + 1 }
+        if record.kind == 3 {
+            record.b
+        } else {
+            r + 1
+        }
     }
 }
 
@@ -252,19 +267,30 @@ fn test(bytes: &[u8]) -> Option<(Table<'_>, usize)> {
     let (header, rest) = bytes.split_first_chunk::<8>()?;
     let atoms = usize::from(header[5]);
     let pool_len = usize::from(u16::from_le_bytes([header[6], header[7]]));
-    if header[..5] != *b"MPT\x01\x00" || atoms == 0 || atoms > 64 || rest.len() != 10 * atoms + pool_len {
+    if header[..5] != *b"MPT\x01\x00"
+        || atoms == 0
+        || atoms > 64
+        || rest.len() != 10 * atoms + pool_len
+    {
         return None;
     }
     let (records, pool) = rest.split_at(10 * atoms);
-    let table = Table { atoms, records: records.as_chunks().0, pool };
+    let table = Table {
+        atoms,
+        records: records.as_chunks().0,
+        pool,
+    };
     let mut open = [(0, 0); 8];
     let mut depth = 0;
     let mut pool_at = 0;
     let mut len = 0;
     for r in 0..atoms {
         let record = table.record(r);
-        let Record { low, high, a, b, .. } = record;
-        if table.records[r][1] > 1 || low > 9_999 || (high != OPEN && (high > 9_999 || high < low)) {
+        let Record {
+            low, high, a, b, ..
+        } = record;
+        if table.records[r][1] > 1 || low > 9_999 || (high != OPEN && (high > 9_999 || high < low))
+        {
             return None;
         }
         len += count_len(low, high);
@@ -349,7 +375,14 @@ pub fn write_back(bytes: &[u8], source: &mut [u8]) -> Result<usize, Refusal> {
     let mut open = [(0, false); 8];
     let mut depth = 0;
     for r in 0..table.atoms {
-        let Record { kind, last, low, high, a, b } = table.record(r);
+        let Record {
+            kind,
+            last,
+            low,
+            high,
+            a,
+            b,
+        } = table.record(r);
         if low == high {
             writer.number(low);
         } else {
@@ -362,7 +395,9 @@ pub fn write_back(bytes: &[u8], source: &mut [u8]) -> Result<usize, Refusal> {
             }
         }
         match kind {
-            1 => (0..7).filter(|bit| a >> bit & 1 == 1).for_each(|bit| writer.byte(b"ACELNPU"[bit])),
+            1 => (0..7)
+                .filter(|bit| a >> bit & 1 == 1)
+                .for_each(|bit| writer.byte(b"ACELNPU"[bit])),
             2 => {
                 writer.byte(b'"');
                 for &byte in &table.pool[a..a + b] {
@@ -404,8 +439,14 @@ pub type Verdict = (bool, u64);
 /// The trials of one question on all stretches: `left` holds i to m in row i, `right` holds
 /// m to j in row j. Each trial adds one; None when the budget has none left for the next.
 trait Trials {
-    fn join(left: &[u8], right: &[u8], w: usize, trials: u64, budget: u64, put: impl FnMut(usize, usize, u8))
-        -> Option<u64>;
+    fn join(
+        left: &[u8],
+        right: &[u8],
+        w: usize,
+        trials: u64,
+        budget: u64,
+        put: impl FnMut(usize, usize, u8),
+    ) -> Option<u64>;
 }
 
 pub struct Safe;
@@ -456,18 +497,22 @@ impl Trials for Unchecked {
         for i in 0..w {
             for j in i..w {
                 let mut found = 0;
-                let mut m = j + 1;
-                while m > i {
-                    m -= 1;
-                    if trials == budget {
-                        return None;
-                    }
-                    trials += 1;
-                    // Both indices are below w * w, since i, j and m are below w.
-                    let both = unsafe { left.get_unchecked(i * w + m) & right.get_unchecked(j * w + m) };
-                    if both != 0 {
-                        found = 1;
-                        break;
+                // The rows i and j lie in the planes, and m stays in both of them.
+                unsafe {
+                    let start = left.as_ptr().add(i * w + i);
+                    let mut first = left.as_ptr().add(i * w + j + 1);
+                    let mut second = right.as_ptr().add(j * w + j + 1);
+                    while first != start {
+                        if trials == budget {
+                            return None;
+                        }
+                        trials += 1;
+                        first = first.sub(1);
+                        second = second.sub(1);
+                        if *first & *second != 0 {
+                            found = 1;
+                            break;
+                        }
                     }
                 }
                 put(i, j, found);
@@ -540,7 +585,12 @@ fn match_with<T: Trials>(
 
 /// Fills two planes for each atom: "satisfies the atom" with row i and column j, and
 /// "the atom and its followers" with row j and column i. Gives the trials made.
-fn fill_planes<T: Trials>(table: &Table, label: &[u8], scratch: &mut [u8], budget: u64) -> Option<u64> {
+fn fill_planes<T: Trials>(
+    table: &Table,
+    label: &[u8],
+    scratch: &mut [u8],
+    budget: u64,
+) -> Option<u64> {
     let n = label.len();
     let w = n + 1;
     let size = w * w;
@@ -559,7 +609,8 @@ fn fill_planes<T: Trials>(table: &Table, label: &[u8], scratch: &mut [u8], budge
         match record.kind {
             1 => {
                 for (i, &byte) in label.iter().enumerate() {
-                    body[i * w + i + 1] = u8::from(CLASSES[usize::from(byte)] & record.a as u8 != 0);
+                    body[i * w + i + 1] =
+                        u8::from(CLASSES[usize::from(byte)] & record.a as u8 != 0);
                 }
             }
             2 => {
@@ -589,7 +640,11 @@ fn fill_planes<T: Trials>(table: &Table, label: &[u8], scratch: &mut [u8], budge
         }
 
         let low = usize::from(record.low);
-        let most = if record.high == OPEN { n } else { n.min(usize::from(record.high)) };
+        let most = if record.high == OPEN {
+            n
+        } else {
+            n.min(usize::from(record.high))
+        };
         // Past n bodies only empty ones can be added.
         let from = if low > n && body[0] != 0 { n } else { low };
         satisfies.fill(0);
@@ -615,7 +670,9 @@ fn fill_planes<T: Trials>(table: &Table, label: &[u8], scratch: &mut [u8], budge
             }
         } else {
             let followers = followed_by(table.after(r));
-            trials = T::join(satisfies, followers, w, trials, budget, |i, j, found| followed[j * w + i] = found)?;
+            trials = T::join(satisfies, followers, w, trials, budget, |i, j, found| {
+                followed[j * w + i] = found
+            })?;
         }
     }
     Some(trials)
@@ -635,7 +692,10 @@ fn put_parts(table: &Table, atoms: &[u8], w: usize, parts: &mut [u8]) {
             let satisfies = &atoms[2 * r * size + start * w..][..w];
             r = table.after(r);
             let followed = &atoms[(2 * r + 1) * size + n * w..][..w];
-            start = (start..=n).rev().find(|&m| satisfies[m] & followed[m] != 0).unwrap_or(start);
+            start = (start..=n)
+                .rev()
+                .find(|&m| satisfies[m] & followed[m] != 0)
+                .unwrap_or(start);
         }
         part.copy_from_slice(&(start as u16).to_le_bytes());
         if last {

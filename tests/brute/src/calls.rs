@@ -5,11 +5,19 @@ use std::slice::{from_raw_parts, from_raw_parts_mut};
 
 /// A lent input; null stands for no bytes.
 unsafe fn input<'a>(start: *const u8, len: usize) -> &'a [u8] {
-    if len == 0 { &[] } else { from_raw_parts(start, len) }
+    if len == 0 {
+        &[]
+    } else {
+        from_raw_parts(start, len)
+    }
 }
 
 unsafe fn output<'a>(start: *mut u8, len: usize) -> &'a mut [u8] {
-    if len == 0 { &mut [] } else { from_raw_parts_mut(start, len) }
+    if len == 0 {
+        &mut []
+    } else {
+        from_raw_parts_mut(start, len)
+    }
 }
 
 /// Writes the answer area and gives the refusal number.
@@ -47,7 +55,13 @@ pub unsafe extern "C" fn mpt_compile(
     }
     let source = input(source, source_len);
     let made = read(source).map(|pattern| to_table(&pattern));
-    let fits = made.and_then(|bytes| if bytes.len() > table_len { Err((8, source_len)) } else { Ok(bytes) });
+    let fits = made.and_then(|bytes| {
+        if bytes.len() > table_len {
+            Err((8, source_len))
+        } else {
+            Ok(bytes)
+        }
+    });
     give(fits, output(table, table_len), output(answer, answer_len))
 }
 
@@ -65,8 +79,16 @@ pub unsafe extern "C" fn mpt_write_back(
     if answer_len < 32 {
         return 9;
     }
-    let made = from_table(input(table, table_len)).ok_or((11, 0)).map(|pattern| to_source(&pattern));
-    let fits = made.and_then(|bytes| if bytes.len() > source_len { Err((8, 0)) } else { Ok(bytes) });
+    let made = from_table(input(table, table_len))
+        .ok_or((11, 0))
+        .map(|pattern| to_source(&pattern));
+    let fits = made.and_then(|bytes| {
+        if bytes.len() > source_len {
+            Err((8, 0))
+        } else {
+            Ok(bytes)
+        }
+    });
     give(fits, output(source, source_len), output(answer, answer_len))
 }
 
@@ -90,11 +112,14 @@ pub unsafe extern "C" fn mpt_match(
         return 9;
     }
     let area = output(area, area_len);
-    let Some(pattern) = from_table(input(table, table_len)) else { return answer(area, 11, [0; 3]) };
+    let Some(pattern) = from_table(input(table, table_len)) else {
+        return answer(area, 11, [0; 3]);
+    };
     if label_len > 255 {
         return answer(area, 12, [0; 3]);
     }
-    let work = (2 * pattern.iter().map(size).sum::<usize>() + 4) * (label_len + 1) * (label_len + 1);
+    let work =
+        (2 * pattern.iter().map(size).sum::<usize>() + 4) * (label_len + 1) * (label_len + 1);
     if scratch_len < work {
         return answer(area, 13, [0; 3]);
     }
@@ -107,7 +132,9 @@ pub unsafe extern "C" fn mpt_match(
     if !matcher.trials(&pattern, &mut trials, budget) {
         return answer(area, 15, [0, 0, budget]);
     }
-    let Some(ends) = matcher.parts(&pattern, 0) else { return answer(area, 0, [0, 0, trials]) };
+    let Some(ends) = matcher.parts(&pattern, 0) else {
+        return answer(area, 0, [0, 0, trials]);
+    };
     let parts = output(parts, parts_len);
     for (at, end) in ends.iter().enumerate() {
         parts[2 * at..2 * at + 2].copy_from_slice(&(*end as u16).to_le_bytes());

@@ -54,7 +54,9 @@ impl Reader<'_> {
         let start = self.at;
         let mut value: u128 = 0;
         while let Some(digit @ b'0'..=b'9') = self.peek() {
-            value = value.saturating_mul(10).saturating_add(u128::from(digit - b'0'));
+            value = value
+                .saturating_mul(10)
+                .saturating_add(u128::from(digit - b'0'));
             self.at += 1;
         }
         if value > 9_999 {
@@ -82,7 +84,11 @@ impl Reader<'_> {
             self.fault(5, start);
         }
         let body = self.body()?;
-        Some(Atom { low: low as u32, high: high.map(|high| high as u32), body })
+        Some(Atom {
+            low: low as u32,
+            high: high.map(|high| high as u32),
+            body,
+        })
     }
 
     fn body(&mut self) -> Option<Body> {
@@ -154,7 +160,13 @@ pub fn read(source: &[u8]) -> Result<Vec<Atom>, Refusal> {
     if source.len() > 512 {
         return Err((1, 512));
     }
-    let mut reader = Reader { source, at: 0, atoms: 0, depth: 0, faults: Vec::new() };
+    let mut reader = Reader {
+        source,
+        at: 0,
+        atoms: 0,
+        depth: 0,
+        faults: Vec::new(),
+    };
     let pattern = reader.pattern();
     if pattern.is_some() && reader.at < source.len() {
         reader.fault(2, reader.at);
@@ -225,7 +237,11 @@ pub fn to_table(pattern: &[Atom]) -> Vec<u8> {
 pub fn to_source(pattern: &[Atom]) -> Vec<u8> {
     let mut source = Vec::new();
     for atom in pattern {
-        let first = if atom.low == 0 { String::new() } else { atom.low.to_string() };
+        let first = if atom.low == 0 {
+            String::new()
+        } else {
+            atom.low.to_string()
+        };
         let count = match atom.high {
             Some(high) if high == atom.low => high.to_string(),
             Some(high) => format!("{first}.{high}"),
@@ -233,11 +249,17 @@ pub fn to_source(pattern: &[Atom]) -> Vec<u8> {
         };
         source.extend(count.bytes());
         match &atom.body {
-            Body::Codes(set) => {
-                source.extend("ACELNPU".bytes().enumerate().filter(|(bit, _)| set >> bit & 1 == 1).map(|(_, c)| c))
-            }
+            Body::Codes(set) => source.extend(
+                "ACELNPU"
+                    .bytes()
+                    .enumerate()
+                    .filter(|(bit, _)| set >> bit & 1 == 1)
+                    .map(|(_, c)| c),
+            ),
             Body::Literal(value) => {
-                let text = String::from_utf8(value.clone()).unwrap().replace('"', "\"\"");
+                let text = String::from_utf8(value.clone())
+                    .unwrap()
+                    .replace('"', "\"\"");
                 source.extend(format!("\"{text}\"").bytes());
             }
             Body::Group(branches) => {
@@ -261,7 +283,12 @@ pub fn from_table(table: &[u8]) -> Option<Vec<Atom>> {
     if !(1..=64).contains(&atoms) || table.len() != 8 + 10 * atoms + pool_len {
         return None;
     }
-    let mut reader = TableReader { table, atoms, at: 0, pool_at: 0 };
+    let mut reader = TableReader {
+        table,
+        atoms,
+        at: 0,
+        pool_at: 0,
+    };
     let pattern = reader.branch(0)?;
     let whole = reader.at == atoms && reader.pool_at == pool_len;
     (whole && to_source(&pattern).len() <= 512).then_some(pattern)
@@ -309,7 +336,9 @@ impl TableReader<'_> {
                 Body::Literal(value.to_vec())
             }
             3 if depth < 8 && a > 0 => {
-                let branches = (0..a).map(|_| self.branch(depth + 1)).collect::<Option<Vec<_>>>()?;
+                let branches = (0..a)
+                    .map(|_| self.branch(depth + 1))
+                    .collect::<Option<Vec<_>>>()?;
                 if b != self.at {
                     return None;
                 }
@@ -332,7 +361,10 @@ pub struct Matcher<'a> {
 
 impl<'a> Matcher<'a> {
     pub fn new(label: &'a [u8]) -> Self {
-        Matcher { label, ..Matcher::default() }
+        Matcher {
+            label,
+            ..Matcher::default()
+        }
     }
 
     fn body(&mut self, atom: &Atom, i: usize, j: usize) -> bool {
@@ -356,7 +388,9 @@ impl<'a> Matcher<'a> {
         if let Some(&known) = self.mades.get(&(atom as *const _, k, i, j)) {
             return known;
         }
-        let holds = (i..=j).rev().any(|m| self.body(atom, i, m) && self.made(atom, k - 1, m, j));
+        let holds = (i..=j)
+            .rev()
+            .any(|m| self.body(atom, i, m) && self.made(atom, k - 1, m, j));
         self.mades.insert((atom, k, i, j), holds);
         holds
     }
@@ -372,11 +406,15 @@ impl<'a> Matcher<'a> {
     }
 
     pub fn pattern(&mut self, pattern: &[Atom], i: usize, j: usize) -> bool {
-        let Some((first, rest)) = pattern.split_first() else { return i == j };
+        let Some((first, rest)) = pattern.split_first() else {
+            return i == j;
+        };
         if let Some(&known) = self.follows.get(&(first as *const _, i, j)) {
             return known;
         }
-        let holds = (i..=j).rev().any(|m| self.atom(first, i, m) && self.pattern(rest, m, j));
+        let holds = (i..=j)
+            .rev()
+            .any(|m| self.atom(first, i, m) && self.pattern(rest, m, j));
         self.follows.insert((first, i, j), holds);
         holds
     }
@@ -390,11 +428,15 @@ impl<'a> Matcher<'a> {
             for i in 0..=n {
                 for j in i..=n {
                     for k in 1..=most {
-                        let stop = (i..=j).rev().find(|&m| self.body(atom, i, m) && self.made(atom, k - 1, m, j));
+                        let stop = (i..=j)
+                            .rev()
+                            .find(|&m| self.body(atom, i, m) && self.made(atom, k - 1, m, j));
                         *trials += (j - stop.unwrap_or(i) + 1) as u64;
                     }
                     if !rest.is_empty() {
-                        let stop = (i..=j).rev().find(|&m| self.atom(atom, i, m) && self.pattern(rest, m, j));
+                        let stop = (i..=j)
+                            .rev()
+                            .find(|&m| self.atom(atom, i, m) && self.pattern(rest, m, j));
                         *trials += (j - stop.unwrap_or(i) + 1) as u64;
                     }
                     if *trials > budget {
@@ -403,7 +445,10 @@ impl<'a> Matcher<'a> {
                 }
             }
             if let Body::Group(branches) = &atom.body {
-                if !branches.iter().all(|branch| self.trials(branch, trials, budget)) {
+                if !branches
+                    .iter()
+                    .all(|branch| self.trials(branch, trials, budget))
+                {
                     return false;
                 }
             }
@@ -414,7 +459,9 @@ impl<'a> Matcher<'a> {
     /// The first partition in the order of longest first, by backtracking over ends.
     pub fn parts(&mut self, pattern: &[Atom], i: usize) -> Option<Vec<usize>> {
         let n = self.label.len();
-        let Some((first, rest)) = pattern.split_first() else { return (i == n).then(Vec::new) };
+        let Some((first, rest)) = pattern.split_first() else {
+            return (i == n).then(Vec::new);
+        };
         for m in (i..=n).rev() {
             if self.atom(first, i, m) && self.pattern(rest, m, n) {
                 let ends = self.parts(rest, m)?;

@@ -5,9 +5,21 @@ use std::fmt;
 
 #[derive(Clone, Debug, PartialEq)]
 pub enum Call {
-    Compile { source: Vec<u8>, table_len: usize },
-    WriteBack { table: Vec<u8>, source_len: usize },
-    Match { table: Vec<u8>, label: Vec<u8>, scratch_len: usize, parts_len: usize, budget: u64 },
+    Compile {
+        source: Vec<u8>,
+        table_len: usize,
+    },
+    WriteBack {
+        table: Vec<u8>,
+        source_len: usize,
+    },
+    Match {
+        table: Vec<u8>,
+        label: Vec<u8>,
+        scratch_len: usize,
+        parts_len: usize,
+        budget: u64,
+    },
 }
 
 /// A call with its answer area and the bytes that the outputs hold before it.
@@ -30,17 +42,32 @@ fn from_hex(text: &str) -> Option<Vec<u8>> {
         return Some(Vec::new());
     }
     let pairs = (0..text.len()).step_by(2);
-    pairs.map(|at| u8::from_str_radix(text.get(at..at + 2)?, 16).ok()).collect()
+    pairs
+        .map(|at| u8::from_str_radix(text.get(at..at + 2)?, 16).ok())
+        .collect()
 }
 
 impl fmt::Display for Case {
     fn fmt(&self, f: &mut fmt::Formatter) -> fmt::Result {
         match &self.call {
-            Call::Compile { source, table_len } => write!(f, "compile {} {table_len}", hex(source))?,
-            Call::WriteBack { table, source_len } => write!(f, "write_back {} {source_len}", hex(table))?,
-            Call::Match { table, label, scratch_len, parts_len, budget } => {
-                write!(f, "match {} {} {scratch_len} {parts_len} {budget}", hex(table), hex(label))?
+            Call::Compile { source, table_len } => {
+                write!(f, "compile {} {table_len}", hex(source))?
             }
+            Call::WriteBack { table, source_len } => {
+                write!(f, "write_back {} {source_len}", hex(table))?
+            }
+            Call::Match {
+                table,
+                label,
+                scratch_len,
+                parts_len,
+                budget,
+            } => write!(
+                f,
+                "match {} {} {scratch_len} {parts_len} {budget}",
+                hex(table),
+                hex(label)
+            )?,
         }
         write!(f, " {} {}", self.answer_len, self.dirt)
     }
@@ -51,22 +78,45 @@ impl Case {
     pub fn parse(line: &str) -> Option<Case> {
         let words: Vec<&str> = line.split_whitespace().collect();
         let (call, rest) = match words[..] {
-            ["compile", source, room, ref rest @ ..] => {
-                (Call::Compile { source: from_hex(source)?, table_len: room.parse().ok()? }, rest)
-            }
-            ["write_back", table, room, ref rest @ ..] => {
-                (Call::WriteBack { table: from_hex(table)?, source_len: room.parse().ok()? }, rest)
-            }
+            ["compile", source, room, ref rest @ ..] => (
+                Call::Compile {
+                    source: from_hex(source)?,
+                    table_len: room.parse().ok()?,
+                },
+                rest,
+            ),
+            ["write_back", table, room, ref rest @ ..] => (
+                Call::WriteBack {
+                    table: from_hex(table)?,
+                    source_len: room.parse().ok()?,
+                },
+                rest,
+            ),
             ["match", table, label, scratch, parts, budget, ref rest @ ..] => {
                 let (table, label) = (from_hex(table)?, from_hex(label)?);
                 let (scratch_len, parts_len) = (scratch.parse().ok()?, parts.parse().ok()?);
                 let budget = budget.parse().ok()?;
-                (Call::Match { table, label, scratch_len, parts_len, budget }, rest)
+                (
+                    Call::Match {
+                        table,
+                        label,
+                        scratch_len,
+                        parts_len,
+                        budget,
+                    },
+                    rest,
+                )
             }
             _ => return None,
         };
-        let [answer_len, dirt] = rest else { return None };
-        Some(Case { call, answer_len: answer_len.parse().ok()?, dirt: dirt.parse().ok()? })
+        let [answer_len, dirt] = rest else {
+            return None;
+        };
+        Some(Case {
+            call,
+            answer_len: answer_len.parse().ok()?,
+            dirt: dirt.parse().ok()?,
+        })
     }
 }
 
@@ -83,18 +133,41 @@ struct Expected {
 }
 
 fn expected_bytes(result: Result<Vec<u8>, second::Refusal>) -> Expected {
-    let none = Expected { number: 0, position: 0, result: 0, trials: 0, written: Vec::new(), clears: 0 };
+    let none = Expected {
+        number: 0,
+        position: 0,
+        result: 0,
+        trials: 0,
+        written: Vec::new(),
+        clears: 0,
+    };
     match result {
-        Ok(bytes) => Expected { result: bytes.len() as u64, written: bytes, ..none },
-        Err(refusal) => Expected { number: refusal.number, position: refusal.position, ..none },
+        Ok(bytes) => Expected {
+            result: bytes.len() as u64,
+            written: bytes,
+            ..none
+        },
+        Err(refusal) => Expected {
+            number: refusal.number,
+            position: refusal.position,
+            ..none
+        },
     }
 }
 
 fn expected(call: &Call) -> Expected {
     match call {
         Call::Compile { source, table_len } => expected_bytes(second::compile(source, *table_len)),
-        Call::WriteBack { table, source_len } => expected_bytes(second::write_back(table, *source_len)),
-        Call::Match { table, label, scratch_len, parts_len, budget } => {
+        Call::WriteBack { table, source_len } => {
+            expected_bytes(second::write_back(table, *source_len))
+        }
+        Call::Match {
+            table,
+            label,
+            scratch_len,
+            parts_len,
+            budget,
+        } => {
             let matched = second::match_label(table, label, *scratch_len, *parts_len, *budget);
             Expected {
                 number: matched.number,
@@ -113,7 +186,9 @@ fn dirty(dirt: u8, at: usize) -> u8 {
     match dirt {
         0 => 1,
         1 => 255,
-        _ => (at as u32).wrapping_mul(u32::from(dirt) * 2 + 0x9E37_79B1).rotate_left(9) as u8,
+        _ => (at as u32)
+            .wrapping_mul(u32::from(dirt) * 2 + 0x9E37_79B1)
+            .rotate_left(9) as u8,
     }
 }
 
@@ -126,11 +201,17 @@ struct Lent {
 impl Lent {
     fn input(bytes: &[u8], margin: usize) -> Self {
         let edge = vec![0xA5; margin];
-        Lent { all: [&edge, bytes, &edge].concat(), margin }
+        Lent {
+            all: [&edge, bytes, &edge].concat(),
+            margin,
+        }
     }
 
     fn output(len: usize, margin: usize, dirt: u8) -> Self {
-        Lent { all: (0..len + 2 * margin).map(|at| dirty(dirt, at)).collect(), margin }
+        Lent {
+            all: (0..len + 2 * margin).map(|at| dirty(dirt, at)).collect(),
+            margin,
+        }
     }
 
     fn bytes(&mut self) -> &mut [u8] {
@@ -146,7 +227,9 @@ impl Lent {
             let wanted = *start.get(place(at)).unwrap_or(&before[at]);
             if found != wanted {
                 let offset = at as isize - self.margin as isize;
-                return Err(format!("{name} byte {offset} is {found}, expected {wanted}"));
+                return Err(format!(
+                    "{name} byte {offset} is {found}, expected {wanted}"
+                ));
             }
         }
         Ok(())
@@ -154,21 +237,37 @@ impl Lent {
 }
 
 fn same<T: PartialEq + fmt::Display>(name: &str, found: T, wanted: T) -> Result<(), String> {
-    if found == wanted { Ok(()) } else { Err(format!("{name} is {found}, expected {wanted}")) }
+    if found == wanted {
+        Ok(())
+    } else {
+        Err(format!("{name} is {found}, expected {wanted}"))
+    }
 }
 
-/// Makes the call on both sides; gives the refusal number, or the first difference.
-pub fn compare(case: &Case, margin: usize) -> Result<u32, String> {
+/// Makes the call on both sides; gives the refusal number and the result, or the first difference.
+pub fn compare(case: &Case, margin: usize) -> Result<(u32, u64), String> {
     let dirt = case.dirt;
     let mut wanted = expected(&case.call);
     if case.answer_len < 32 {
-        wanted =
-            Expected { number: second::ANSWER, position: 0, result: 0, trials: 0, written: Vec::new(), clears: 0 };
+        wanted = Expected {
+            number: second::ANSWER,
+            position: 0,
+            result: 0,
+            trials: 0,
+            written: Vec::new(),
+            clears: 0,
+        };
     }
     let (first, second, output_len, scratch_len) = match &case.call {
         Call::Compile { source, table_len } => (&source[..], &[][..], *table_len, 0),
         Call::WriteBack { table, source_len } => (&table[..], &[][..], *source_len, 0),
-        Call::Match { table, label, scratch_len, parts_len, .. } => (&table[..], &label[..], *parts_len, *scratch_len),
+        Call::Match {
+            table,
+            label,
+            scratch_len,
+            parts_len,
+            ..
+        } => (&table[..], &label[..], *parts_len, *scratch_len),
     };
     let mut inputs = [Lent::input(first, margin), Lent::input(second, margin)];
     let mut output = Lent::output(output_len, margin, dirt);
@@ -181,10 +280,19 @@ pub fn compare(case: &Case, margin: usize) -> Result<u32, String> {
     let [first, second] = &mut inputs;
     let number = match &case.call {
         Call::Compile { .. } => library::compile(first.bytes(), output.bytes(), answer.bytes()),
-        Call::WriteBack { .. } => library::write_back(first.bytes(), output.bytes(), answer.bytes()),
+        Call::WriteBack { .. } => {
+            library::write_back(first.bytes(), output.bytes(), answer.bytes())
+        }
         Call::Match { budget, .. } => {
             let (scratch, parts) = (scratch.bytes(), output.bytes());
-            library::match_label(first.bytes(), second.bytes(), scratch, parts, *budget, answer.bytes())
+            library::match_label(
+                first.bytes(),
+                second.bytes(),
+                scratch,
+                parts,
+                *budget,
+                answer.bytes(),
+            )
         }
     };
 
@@ -192,17 +300,24 @@ pub fn compare(case: &Case, margin: usize) -> Result<u32, String> {
     if case.answer_len < 32 {
         answer.check("answer", &answer_before, &[])?;
     } else {
-        let field = |at: usize| u64::from_le_bytes(answer.all[margin + 8 * at..][..8].try_into().unwrap());
+        let field =
+            |at: usize| u64::from_le_bytes(answer.all[margin + 8 * at..][..8].try_into().unwrap());
         let values = [wanted.position as u64, wanted.result, wanted.trials, 0];
-        for (at, name) in ["position", "result", "trials", "fourth number"].iter().enumerate() {
+        for (at, name) in ["position", "result", "trials", "fourth number"]
+            .iter()
+            .enumerate()
+        {
             same(name, field(at), values[at])?;
         }
-        let area: Vec<u8> = values.iter().flat_map(|value| value.to_le_bytes()).collect();
+        let area: Vec<u8> = values
+            .iter()
+            .flat_map(|value| value.to_le_bytes())
+            .collect();
         answer.check("answer", &answer_before, &area)?;
     }
     output.check("output", &output_before, &wanted.written)?;
     scratch.check("scratch", &scratch_before, &vec![0; wanted.clears])?;
     inputs[0].check("first input", &inputs_before[0], &[])?;
     inputs[1].check("second input", &inputs_before[1], &[])?;
-    Ok(number)
+    Ok((number, wanted.result))
 }

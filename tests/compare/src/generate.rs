@@ -30,18 +30,23 @@ fn repeat(random: &mut Random) -> (u32, Option<u32>) {
         26..=29 => (0, Some(small)),
         30..=35 => (small, Some(small + random.below(4) as u32)),
         36 => (random.between(5, 400) as u32, None),
-        37 => (random.between(5, 400) as u32, Some(random.between(400, 9_999) as u32)),
+        37 => (
+            random.between(5, 400) as u32,
+            Some(random.between(400, 9_999) as u32),
+        ),
         38 => {
             let large = random.pick(&[255, 256, 300, 9_000, 9_998, 9_999]);
             (large, Some(large))
         }
-        _ => (0, Some(random.between(9, 9_999) as u32)),
+        _ => (0, Some(random.between(4, 9_999) as u32)),
     }
 }
 
 fn literal(random: &mut Random) -> Vec<u8> {
     let len = random.pick(&[0, 1, 1, 1, 1, 2, 2, 3, 5]);
-    (0..len).map(|_| random.pick(b"ab12-.!\"\"~ (,)N")).collect()
+    (0..len)
+        .map(|_| random.pick(b"ab12-.!\"\"~ (,)N"))
+        .collect()
 }
 
 /// A branch of about `atoms` atoms, groups at most `depth` deep.
@@ -58,7 +63,14 @@ fn branch(random: &mut Random, atoms: usize, depth: usize) -> Vec<Atom> {
                 let inside = random.between(1, left - 1);
                 let branches = random.between(1, inside.min(4));
                 let each = inside / branches;
-                ((Body::Group((0..branches).map(|_| branch(random, each, depth - 1)).collect())), 1 + each * branches)
+                (
+                    (Body::Group(
+                        (0..branches)
+                            .map(|_| branch(random, each, depth - 1))
+                            .collect(),
+                    )),
+                    1 + each * branches,
+                )
             }
         };
         pattern.push(Atom { low, high, body });
@@ -69,7 +81,11 @@ fn branch(random: &mut Random, atoms: usize, depth: usize) -> Vec<Atom> {
 
 fn codes(random: &mut Random) -> u16 {
     let one = 1 << random.below(7);
-    if random.once_in(4) { one | 1 << random.below(7) } else { one }
+    if random.once_in(4) {
+        one | 1 << random.below(7)
+    } else {
+        one
+    }
 }
 
 fn pattern(random: &mut Random) -> Vec<Atom> {
@@ -86,7 +102,11 @@ fn pattern(random: &mut Random) -> Vec<Atom> {
 // ---- sources ----
 
 fn number(random: &mut Random, value: u32) -> String {
-    let zeros = if random.once_in(12) { random.between(1, 5) } else { 0 };
+    let zeros = if random.once_in(12) {
+        random.between(1, 5)
+    } else {
+        0
+    };
     format!("{}{value}", "0".repeat(zeros))
 }
 
@@ -94,7 +114,11 @@ fn number(random: &mut Random, value: u32) -> String {
 fn print(random: &mut Random, pattern: &[Atom]) -> Vec<u8> {
     let mut source = Vec::new();
     for atom in pattern {
-        let low = if atom.low == 0 && !random.once_in(6) { String::new() } else { number(random, atom.low) };
+        let low = if atom.low == 0 && !random.once_in(6) {
+            String::new()
+        } else {
+            number(random, atom.low)
+        };
         let count = match atom.high {
             None => format!("{low}."),
             Some(high) if high == atom.low && !random.once_in(10) => number(random, high),
@@ -103,19 +127,30 @@ fn print(random: &mut Random, pattern: &[Atom]) -> Vec<u8> {
         source.extend(count.bytes());
         match &atom.body {
             Body::Codes(set) => {
-                let mut letters: Vec<u8> = (0..7).filter(|bit| set >> bit & 1 == 1).map(|bit| LETTERS[bit]).collect();
+                let mut letters: Vec<u8> = (0..7)
+                    .filter(|bit| set >> bit & 1 == 1)
+                    .map(|bit| LETTERS[bit])
+                    .collect();
                 if random.once_in(8) {
                     letters.reverse();
                     letters.extend(letters.clone());
                 }
                 for letter in letters {
-                    source.push(if random.once_in(4) { letter.to_ascii_lowercase() } else { letter });
+                    source.push(if random.once_in(4) {
+                        letter.to_ascii_lowercase()
+                    } else {
+                        letter
+                    });
                 }
             }
             Body::Literal(value) => {
                 source.push(b'"');
                 for &byte in value {
-                    source.extend(if byte == b'"' { &b"\"\""[..] } else { std::slice::from_ref(&byte) });
+                    source.extend(if byte == b'"' {
+                        &b"\"\""[..]
+                    } else {
+                        std::slice::from_ref(&byte)
+                    });
                 }
                 source.push(b'"');
             }
@@ -134,7 +169,11 @@ fn print(random: &mut Random, pattern: &[Atom]) -> Vec<u8> {
 /// Changes a few bytes: replaced, inserted, removed, copied or cut off.
 fn mutate(random: &mut Random, bytes: &mut Vec<u8>, alphabet: &[u8]) {
     for _ in 0..random.between(1, 3) {
-        let byte = if random.once_in(8) { random.next() as u8 } else { random.pick(alphabet) };
+        let byte = if random.once_in(8) {
+            random.next() as u8
+        } else {
+            random.pick(alphabet)
+        };
         let at = random.below(bytes.len() + 1);
         match random.below(8) {
             0..=2 if at < bytes.len() => bytes[at] = byte,
@@ -153,19 +192,47 @@ fn mutate(random: &mut Random, bytes: &mut Vec<u8>, alphabet: &[u8]) {
 fn random_bytes(random: &mut Random, alphabet: &[u8]) -> Vec<u8> {
     let most = random.pick(&[4, 8, 16, 64, 600]);
     let len = random.between(0, most);
-    (0..len).map(|_| if alphabet.is_empty() { random.next() as u8 } else { random.pick(alphabet) }).collect()
+    (0..len)
+        .map(|_| {
+            if alphabet.is_empty() {
+                random.next() as u8
+            } else {
+                random.pick(alphabet)
+            }
+        })
+        .collect()
 }
 
 /// Atoms with a fault each, or whole, one after the other.
 fn fault_list(random: &mut Random) -> Vec<u8> {
     let whole: [&[u8]; 6] = [b"1N", b".A", b"2.3\"a\"", b"0U", b"1(1N,1A)", b"00001n"];
     let faults: [&[u8]; 18] = [
-        b"5.3N", b"10000N", b"1Q", b"2.1z", b"10000.3N", b"3.10000N", b".10000N", b"20000.10000N", b"1(", b")", b",",
-        b"1..N", b"\"", b"1\"\x7f\"", b"1\"\"\"", b"1()", b"09999.9998E", b"00010000N",
+        b"5.3N",
+        b"10000N",
+        b"1Q",
+        b"2.1z",
+        b"10000.3N",
+        b"3.10000N",
+        b".10000N",
+        b"20000.10000N",
+        b"1(",
+        b")",
+        b",",
+        b"1..N",
+        b"\"",
+        b"1\"\x7f\"",
+        b"1\"\"\"",
+        b"1()",
+        b"09999.9998E",
+        b"00010000N",
     ];
     let mut source = Vec::new();
     for _ in 0..random.between(1, 12) {
-        source.extend(if random.once_in(4) { random.pick(&faults) } else { random.pick(&whole) });
+        source.extend(if random.once_in(4) {
+            random.pick(&faults)
+        } else {
+            random.pick(&whole)
+        });
     }
     source
 }
@@ -181,7 +248,11 @@ fn at_limit(random: &mut Random) -> Vec<u8> {
             let mut source = b"1N".repeat(plain);
             source.extend(b"1(");
             for at in 0..grouped.max(1) {
-                source.extend(if at == 0 || random.once_in(2) { &b"1N"[..] } else { &b",1N"[..] });
+                source.extend(if at == 0 || random.once_in(2) {
+                    &b"1N"[..]
+                } else {
+                    &b",1N"[..]
+                });
             }
             source.extend(b")");
             source.extend(random.pick(&tails));
@@ -200,13 +271,22 @@ fn at_limit(random: &mut Random) -> Vec<u8> {
         }
         // 510 to 514 bytes, filled up with zeros, letters or a literal.
         2 => {
-            let start = if random.once_in(4) { fault_list(random) } else { b"2(1N,.A)".to_vec() };
+            let start = if random.once_in(4) {
+                fault_list(random)
+            } else {
+                b"2(1N,.A)".to_vec()
+            };
             let fill = random.between(510, 514) - (start.len() + 4).min(510);
             let end = match random.below(4) {
                 0 => [b"0".repeat(fill + 2), b"1N".to_vec()].concat(),
                 1 => [b"1.".to_vec(), b"N".repeat(fill + 2)].concat(),
                 2 => [b"1\"".to_vec(), b"x".repeat(fill + 1), b"\"".to_vec()].concat(),
-                _ => [b"1\"".to_vec(), b"\"\"".repeat(fill / 2 + 1), b"\"".to_vec()].concat(),
+                _ => [
+                    b"1\"".to_vec(),
+                    b"\"\"".repeat(fill / 2 + 1),
+                    b"\"".to_vec(),
+                ]
+                .concat(),
             };
             [start, end].concat()
         }
@@ -215,8 +295,14 @@ fn at_limit(random: &mut Random) -> Vec<u8> {
             let mut text = || match random.below(4) {
                 0 => String::new(),
                 1 => format!("{}", random.between(9_997, 10_002)),
-                2 => format!("{}{}", "0".repeat(random.below(30)), random.between(0, 12_000)),
-                _ => (0..random.between(1, 40)).map(|_| random.pick(&['0', '1', '9'])).collect(),
+                2 => format!(
+                    "{}{}",
+                    "0".repeat(random.below(30)),
+                    random.between(0, 12_000)
+                ),
+                _ => (0..random.between(1, 40))
+                    .map(|_| random.pick(&['0', '1', '9']))
+                    .collect(),
             };
             format!("1A{}.{}N{}U", text(), text(), text()).into_bytes()
         }
@@ -270,7 +356,9 @@ fn put_records(branch: &[Atom], records: &mut Vec<u8>, pool: &mut Vec<u8>) {
                 records[start] = 3;
                 put(records, branches.len());
                 put(records, 0);
-                branches.iter().for_each(|branch| put_records(branch, records, pool));
+                branches
+                    .iter()
+                    .for_each(|branch| put_records(branch, records, pool));
                 let next = (records.len() / 10) as u16;
                 records[start + 8..start + 10].copy_from_slice(&next.to_le_bytes());
             }
@@ -293,15 +381,29 @@ fn table_past_limits(random: &mut Random) -> Vec<u8> {
         0 => branch(random, 70, 3),
         1 => {
             let depth = random.between(7, 10);
-            let innermost = vec![Atom { low: 1, high: Some(1), body: Body::Codes(16) }];
-            let wrap = |inner, _| vec![Atom { low: 1, high: None, body: Body::Group(vec![inner]) }];
+            let innermost = vec![Atom {
+                low: 1,
+                high: Some(1),
+                body: Body::Codes(16),
+            }];
+            let wrap = |inner, _| {
+                vec![Atom {
+                    low: 1,
+                    high: None,
+                    body: Body::Group(vec![inner]),
+                }]
+            };
             (0..depth).fold(innermost, wrap)
         }
         _ => {
             // Literals whose source comes near 512 bytes: 2n + 3 for n quotes and an exact count.
             let first = random.between(60, 190);
             let second = 253 - first + random.below(3);
-            let quotes = |len| Atom { low: 1, high: Some(1), body: Body::Literal(vec![b'"'; len]) };
+            let quotes = |len| Atom {
+                low: 1,
+                high: Some(1),
+                body: Body::Literal(vec![b'"'; len]),
+            };
             vec![quotes(first), quotes(second)]
         }
     };
@@ -313,7 +415,13 @@ fn table_past_limits(random: &mut Random) -> Vec<u8> {
             2 => (tree[at].low, tree[at].high) = (3, Some(2)),
             3 => tree[at].body = Body::Codes(random.pick(&[0, 127, 128, 255, 256])),
             4 => tree[at].body = Body::Literal(vec![random.pick(&[31, 32, 126, 127, 200])]),
-            _ => tree[at].body = Body::Group(if random.once_in(2) { vec![] } else { vec![vec![]] }),
+            _ => {
+                tree[at].body = Body::Group(if random.once_in(2) {
+                    vec![]
+                } else {
+                    vec![vec![]]
+                })
+            }
         }
     }
     table_of(&tree)
@@ -344,7 +452,8 @@ fn damage(random: &mut Random, table: &mut Vec<u8>) {
             }
             7 => {
                 let at = record + random.pick(&[2, 4, 6, 8]);
-                let value = random.pick(&[0u16, 1, 127, 128, 255, 256, 9_999, 10_000, 65_534, 65_535]);
+                let value =
+                    random.pick(&[0u16, 1, 127, 128, 255, 256, 9_999, 10_000, 65_534, 65_535]);
                 table[at..at + 2].copy_from_slice(&value.to_le_bytes());
             }
             8 => table[random.between(0, 7)] = random.next() as u8,
@@ -370,7 +479,11 @@ fn damage(random: &mut Random, table: &mut Vec<u8>) {
                     table.pop();
                 }
                 if random.once_in(2) {
-                    table[6] = if more { table[6].wrapping_add(1) } else { table[6].wrapping_sub(1) };
+                    table[6] = if more {
+                        table[6].wrapping_add(1)
+                    } else {
+                        table[6].wrapping_sub(1)
+                    };
                 }
             }
         }
@@ -392,7 +505,11 @@ fn table(random: &mut Random) -> Vec<u8> {
             }
             table
         }
-        18 => [b"MPT\x01\x00".to_vec(), random_bytes(random, b"\x00\x01\x02\x03")].concat(),
+        18 => [
+            b"MPT\x01\x00".to_vec(),
+            random_bytes(random, b"\x00\x01\x02\x03"),
+        ]
+        .concat(),
         _ => random_bytes(random, b""),
     }
 }
@@ -401,8 +518,15 @@ fn table(random: &mut Random) -> Vec<u8> {
 
 fn byte_of(random: &mut Random, set: u16) -> u8 {
     let bits: Vec<usize> = (0..7).filter(|bit| set >> bit & 1 == 1).collect();
-    let bytes: [&[u8]; 7] =
-        [b"aZqXbA", b"\x00\x1f\x7f\x0a", b"\x00a1-Z\x7f", b"abz", b"0123459", b" ./:@[`{~-!\"", b"ABZ"];
+    let bytes: [&[u8]; 7] = [
+        b"aZqXbA",
+        b"\x00\x1f\x7f\x0a",
+        b"\x00a1-Z\x7f",
+        b"abz",
+        b"0123459",
+        b" ./:@[`{~-!\"",
+        b"ABZ",
+    ];
     let bit = random.pick(&bits);
     random.pick(bytes[bit])
 }
@@ -449,7 +573,11 @@ fn cheap_pattern(random: &mut Random) -> Vec<Atom> {
     let mut tree = match random.below(3) {
         0 => branch(random, 2, 1),
         1 => branch(random, 3, 0),
-        _ => vec![Atom { low: 1, high: Some(2), body: Body::Group(vec![branch(random, 1, 0)]) }],
+        _ => vec![Atom {
+            low: 1,
+            high: Some(2),
+            body: Body::Group(vec![branch(random, 1, 0)]),
+        }],
     };
     fn lower(branch: &mut [Atom], random: &mut Random) {
         for atom in branch {
@@ -468,10 +596,18 @@ fn cheap_pattern(random: &mut Random) -> Vec<Atom> {
 fn long_match(random: &mut Random) -> (Vec<Atom>, Vec<u8>) {
     let len = random.between(40, 255);
     let cut = random.between(0, len);
-    let part = |len: usize| Atom { low: 1, high: Some(1), body: Body::Literal(vec![b'x'; len]) };
+    let part = |len: usize| Atom {
+        low: 1,
+        high: Some(1),
+        body: Body::Literal(vec![b'x'; len]),
+    };
     let mut tree = vec![part(cut), part(len - cut)];
     if random.once_in(2) {
-        tree.push(Atom { low: 0, high: Some(2), body: Body::Group(vec![vec![part(cut)], vec![part(1)]]) });
+        tree.push(Atom {
+            low: 0,
+            high: Some(2),
+            body: Body::Group(vec![vec![part(cut)], vec![part(1)]]),
+        });
     }
     (tree, vec![b'x'; random.between(len, 256)])
 }
@@ -491,14 +627,22 @@ fn about(random: &mut Random, needed: usize) -> usize {
 
 fn compile_call(random: &mut Random) -> Call {
     let source = source(random);
-    let needed = second::compile(&source, usize::MAX).map_or(random.below(1_200), |table| table.len());
-    Call::Compile { source, table_len: about(random, needed) }
+    let needed =
+        second::compile(&source, usize::MAX).map_or(random.below(1_200), |table| table.len());
+    Call::Compile {
+        source,
+        table_len: about(random, needed),
+    }
 }
 
 fn write_back_call(random: &mut Random) -> Call {
     let table = table(random);
-    let needed = second::write_back(&table, usize::MAX).map_or(random.below(600), |source| source.len());
-    Call::WriteBack { table, source_len: about(random, needed) }
+    let needed =
+        second::write_back(&table, usize::MAX).map_or(random.below(600), |source| source.len());
+    Call::WriteBack {
+        table,
+        source_len: about(random, needed),
+    }
 }
 
 fn match_call(random: &mut Random, dearest: u64) -> Call {
@@ -541,8 +685,16 @@ fn match_call(random: &mut Random, dearest: u64) -> Call {
     }
     let n = label.len().min(255);
     let work = (2 * atoms.len() + 4) * (n + 1) * (n + 1);
-    let mut scratch_len = if random.once_in(3) { about(random, work) } else { work };
-    let parts_len = if random.once_in(3) { about(random, 2 * tree.len()) } else { 2 * tree.len() };
+    let mut scratch_len = if random.once_in(3) {
+        about(random, work)
+    } else {
+        work
+    };
+    let parts_len = if random.once_in(3) {
+        about(random, 2 * tree.len())
+    } else {
+        2 * tree.len()
+    };
     if long && atoms.len() > 4 {
         scratch_len = scratch_len.min(work - 1).min(10_000);
     }
@@ -560,7 +712,13 @@ fn match_call(random: &mut Random, dearest: u64) -> Call {
             _ => random.pick(&[0, 1, 10_000_000]),
         }
     };
-    Call::Match { table, label, scratch_len, parts_len, budget }
+    Call::Match {
+        table,
+        label,
+        scratch_len,
+        parts_len,
+        budget,
+    }
 }
 
 /// One case of everything; no match of more than `dearest` trials.
@@ -570,14 +728,169 @@ pub fn case(random: &mut Random, dearest: u64) -> Case {
         4..=5 => write_back_call(random),
         _ => match_call(random, dearest),
     };
-    let answer_len = if random.once_in(10) { random.between(0, 40) } else { 32 };
-    Case { call, answer_len, dirt: random.next() as u8 % 16 }
+    let answer_len = if random.once_in(10) {
+        random.between(0, 40)
+    } else {
+        32
+    };
+    Case {
+        call,
+        answer_len,
+        dirt: random.next() as u8 % 16,
+    }
 }
 
 // ---- fixed lists ----
 
+/// Every byte as a code, in a literal and as a label against every code.
+fn each_byte() -> Vec<Call> {
+    let mut calls = Vec::new();
+    for byte in 0..=255 {
+        for source in [
+            vec![b'1', byte],
+            vec![b'1', b'"', byte, b'"'],
+            vec![byte, b'N'],
+            vec![b'1', b'N', byte],
+        ] {
+            calls.push(Call::Compile {
+                source,
+                table_len: 19,
+            });
+        }
+        for letter in LETTERS {
+            let table = second::compile(&[b'1', *letter], 18).unwrap();
+            calls.push(Call::Match {
+                table,
+                label: vec![byte],
+                scratch_len: 24,
+                parts_len: 2,
+                budget: 4,
+            });
+        }
+    }
+    calls
+}
+
+/// Repeat numbers about each change of their length, as sources and in tables.
+fn each_count() -> Vec<Call> {
+    let numbers = [
+        0, 1, 2, 7, 9, 10, 11, 99, 100, 101, 255, 256, 999, 1_000, 9_998, 9_999, 10_000, 65_534,
+        65_535,
+    ];
+    let mut calls = Vec::new();
+    for low in numbers {
+        for source in [
+            format!("{low}N"),
+            format!("{low}.N"),
+            format!(".{low}N"),
+            format!("000{low}N"),
+        ] {
+            calls.push(Call::Compile {
+                source: source.into_bytes(),
+                table_len: 18,
+            });
+        }
+        for high in numbers {
+            calls.push(Call::Compile {
+                source: format!("{low}.{high}N").into_bytes(),
+                table_len: 18,
+            });
+            let table = table_of(&[Atom {
+                low,
+                high: Some(high),
+                body: Body::Codes(16),
+            }]);
+            calls.push(Call::WriteBack {
+                table,
+                source_len: 10,
+            });
+        }
+    }
+    calls
+}
+
+/// The examples of the papers and what is made of every byte, count, short source and changed table.
+pub fn fixed(longest: usize) -> Vec<Case> {
+    let short = short_sources(longest)
+        .into_iter()
+        .map(|source| Call::Compile {
+            source,
+            table_len: 60,
+        });
+    let changed = changed_tables().into_iter().flat_map(|table| {
+        let label = b"a\"5bc".to_vec();
+        let matched = Call::Match {
+            table: table.clone(),
+            label,
+            scratch_len: 720,
+            parts_len: 6,
+            budget: 9_999,
+        };
+        [
+            Call::WriteBack {
+                table,
+                source_len: 60,
+            },
+            matched,
+        ]
+    });
+    let calls = examples()
+        .into_iter()
+        .chain(each_byte())
+        .chain(each_count())
+        .chain(short)
+        .chain(changed);
+    calls
+        .map(|call| Case {
+            call,
+            answer_len: 32,
+            dirt: 1,
+        })
+        .collect()
+}
+
+/// The matches that the papers name, under an ample budget and under each one up to 4.
+fn examples() -> Vec<Call> {
+    let pairs: [(&[u8], &[u8]); 20] = [
+        (b"3N1\".\"2N.U", b"123.45"),
+        (b"3N1\".\"2N.U", b"123.45a"),
+        (b"1.6N1.2N", b"1234567"),
+        (b".N.N", b"12"),
+        (b"2(1N,1A)", b"a1"),
+        (b"9000(.N)", b"12"),
+        (b"300\"\"", b""),
+        (b"300N", b"12"),
+        (b"1N", b"7"),
+        (b"1N", b"x"),
+        (b"1N1A", b""),
+        (b"0N", b""),
+        (b"1E", b"\xc8"),
+        (b"1\"a\"\"b\"", b"a\"b"),
+        (b".N1N", b"12"),
+        (b".5N", b"123456"),
+        (b".(.N,1A)", b"a"),
+        (b".(.N)", b"12"),
+        (b"2N1(3P2A,2P3A).E", b"12!!abc"),
+        (b"2N1\"-\"1(3N1\"-\"1N,1N1\":\"4N)", b"12-3:4567"),
+    ];
+    let mut calls = Vec::new();
+    for (source, label) in pairs {
+        for budget in [0, 1, 2, 3, 4, u64::MAX] {
+            let table = second::compile(source, 999).unwrap();
+            calls.push(Call::Match {
+                table,
+                label: label.to_vec(),
+                scratch_len: 4_000,
+                parts_len: 20,
+                budget,
+            });
+        }
+    }
+    calls
+}
+
 /// Every source of at most `most` bytes over a small alphabet.
-pub fn short_sources(most: usize) -> Vec<Vec<u8>> {
+fn short_sources(most: usize) -> Vec<Vec<u8>> {
     let alphabet = b"05.Nq\"(,)\x1f";
     let mut all = vec![Vec::new()];
     let mut from = 0;
@@ -595,8 +908,9 @@ pub fn short_sources(most: usize) -> Vec<Vec<u8>> {
 }
 
 /// A table with one byte changed to each other value, at each place; every cut; a byte more.
-pub fn changed_tables() -> Vec<Vec<u8>> {
-    let table = second::compile(b"2.(1\"a\"\"\",3.5AN.(.E,1\"\"))1\"bc\".9999L", usize::MAX).unwrap();
+fn changed_tables() -> Vec<Vec<u8>> {
+    let table =
+        second::compile(b"2.(1\"a\"\"\",3.5AN.(.E,1\"\"))1\"bc\".9999L", usize::MAX).unwrap();
     let mut all = Vec::new();
     for at in 0..table.len() {
         for byte in 0..=255 {

@@ -26,8 +26,14 @@ struct Options {
 }
 
 fn options() -> Options {
-    let mut options =
-        Options { count: 1_000_000, seed: 1, dearest: 40_000_000, margin: 64, short: 5, lines: false };
+    let mut options = Options {
+        count: 1_000_000,
+        seed: 1,
+        dearest: 40_000_000,
+        margin: 64,
+        short: 5,
+        lines: false,
+    };
     let mut words = std::env::args().skip(1);
     while let Some(word) = words.next() {
         let mut number = || -> u64 {
@@ -41,7 +47,11 @@ fn options() -> Options {
             "--margin" => options.margin = number() as usize,
             "--lines" => options.lines = true,
             "--replay" => replay(&words.collect::<Vec<_>>().join(" ")),
-            _ => options.count = word.parse().unwrap_or_else(|_| fail(&format!("{word} isn't known"))),
+            _ => {
+                options.count = word
+                    .parse()
+                    .unwrap_or_else(|_| fail(&format!("{word} isn't known")))
+            }
         }
     }
     options
@@ -55,7 +65,7 @@ fn fail(message: &str) -> ! {
 fn replay(line: &str) -> ! {
     let case = Case::parse(line).unwrap_or_else(|| fail("not a line of a call"));
     match compare(&case, 64) {
-        Ok(number) => println!("same, number {number}"),
+        Ok((number, result)) => println!("same: number {number}, result {result}"),
         Err(difference) => {
             println!("{difference}");
             exit(1)
@@ -64,7 +74,7 @@ fn replay(line: &str) -> ! {
     exit(0)
 }
 
-/// How often each kind of call gave each number.
+/// How often each kind of call gave each number; a match without refusal counts by its verdict.
 #[derive(Default)]
 struct Tally(BTreeMap<(&'static str, u32), u64>);
 
@@ -74,11 +84,13 @@ impl Tally {
             println!("{case}");
         }
         match compare(case, options.margin) {
-            Ok(number) => {
+            Ok((number, result)) => {
                 let kind = match case.call {
                     Call::Compile { .. } => "compile",
-                    Call::WriteBack { .. } => "write_back",
-                    Call::Match { .. } => "match",
+                    Call::WriteBack { .. } => "write back",
+                    Call::Match { .. } if number > 0 => "match refused",
+                    Call::Match { .. } if result == 1 => "match yes",
+                    Call::Match { .. } => "match no",
                 };
                 *self.0.entry((kind, number)).or_default() += 1;
             }
@@ -90,9 +102,17 @@ impl Tally {
     }
 
     fn print(&self) {
-        for kind in ["compile", "write_back", "match"] {
+        for kind in [
+            "compile",
+            "write back",
+            "match yes",
+            "match no",
+            "match refused",
+        ] {
             let counts = self.0.iter().filter(|((of, _), _)| *of == kind);
-            let text: Vec<String> = counts.map(|((_, number), count)| format!("{number}: {count}")).collect();
+            let text: Vec<String> = counts
+                .map(|((_, number), count)| format!("{number}: {count}"))
+                .collect();
             println!("{kind}: {}", text.join(", "));
         }
         println!("{} calls, no difference", self.0.values().sum::<u64>());
@@ -102,15 +122,8 @@ impl Tally {
 fn main() {
     let options = options();
     let mut tally = Tally::default();
-    let whole = |call| Case { call, answer_len: 32, dirt: 1 };
-
-    for source in generate::short_sources(options.short) {
-        tally.make(&whole(Call::Compile { source, table_len: 60 }), &options);
-    }
-    for table in generate::changed_tables() {
-        tally.make(&whole(Call::WriteBack { table: table.clone(), source_len: 60 }), &options);
-        let call = Call::Match { table, label: b"a\"5bc".to_vec(), scratch_len: 720, parts_len: 6, budget: 9_999 };
-        tally.make(&whole(call), &options);
+    for case in generate::fixed(options.short) {
+        tally.make(&case, &options);
     }
     for index in 0..options.count {
         let mut random = Random::new(options.seed << 40 ^ index << 2);

@@ -34,18 +34,33 @@ extern "C" {
 
 /// An empty slice is lent as null, as C callers do.
 fn start(bytes: &[u8]) -> *const u8 {
-    if bytes.is_empty() { std::ptr::null() } else { bytes.as_ptr() }
+    if bytes.is_empty() {
+        std::ptr::null()
+    } else {
+        bytes.as_ptr()
+    }
 }
 
 fn start_mut(bytes: &mut [u8]) -> *mut u8 {
-    if bytes.is_empty() { std::ptr::null_mut() } else { bytes.as_mut_ptr() }
+    if bytes.is_empty() {
+        std::ptr::null_mut()
+    } else {
+        bytes.as_mut_ptr()
+    }
 }
 
 /// Compiles through C; gives the refusal number.
 pub fn compile(source: &[u8], table: &mut [u8], answer: &mut [u8]) -> u32 {
     let (table_len, answer_len) = (table.len(), answer.len());
     unsafe {
-        mpt_compile(start(source), source.len(), start_mut(table), table_len, start_mut(answer), answer_len)
+        mpt_compile(
+            start(source),
+            source.len(),
+            start_mut(table),
+            table_len,
+            start_mut(answer),
+            answer_len,
+        )
     }
 }
 
@@ -53,7 +68,14 @@ pub fn compile(source: &[u8], table: &mut [u8], answer: &mut [u8]) -> u32 {
 pub fn write_back(table: &[u8], source: &mut [u8], answer: &mut [u8]) -> u32 {
     let (source_len, answer_len) = (source.len(), answer.len());
     unsafe {
-        mpt_write_back(start(table), table.len(), start_mut(source), source_len, start_mut(answer), answer_len)
+        mpt_write_back(
+            start(table),
+            table.len(),
+            start_mut(source),
+            source_len,
+            start_mut(answer),
+            answer_len,
+        )
     }
 }
 

@@ -88,13 +88,21 @@ fn in_codes(set: u16, byte: u8) -> bool {
         &[(32, 47), (58, 64), (91, 96), (123, 126)],
         &[(65, 90)],
     ];
-    let holds = |bit: usize| ranges[bit].iter().any(|&(from, to)| from <= byte && byte <= to);
+    let holds = |bit: usize| {
+        ranges[bit]
+            .iter()
+            .any(|&(from, to)| from <= byte && byte <= to)
+    };
     (0..7).any(|bit| set >> bit & 1 == 1 && holds(bit))
 }
 
 /// The index of the first atom after atom `r` and all that it holds.
 fn after(records: &[Record], r: usize) -> usize {
-    if records[r].kind == 3 { usize::from(records[r].b) } else { r + 1 }
+    if records[r].kind == 3 {
+        usize::from(records[r].b)
+    } else {
+        r + 1
+    }
 }
 
 /// The index of the first atom of each branch of group `r`.
@@ -126,11 +134,15 @@ fn relations(records: &[Record], pool: &[u8], label: &[u8]) -> Vec<Atom> {
         let record = records[r];
         let mut body = Relation::none(places);
         match record.kind {
-            1 => (0..label.len()).filter(|&i| in_codes(record.a, label[i])).for_each(|i| body.add(i, i + 1)),
+            1 => (0..label.len())
+                .filter(|&i| in_codes(record.a, label[i]))
+                .for_each(|i| body.add(i, i + 1)),
             2 => {
                 let value = &pool[usize::from(record.a)..][..usize::from(record.b)];
                 let here = |i: &usize| label[*i..].starts_with(value);
-                (0..places).filter(here).for_each(|i| body.add(i, i + value.len()));
+                (0..places)
+                    .filter(here)
+                    .for_each(|i| body.add(i, i + value.len()));
             }
             _ => {
                 for start in branches(records, r) {
@@ -140,8 +152,14 @@ fn relations(records: &[Record], pool: &[u8], label: &[u8]) -> Vec<Atom> {
         }
         let at_most_once = body.or(&Relation::empty_stretches(places));
         // Beyond the low number, n more bodies reach whatever any number of them reaches.
-        let more = if record.high == OPEN { label.len() } else { usize::from(record.high - record.low) };
-        let whole = body.power(usize::from(record.low)).then(&at_most_once.power(more));
+        let more = if record.high == OPEN {
+            label.len()
+        } else {
+            usize::from(record.high - record.low)
+        };
+        let whole = body
+            .power(usize::from(record.low))
+            .then(&at_most_once.power(more));
         let rest = if record.last == 1 {
             whole.clone()
         } else {
@@ -154,14 +172,19 @@ fn relations(records: &[Record], pool: &[u8], label: &[u8]) -> Vec<Atom> {
 
 /// The count of trials as the paper defines it, or None once it exceeds the budget.
 fn count_trials(records: &[Record], atoms: &[Atom], n: usize, budget: u64) -> Option<u64> {
+    let w = n + 1;
     let mut trials = 0;
     for (r, record) in records.iter().enumerate() {
-        let most = if record.high == OPEN { n } else { n.min(usize::from(record.high)) };
-        // made[i][j]: the stretch i to j is made of k - 1 bodies.
-        let mut made = vec![vec![false; n + 1]; n + 1];
-        (0..=n).for_each(|i| made[i][i] = true);
+        let most = if record.high == OPEN {
+            n
+        } else {
+            n.min(usize::from(record.high))
+        };
+        // made[i * w + j]: the stretch i to j is made of k - 1 bodies.
+        let mut made = vec![false; w * w];
+        (0..=n).for_each(|i| made[i * w + i] = true);
         for _k in 1..=most {
-            let mut next = vec![vec![false; n + 1]; n + 1];
+            let mut next = vec![false; w * w];
             for i in 0..=n {
                 for j in i..=n {
                     for m in (i..=j).rev() {
@@ -169,8 +192,8 @@ fn count_trials(records: &[Record], atoms: &[Atom], n: usize, budget: u64) -> Op
                         if trials > budget {
                             return None;
                         }
-                        if atoms[r].body.has(i, m) && made[m][j] {
-                            next[i][j] = true;
+                        if atoms[r].body.has(i, m) && made[m * w + j] {
+                            next[i * w + j] = true;
                             break;
                         }
                     }
@@ -217,16 +240,31 @@ fn longest_first(tops: &[usize], atoms: &[Atom], n: usize) -> Vec<usize> {
             Some(&next) => atoms[next].rest.has(m, n),
             None => m == n,
         };
-        start = (start..=n).rev().find(|&m| atoms[r].whole.has(start, m) && followers_hold(m)).unwrap();
+        start = (start..=n)
+            .rev()
+            .find(|&m| atoms[r].whole.has(start, m) && followers_hold(m))
+            .unwrap();
         ends.push(start);
     }
     ends
 }
 
 /// Matches a label against a table, with scratch and parts lent by their lengths.
-pub fn match_label(table: &[u8], label: &[u8], scratch_len: usize, parts_len: usize, budget: u64) -> Matched {
-    let refused =
-        |number| Matched { number, position: 0, verdict: false, trials: 0, parts: None, clears: 0 };
+pub fn match_label(
+    table: &[u8],
+    label: &[u8],
+    scratch_len: usize,
+    parts_len: usize,
+    budget: u64,
+) -> Matched {
+    let refused = |number| Matched {
+        number,
+        position: 0,
+        verdict: false,
+        trials: 0,
+        parts: None,
+        clears: 0,
+    };
     if !good(table) {
         return refused(TABLE);
     }
@@ -245,12 +283,25 @@ pub fn match_label(table: &[u8], label: &[u8], scratch_len: usize, parts_len: us
     }
     let atoms = relations(&records, pool, label);
     let Some(trials) = count_trials(&records, &atoms, n, budget) else {
-        return Matched { trials: budget, clears, ..refused(BUDGET) };
+        return Matched {
+            trials: budget,
+            clears,
+            ..refused(BUDGET)
+        };
     };
     let verdict = atoms[0].rest.has(0, n);
     let parts = verdict.then(|| {
         let ends = longest_first(&tops, &atoms, n);
-        ends.iter().flat_map(|&end| (end as u16).to_le_bytes()).collect()
+        ends.iter()
+            .flat_map(|&end| (end as u16).to_le_bytes())
+            .collect()
     });
-    Matched { number: 0, position: 0, verdict, trials, parts, clears }
+    Matched {
+        number: 0,
+        position: 0,
+        verdict,
+        trials,
+        parts,
+        clears,
+    }
 }

@@ -44,16 +44,25 @@ fn step(at: Place, byte: u8) -> Option<Place> {
         (_, b'.') => to(High),
         (Low | High | Codes, b'A'..=b'Z' | b'a'..=b'z') => to(Codes),
         (Low | High, b'"') => to(Literal),
-        (Low | High, b'(') => Some(Place { state: Begin, depth: depth + 1 }),
+        (Low | High, b'(') => Some(Place {
+            state: Begin,
+            depth: depth + 1,
+        }),
         (Codes | Quote | Closed, b',') if depth > 0 => to(Begin),
-        (Codes | Quote | Closed, b')') if depth > 0 => Some(Place { state: Closed, depth: depth - 1 }),
+        (Codes | Quote | Closed, b')') if depth > 0 => Some(Place {
+            state: Closed,
+            depth: depth - 1,
+        }),
         _ => None,
     }
 }
 
 /// The places after each byte as far as patterns go, and the FORM position.
 fn trace(source: &[u8]) -> (Vec<Place>, Option<usize>) {
-    let mut at = Place { state: Begin, depth: 0 };
+    let mut at = Place {
+        state: Begin,
+        depth: 0,
+    };
     let mut places = Vec::new();
     for (position, &byte) in source.iter().enumerate() {
         match step(at, byte) {
@@ -95,7 +104,9 @@ fn number(digits: &[u8]) -> Option<u32> {
     if digits.is_empty() {
         return None;
     }
-    Some(digits.iter().fold(0, |n, d| (n * 10 + u32::from(d - b'0')).min(NUMBER_MOST + 1)))
+    Some(digits.iter().fold(0, |n, d| {
+        (n * 10 + u32::from(d - b'0')).min(NUMBER_MOST + 1)
+    }))
 }
 
 impl Count {
@@ -134,7 +145,10 @@ fn number_faults(source: &[u8], counts: &[Count]) -> Vec<usize> {
             faults.push(count.start);
         }
         if over(rest.flatten()) {
-            let point = source[count.start..].iter().position(|&b| b == b'.').unwrap();
+            let point = source[count.start..]
+                .iter()
+                .position(|&b| b == b'.')
+                .unwrap();
             faults.push(count.start + point + 1);
         }
     }
@@ -146,11 +160,19 @@ fn range_faults(source: &[u8], counts: &[Count]) -> Vec<usize> {
         (Some(low), Some(Some(high))) => low <= NUMBER_MOST && high < low,
         _ => false,
     };
-    counts.iter().filter(wrong).map(|count| count.start).collect()
+    counts
+        .iter()
+        .filter(wrong)
+        .map(|count| count.start)
+        .collect()
 }
 
 fn atom_faults(counts: &[Count]) -> Vec<usize> {
-    counts.iter().skip(ATOMS_MOST).map(|count| count.start).collect()
+    counts
+        .iter()
+        .skip(ATOMS_MOST)
+        .map(|count| count.start)
+        .collect()
 }
 
 fn depth_faults(source: &[u8], places: &[Place]) -> Vec<usize> {
@@ -177,7 +199,10 @@ fn records(source: &[u8], places: &[Place], counts: &[Count]) -> Vec<u8> {
                 }
                 let has = |letter: &u8| source[body..after].to_ascii_uppercase().contains(letter);
                 kind = 1;
-                a = (0..7).filter(|&bit| has(&CODES[bit])).map(|bit| 1 << bit).sum();
+                a = (0..7)
+                    .filter(|&bit| has(&CODES[bit]))
+                    .map(|bit| 1 << bit)
+                    .sum();
                 b = 0;
             }
             Literal => {
@@ -186,14 +211,21 @@ fn records(source: &[u8], places: &[Place], counts: &[Count]) -> Vec<u8> {
                 }
                 kind = 2;
                 a = pool.len();
-                pool.extend((body + 1..after).filter(|&p| places[p].state == Literal).map(|p| source[p]));
+                pool.extend(
+                    (body + 1..after)
+                        .filter(|&p| places[p].state == Literal)
+                        .map(|p| source[p]),
+                );
                 b = pool.len() - a;
             }
             _ => {
                 let inside = places[body].depth;
-                let close = (body..source.len()).find(|&p| places[p].depth < inside).unwrap();
-                let parts_branches =
-                    |p: &usize| source[*p] == b',' && places[*p].state == Begin && places[*p].depth == inside;
+                let close = (body..source.len())
+                    .find(|&p| places[p].depth < inside)
+                    .unwrap();
+                let parts_branches = |p: &usize| {
+                    source[*p] == b',' && places[*p].state == Begin && places[*p].depth == inside
+                };
                 after = close + 1;
                 kind = 3;
                 a = 1 + (body..close).filter(parts_branches).count();
@@ -218,7 +250,10 @@ fn records(source: &[u8], places: &[Place], counts: &[Count]) -> Vec<u8> {
 /// Compiles a source to a table of at most `room` bytes.
 pub fn compile(source: &[u8], room: usize) -> Result<Vec<u8>, Refusal> {
     if source.len() > SOURCE_MOST {
-        return Err(Refusal { number: LONG, position: SOURCE_MOST });
+        return Err(Refusal {
+            number: LONG,
+            position: SOURCE_MOST,
+        });
     }
     let (places, form) = trace(source);
     let counts = counts(&places);
@@ -230,13 +265,18 @@ pub fn compile(source: &[u8], room: usize) -> Result<Vec<u8>, Refusal> {
         (ATOMS, atom_faults(&counts)),
         (DEPTH, depth_faults(source, &places)),
     ];
-    let each = faults.iter().flat_map(|(number, positions)| positions.iter().map(move |p| (*p, *number)));
+    let each = faults
+        .iter()
+        .flat_map(|(number, positions)| positions.iter().map(move |p| (*p, *number)));
     if let Some((position, number)) = each.min() {
         return Err(Refusal { number, position });
     }
     let table = records(source, &places, &counts);
     if table.len() > room {
-        return Err(Refusal { number: ROOM, position: source.len() });
+        return Err(Refusal {
+            number: ROOM,
+            position: source.len(),
+        });
     }
     Ok(table)
 }

@@ -22,9 +22,19 @@ pub(crate) fn decode(table: &[u8]) -> Option<(Vec<Record>, &[u8])> {
     let pool = table.get(HEADER + RECORD * atoms..)?;
     let record = |bytes: &[u8]| {
         let field = |at: usize| u16::from_le_bytes([bytes[at], bytes[at + 1]]);
-        Record { kind: bytes[0], last: bytes[1], low: field(2), high: field(4), a: field(6), b: field(8) }
+        Record {
+            kind: bytes[0],
+            last: bytes[1],
+            low: field(2),
+            high: field(4),
+            a: field(6),
+            b: field(8),
+        }
     };
-    let records = table[HEADER..HEADER + RECORD * atoms].chunks_exact(RECORD).map(record).collect();
+    let records = table[HEADER..HEADER + RECORD * atoms]
+        .chunks_exact(RECORD)
+        .map(record)
+        .collect();
     Some((records, pool))
 }
 
@@ -47,13 +57,21 @@ fn print(table: &[u8]) -> Option<Vec<u8>> {
     for record in records {
         source.extend(count_text(record.low, record.high).bytes());
         match record.kind {
-            1 => source.extend((0..7).filter(|bit| record.a >> bit & 1 == 1).map(|bit| CODES[bit])),
+            1 => source.extend(
+                (0..7)
+                    .filter(|bit| record.a >> bit & 1 == 1)
+                    .map(|bit| CODES[bit]),
+            ),
             2 => {
                 let start = usize::from(record.a);
                 let value = pool.get(start..start + usize::from(record.b))?;
                 source.push(b'"');
                 for &byte in value {
-                    source.extend(if byte == b'"' { vec![byte; 2] } else { vec![byte] });
+                    source.extend(if byte == b'"' {
+                        vec![byte; 2]
+                    } else {
+                        vec![byte]
+                    });
                 }
                 source.push(b'"');
             }
@@ -66,7 +84,9 @@ fn print(table: &[u8]) -> Option<Vec<u8>> {
         }
         let mut last = record.last;
         while last == 1 {
-            let Some((branches, group_last)) = open.pop() else { break };
+            let Some((branches, group_last)) = open.pop() else {
+                break;
+            };
             if branches > 1 {
                 source.push(b',');
                 open.push((branches - 1, group_last));
@@ -91,9 +111,15 @@ pub fn good(table: &[u8]) -> bool {
 
 /// Writes a table back as its shortest source of at most `room` bytes.
 pub fn write_back(table: &[u8], room: usize) -> Result<Vec<u8>, Refusal> {
-    let source = source_of(table).ok_or(Refusal { number: TABLE, position: 0 })?;
+    let source = source_of(table).ok_or(Refusal {
+        number: TABLE,
+        position: 0,
+    })?;
     if source.len() > room {
-        return Err(Refusal { number: ROOM, position: 0 });
+        return Err(Refusal {
+            number: ROOM,
+            position: 0,
+        });
     }
     Ok(source)
 }

@@ -12,7 +12,10 @@ fn refusal(source: &[u8]) -> (u32, usize) {
 }
 
 fn ends(parts: &[u8]) -> Vec<u16> {
-    parts.chunks(2).map(|pair| u16::from_le_bytes([pair[0], pair[1]])).collect()
+    parts
+        .chunks(2)
+        .map(|pair| u16::from_le_bytes([pair[0], pair[1]]))
+        .collect()
 }
 
 /// The parts for yes, None for no.
@@ -53,10 +56,18 @@ fn proved_examples() {
 
 #[test]
 fn budgets() {
-    let at = |source: &[u8], label: &[u8], budget| match_label(&table(source), label, 999, 99, budget);
+    let at =
+        |source: &[u8], label: &[u8], budget| match_label(&table(source), label, 999, 99, budget);
     assert_eq!(at(b"300\"\"", b"", 0).number, 0);
     assert_eq!(at(b"1N", b"7", 3).number, 0);
-    let refused = Matched { number: 15, position: 0, verdict: false, trials: 2, parts: None, clears: 24 };
+    let refused = Matched {
+        number: 15,
+        position: 0,
+        verdict: false,
+        trials: 2,
+        parts: None,
+        clears: 24,
+    };
     assert_eq!(at(b"1N", b"7", 2), refused);
 }
 
@@ -85,19 +96,32 @@ fn order_of_refusals() {
     let atoms = |count| b"1N".repeat(count);
     assert!(compile(&atoms(64), usize::MAX).is_ok());
     assert_eq!(refusal(&atoms(65)), (ATOMS, 128));
-    assert_eq!(refusal(&[atoms(64), b"5.3N".to_vec()].concat()), (RANGE, 128));
-    assert_eq!(refusal(&[atoms(64), b".10000N".to_vec()].concat()), (ATOMS, 128));
+    assert_eq!(
+        refusal(&[atoms(64), b"5.3N".to_vec()].concat()),
+        (RANGE, 128)
+    );
+    assert_eq!(
+        refusal(&[atoms(64), b".10000N".to_vec()].concat()),
+        (ATOMS, 128)
+    );
     assert_eq!(refusal(&[atoms(64), b",".to_vec()].concat()), (FORM, 128));
     let nested = |depth| [b"1(".repeat(depth), b"1N".to_vec(), b")".repeat(depth)].concat();
     assert!(compile(&nested(8), usize::MAX).is_ok());
     assert_eq!(refusal(&nested(9)), (DEPTH, 17));
-    assert_eq!(compile(b"2N", 17), Err(Refusal { number: ROOM, position: 2 }));
+    assert_eq!(
+        compile(b"2N", 17),
+        Err(Refusal {
+            number: ROOM,
+            position: 2
+        })
+    );
 }
 
 #[test]
 fn bytes_of_tables() {
     let two_digits = [
-        0x4D, 0x50, 0x54, 0x01, 0x00, 0x01, 0x00, 0x00, 0x01, 0x01, 0x02, 0x00, 0x02, 0x00, 0x10, 0x00, 0x00, 0x00,
+        0x4D, 0x50, 0x54, 0x01, 0x00, 0x01, 0x00, 0x00, 0x01, 0x01, 0x02, 0x00, 0x02, 0x00, 0x10,
+        0x00, 0x00, 0x00,
     ];
     assert_eq!(table(b"2N"), two_digits);
     assert_eq!(table(b"002n"), two_digits);
@@ -108,7 +132,10 @@ fn bytes_of_tables() {
         1, 1, 2, 0, 255, 255, 65, 0, 0, 0, //
         2, 1, 3, 0, 255, 255, 2, 0, 0, 0,
     ];
-    assert_eq!(grouped, [&b"MPT\x01\x00\x04\x02\x00"[..], &records, b"a\""].concat());
+    assert_eq!(
+        grouped,
+        [&b"MPT\x01\x00\x04\x02\x00"[..], &records, b"a\""].concat()
+    );
 }
 
 #[test]
@@ -117,9 +144,24 @@ fn written_back() {
     assert_eq!(back(b"002n"), "2N");
     assert_eq!(back(b"0.0nNa"), "0AN");
     assert_eq!(back(b"0.7upnleca"), ".7ACELNPU");
-    assert_eq!(back(b".(1\"a\"\"\",02.04UA.(.(0.N,.A)1N))3.\"\""), ".(1\"a\"\"\",2.4AU.(.(.N,.A)1N))3.\"\"");
-    assert_eq!(write_back(&table(b"2N"), 1), Err(Refusal { number: ROOM, position: 0 }));
-    assert_eq!(write_back(b"MPT", 9), Err(Refusal { number: TABLE, position: 0 }));
+    assert_eq!(
+        back(b".(1\"a\"\"\",02.04UA.(.(0.N,.A)1N))3.\"\""),
+        ".(1\"a\"\"\",2.4AU.(.(.N,.A)1N))3.\"\""
+    );
+    assert_eq!(
+        write_back(&table(b"2N"), 1),
+        Err(Refusal {
+            number: ROOM,
+            position: 0
+        })
+    );
+    assert_eq!(
+        write_back(b"MPT", 9),
+        Err(Refusal {
+            number: TABLE,
+            position: 0
+        })
+    );
 }
 
 #[test]
@@ -183,7 +225,10 @@ fn easy_errors() {
     assert_eq!(parts(b".(.N)", b"12"), Some(vec![2]));
     assert_eq!(parts(b"9000.(.N)1A", b"a"), Some(vec![0, 1]));
     assert_eq!(parts(b"3.9999(2N)", b"1234"), None);
-    assert_eq!(parts(b"2N1\"-\"1(3N1\"-\"1N,1N1\":\"4N)", b"12-3:4567"), Some(vec![2, 3, 9]));
+    assert_eq!(
+        parts(b"2N1\"-\"1(3N1\"-\"1N,1N1\":\"4N)", b"12-3:4567"),
+        Some(vec![2, 3, 9])
+    );
     assert_eq!(parts(b"2N1(3P2A,2P3A).E", b"12!!abc"), Some(vec![2, 7, 7]));
 }
 
@@ -196,8 +241,14 @@ fn classes_of_codes() {
         assert_eq!(in_class("E", byte), byte.is_ascii());
         assert_eq!(in_class("L", byte), byte.is_ascii_lowercase());
         assert_eq!(in_class("N", byte), byte.is_ascii_digit());
-        assert_eq!(in_class("P", byte), byte.is_ascii_punctuation() || byte == b' ');
+        assert_eq!(
+            in_class("P", byte),
+            byte.is_ascii_punctuation() || byte == b' '
+        );
         assert_eq!(in_class("U", byte), byte.is_ascii_uppercase());
-        assert_eq!(in_class("nU", byte), byte.is_ascii_digit() || byte.is_ascii_uppercase());
+        assert_eq!(
+            in_class("nU", byte),
+            byte.is_ascii_digit() || byte.is_ascii_uppercase()
+        );
     }
 }
