@@ -1,6 +1,6 @@
 //! Compares libmpt.a with the second program, call by call.
 //!
-//! compare [COUNT] [--quick] [--seed N] [--dearest TRIALS] [--margin BYTES] [--lines]
+//! compare [COUNT] [--quick] [--seed N] [--dearest TRIALS] [--margin BYTES] [--lines] [--generated]
 //! compare --replay LINE
 
 mod call;
@@ -19,8 +19,8 @@ struct Options {
     dearest: u64,
     /// Bytes kept on both sides of every lent slice; 0 for a run under valgrind.
     margin: usize,
-    /// The longest source of the list of all short ones.
-    short: usize,
+    /// The longest source of the list of all short ones; none leaves the fixed lists out.
+    short: Option<usize>,
     /// Print each call before it is made.
     lines: bool,
 }
@@ -31,7 +31,7 @@ fn options() -> Options {
         seed: 1,
         dearest: 40_000_000,
         margin: 64,
-        short: 5,
+        short: Some(5),
         lines: false,
     };
     let mut words = std::env::args().skip(1);
@@ -41,11 +41,14 @@ fn options() -> Options {
             value.unwrap_or_else(|| fail(&format!("{word} takes a number")))
         };
         match word.as_str() {
-            "--quick" => (options.count, options.dearest, options.short) = (100_000, 2_000_000, 4),
+            "--quick" => {
+                (options.count, options.dearest, options.short) = (100_000, 2_000_000, Some(4))
+            }
             "--seed" => options.seed = number(),
             "--dearest" => options.dearest = number(),
             "--margin" => options.margin = number() as usize,
             "--lines" => options.lines = true,
+            "--generated" => options.short = None,
             "--replay" => replay(&words.collect::<Vec<_>>().join(" ")),
             _ => {
                 options.count = word
@@ -122,7 +125,7 @@ impl Tally {
 fn main() {
     let options = options();
     let mut tally = Tally::default();
-    for case in generate::fixed(options.short) {
+    for case in options.short.map_or(Vec::new(), generate::fixed) {
         tally.make(&case, &options);
     }
     for index in 0..options.count {
