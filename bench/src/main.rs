@@ -1,4 +1,5 @@
 //! Compares the proved library, through its C functions, with plain Rust.
+//! Times are processor time; a ratio is the library's time by that of plain Rust.
 //!
 //! bench [--quick]
 
@@ -8,23 +9,24 @@ mod plain;
 
 use std::hint::black_box;
 
-/// The median time of each call, in nanoseconds, over samples taken in turn.
+/// The median time of each call, in nanoseconds, over samples taken in turn. Short calls are
+/// repeated within a sample; calls over a fifth of a second get three samples.
 fn medians<const CALLS: usize>(
     samples: usize,
     mut calls: [&mut dyn FnMut(); CALLS],
 ) -> [f64; CALLS] {
-    let mut repeats = [1; CALLS];
-    for (call, repeat) in calls.iter_mut().zip(&mut repeats) {
+    let mut time = |at: usize, repeats: u64| {
         let start = clock::nanoseconds();
-        call();
-        *repeat = (20_000_000 / (clock::nanoseconds() - start).max(1)).clamp(1, 1_000_000);
-    }
-    let mut times = [(); CALLS].map(|_| Vec::new());
-    for _ in 0..samples {
+        (0..repeats).for_each(|_| calls[at]());
+        (clock::nanoseconds() - start) as f64 / repeats as f64
+    };
+    let first: [f64; CALLS] = std::array::from_fn(|at| time(at, 1));
+    let long = first.iter().any(|&time| time > 2e8);
+    let repeats = first.map(|time| (2e7 / time.max(1.0)).clamp(1.0, 1e6) as u64);
+    let mut times = first.map(|time| if long { vec![time] } else { vec![] });
+    for _ in 0..if long { 2 } else { samples } {
         for at in 0..CALLS {
-            let start = clock::nanoseconds();
-            (0..repeats[at]).for_each(|_| calls[at]());
-            times[at].push((clock::nanoseconds() - start) as f64 / repeats[at] as f64);
+            times[at].push(time(at, repeats[at]));
         }
     }
     times.map(|mut times| {
@@ -159,44 +161,40 @@ fn writing_back(samples: usize) {
     }
 }
 
-/// One way to match: the library, plain Rust or plain Rust with the unchecked loop.
+/// A way to match: the library, plain Rust, or plain Rust with the unchecked loop.
 type Way = fn(&[u8], &[u8], &mut [u8], &mut [u8], u64) -> Result<plain::Verdict, plain::Refusal>;
 
-/// The trials of a match and the median time of the library and each plain way, in nanoseconds.
-fn time_match(table: &[u8], label: &[u8], samples: usize) -> (u64, [f64; 3]) {
+/// The trials of a match and the median time of each way, in nanoseconds.
+fn time_match<const WAYS: usize>(
+    table: &[u8],
+    label: &[u8],
+    ways: [Way; WAYS],
+    samples: usize,
+) -> (u64, [f64; WAYS]) {
     let work = (2 * usize::from(table[5]) + 4) * (label.len() + 1) * (label.len() + 1);
-    let ways: [Way; 3] = [
-        match_label,
-        plain::match_label,
-        plain::match_label_unchecked,
-    ];
     let mut scratch = vec![0; work];
     // Every way gives the same answer and parts.
-    let [first, second, third] = ways.map(|way| {
+    let found = ways.map(|way| {
         let mut parts = [0; 128];
         (way(table, label, &mut scratch, &mut parts, u64::MAX), parts)
     });
-    assert!(first == second && first == third);
-    let (_, trials) = first.0.unwrap();
+    assert!(found.iter().all(|each| *each == found[0]));
+    let (_, trials) = found[0].0.unwrap();
     let mut calls = ways.map(|way| {
         let (mut scratch, mut parts) = (vec![0; work], [0; 128]);
         move || {
+            let budget = black_box(u64::MAX);
             _ = black_box(way(
                 table,
                 black_box(label),
                 &mut scratch,
                 &mut parts,
-                black_box(u64::MAX),
+                budget,
             ))
         }
     });
-    (
-        trials,
-        medians(
-            samples,
-            calls.each_mut().map(|call| call as &mut dyn FnMut()),
-        ),
-    )
+    let calls = calls.each_mut().map(|call| call as &mut dyn FnMut());
+    (trials, medians(samples, calls))
 }
 
 fn matching(samples: usize, lens: &[usize]) {
@@ -222,7 +220,12 @@ fn matching(samples: usize, lens: &[usize]) {
     for (source, label) in rows {
         let table = table_of(source.as_bytes());
         for &n in lens {
-            let (trials, times) = time_match(&table, &label(n), samples);
+            let ways: [Way; 3] = [
+                match_label,
+                plain::match_label,
+                plain::match_label_unchecked,
+            ];
+            let (trials, times) = time_match(&table, &label(n), ways, samples);
             let [library, plain, unchecked] = times.map(|time| time / trials as f64);
             println!(
                 "{source:<16}{n:>5}{trials:>12}{library:>10.3}{plain:>10.3}{unchecked:>10.3}{:>10.2}{:>10.2}",
@@ -256,34 +259,24 @@ fn group_of_groups() -> Vec<naive::Atom> {
     ]
 }
 
-fn groups_of_groups(samples: usize, step: usize) {
+fn groups_of_groups(samples: usize, lens: &[usize]) {
     let source = ".(.(.(.N,.A)))1\"!\"";
     println!("\n(d) {source} on digits ended by -!, milliseconds a call");
     println!(
-        "{:>5}{:>14}{:>14}{:>12}{:>12}{:>12}{:>8}{:>8}{:>14}{:>14}",
-        "n",
-        "bound",
-        "trials",
-        "library",
-        "plain",
-        "unsafe",
-        "ratio",
-        "ratio",
-        "backtracking",
-        "its steps"
+        "{:>5}{:>14}{:>14}{:>12}{:>12}{:>8}{:>14}{:>14}",
+        "n", "bound", "trials", "library", "plain", "ratio", "backtracking", "its steps"
     );
     let table = table_of(source.as_bytes());
     let pattern = group_of_groups();
     let mut stopped = false;
-    for n in (5..=255).step_by(step) {
+    for &n in lens {
         let label = [vec![b'1'; n - 2], b"-!".to_vec()].concat();
-        let few = if n > 100 { samples.min(3) } else { samples };
-        let (trials, times) = time_match(&table, &label, few);
-        let [library, plain, unchecked] = times.map(|time| time / 1e6);
-        let (safe_ratio, unsafe_ratio) = (library / plain, library / unchecked);
+        let ways: [Way; 2] = [match_label, plain::match_label];
+        let (trials, times) = time_match(&table, &label, ways, samples);
+        let [library, plain] = times.map(|time| time / 1e6);
         let bound = (table[5] as u64) * ((n + 1) * (n + 1) * (n + 2) * (n + 3) / 6) as u64;
-        print!("{n:>5}{bound:>14}{trials:>14}{library:>12.3}{plain:>12.3}{unchecked:>12.3}");
-        print!("{safe_ratio:>8.2}{unsafe_ratio:>8.2}");
+        let ratio = library / plain;
+        print!("{n:>5}{bound:>14}{trials:>14}{library:>12.3}{plain:>12.3}{ratio:>8.2}");
         if stopped {
             println!("{:>14}{:>14}", "-", "-");
             continue;
@@ -304,9 +297,16 @@ fn groups_of_groups(samples: usize, step: usize) {
 
 fn main() {
     let quick = std::env::args().any(|word| word == "--quick");
-    let samples = if quick { 3 } else { 9 };
-    compiling(samples);
-    writing_back(samples);
-    matching(samples, if quick { &[10, 60] } else { &[10, 60, 255] });
-    groups_of_groups(samples, if quick { 25 } else { 5 });
+    if quick {
+        compiling(3);
+        writing_back(3);
+        matching(3, &[10, 60]);
+        groups_of_groups(3, &[5, 10, 15, 20, 25, 50, 100, 150]);
+    } else {
+        let every_fifth: Vec<usize> = (5..=255).step_by(5).collect();
+        compiling(9);
+        writing_back(9);
+        matching(9, &[10, 60, 255]);
+        groups_of_groups(9, &every_fifth);
+    }
 }

@@ -88,7 +88,32 @@ fn codes(random: &mut Random) -> u16 {
     }
 }
 
+/// Groups in groups, at most 8 deep, each at times with a second branch.
+fn nested(random: &mut Random) -> Vec<Atom> {
+    let mut inner = branch(random, 2, 0);
+    for _ in 0..random.between(2, 8) {
+        let (low, high) = repeat(random);
+        let mut branches = vec![inner];
+        if random.once_in(3) {
+            let at = random.below(2);
+            branches.insert(at, branch(random, 1, 0));
+        }
+        inner = vec![Atom {
+            low,
+            high,
+            body: Body::Group(branches),
+        }];
+        if random.once_in(4) {
+            inner.extend(branch(random, 1, 0));
+        }
+    }
+    inner
+}
+
 fn pattern(random: &mut Random) -> Vec<Atom> {
+    if random.once_in(20) {
+        return nested(random);
+    }
     let atoms = match random.below(20) {
         0..=8 => random.between(1, 3),
         9..=15 => random.between(2, 6),
@@ -568,6 +593,11 @@ fn most_trials(atoms: &[&Atom], n: usize) -> u64 {
     atoms.iter().map(repeats).sum::<u64>() * stretches
 }
 
+/// The bound of the mission's third demand.
+fn bound(atoms: usize, n: usize) -> u64 {
+    (atoms * (n + 1) * ((n + 1) * (n + 2) * (n + 3) / 6)) as u64
+}
+
 /// Cheap patterns for long labels: every repeat number small.
 fn cheap_pattern(random: &mut Random) -> Vec<Atom> {
     let mut tree = match random.below(3) {
@@ -695,7 +725,7 @@ fn match_call(random: &mut Random, dearest: u64) -> Call {
     } else {
         2 * tree.len()
     };
-    if long && atoms.len() > 4 {
+    if long && atoms.len() > 4 && !random.once_in(20) {
         scratch_len = scratch_len.min(work - 1).min(10_000);
     }
     let budget = if long {
@@ -706,7 +736,7 @@ fn match_call(random: &mut Random, dearest: u64) -> Call {
             0..=4 => exact,
             5..=6 => exact.saturating_sub(1),
             7 => exact + 1,
-            8 => most_trials(&atoms, n),
+            8 => bound(atoms.len(), n),
             9 => u64::MAX,
             10 => random.next() % (exact + 1),
             _ => random.pick(&[0, 1, 10_000_000]),
