@@ -201,7 +201,7 @@ fn matching(samples: usize, lens: &[usize]) {
     println!("\n(c) matching, ns a trial");
     println!(
         "{:<16}{:>5}{:>12}{:>10}{:>10}{:>10}{:>10}{:>10}",
-        "pattern", "n", "trials", "library", "plain", "unsafe", "ratio", "ratio"
+        "pattern", "n", "trials", "library", "plain", "unsafe", "ratio", "to unsafe"
     );
     let digits = |n: usize| (0..n).map(|at| b'0' + (at % 10) as u8).collect::<Vec<u8>>();
     let mixed = |n: usize| (0..n).map(|at| b"12ab3c"[at % 6]).collect::<Vec<u8>>();
