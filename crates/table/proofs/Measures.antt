@@ -1,20 +1,20 @@
 -- Lengths of what is printed, and steps along lists. Assumes nothing.
 use mathlib.Core.Path.{_≡_, refl, sym, ap, ap₂, _∙_}
 use mathlib.Core.Bool.{Bool, true, false, _&&_}
-use mathlib.Core.List.{List, [], _∷_, _++_}
-use mathlib.Core.Option.{Option, none, some}
+use mathlib.Core.List.{List, [], _∷_}
+use mathlib.Core.Option.{Option, some}
 use Prim.Native.Nat.{ℕ, zero, suc, _+_, _*_, _/_, _%_, _<_, _≤_}
 use native.Mathlib.Omega.{arith}
-use lib.Dec.{T, ltb, leb, eqb, eqb→eq, leb→le}
+use lib.Dec.{leb, eqb}
 use lib.ListN.{length, getD, take, drop, length-append, drop-of-length-le}
 use lib.Seq.{drop-cons, getD-take, length-take-le}
 use borrow.Author.Tests.{lt-ltb, le-ltb, le-leb, lt-leb, eq-eqb, ne-eqb}
-use Rattle.pattern.specs.Numbers.{zero-byte, point-byte, quote-byte, open-high, header-size}
+use Rattle.pattern.specs.Numbers.{point-byte, quote-byte, open-high, header-size}
 use Rattle.pattern.specs.Bytes.{Bytes, between, same}
 use Rattle.pattern.specs.Codes.{Code, all-codes}
 use Rattle.pattern.specs.Print.{decimal-of, decimal, print-low, print-count, print-set, double}
 use Rattle.pattern.specs.Decode.{high-of}
-use Rattle.pattern.proofs.Tests.{if-true, if-false, all, all-at}
+use Rattle.pattern.proofs.Tests.{if-true, if-false}
 use Rattle.table.specs.Opening.{pick, opening, header-of, headed, opened-of}
 use Rattle.table.specs.Checked.{plain}
 use Rattle.table.specs.Leaves.{text-of}

@@ -1,13 +1,11 @@
 -- `parts::count` meets its contract: one number, an open count, two numbers. Assumes nothing.
+use mathlib.Core.Path.{sym, ap, _∙_}
+use native.Mathlib.Omega.{arith}
+use lib.ListN.{length}
+use borrow.Author.Needs.{needs}
+use Rattle.pattern.specs.Print.{decimal}
 use Rattle.printer.proofs.Parting.{count-exact, count-open, count-two, count-begins, high-small}
 use Rattle.printer.proofs.Storing.{puts-then, puts-more, puts-as, puts-length, puts-room}
-use Rattle.pattern.specs.Print.{decimal, print-low}
-use lib.ListN.{length, length-append, length-set}
-use native.Mathlib.Omega.{arith}
-use mathlib.Core.List.{[], _∷_, _++_}
-use Prim.Native.Nat.{_+_}
-use mathlib.Core.Path.{sym, ap, _∙_}
-use borrow.Author.Needs.{needs}
 use Rattle.printer.proofs.parts.count.Statement.{statement}
 use Rattle.printer.proofs.parts.count.Tie as tie
 

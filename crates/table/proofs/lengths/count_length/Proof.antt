@@ -1,8 +1,8 @@
 -- `lengths::count_length` meets its contract: open, one number, two numbers. Assumes nothing.
-use Rattle.table.proofs.Measures.{count-open, count-exact, count-two}
 use mathlib.Core.Path.{_∙_}
 use native.Mathlib.Omega.{arith}
 use borrow.Author.Needs.{needs}
+use Rattle.table.proofs.Measures.{count-open, count-exact, count-two}
 use Rattle.table.proofs.lengths.count_length.Statement.{statement}
 use Rattle.table.proofs.lengths.count_length.Tie as tie
 

@@ -1,9 +1,9 @@
 -- `lengths::letters` meets its contract: the table is the one that printing every set gives. Assumes nothing.
+use native.Mathlib.Omega.{arith}
+use borrow.Author.Needs.{needs}
 use Rattle.pattern.specs.Print.{print-set}
 use Rattle.pattern.specs.Codes.{all-codes}
 use Rattle.table.proofs.Measures.{counts, letters-at, letters-small}
-use native.Mathlib.Omega.{arith}
-use borrow.Author.Needs.{needs}
 use Rattle.table.proofs.lengths.letters.Statement.{statement}
 use Rattle.table.proofs.lengths.letters.Tie as tie
 

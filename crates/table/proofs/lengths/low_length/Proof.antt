@@ -1,8 +1,8 @@
 -- `lengths::low_length` meets its contract: 0 is left out. Assumes nothing.
-use Rattle.table.proofs.Measures.{low-none, low-some}
 use mathlib.Core.Path.{_∙_}
 use native.Mathlib.Omega.{arith}
 use borrow.Author.Needs.{needs}
+use Rattle.table.proofs.Measures.{low-none, low-some}
 use Rattle.table.proofs.lengths.low_length.Statement.{statement}
 use Rattle.table.proofs.lengths.low_length.Tie as tie
 
