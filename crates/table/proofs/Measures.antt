@@ -3,18 +3,18 @@ use mathlib.Core.Path.{_≡_, refl, sym, ap, ap₂, _∙_}
 use mathlib.Core.Bool.{Bool, true, false, _&&_}
 use mathlib.Core.List.{List, [], _∷_}
 use mathlib.Core.Option.{Option, some}
-use Prim.Native.Nat.{ℕ, zero, suc, _+_, _*_, _/_, _%_, _<_, _≤_}
+use Prim.Native.Nat.{ℕ, suc, _+_, _*_, _/_, _%_, _<_, _≤_}
 use native.Mathlib.Omega.{arith}
-use lib.Dec.{leb, eqb}
+use lib.Dec.{T, leb, eqb, eqb→eq, leb→le}
 use lib.ListN.{length, getD, take, drop, length-append, drop-of-length-le}
 use lib.Seq.{drop-cons, getD-take, length-take-le}
 use borrow.Author.Tests.{lt-ltb, le-ltb, le-leb, lt-leb, eq-eqb, ne-eqb}
 use Rattle.pattern.specs.Numbers.{point-byte, quote-byte, open-high, header-size}
 use Rattle.pattern.specs.Bytes.{Bytes, between, same}
-use Rattle.pattern.specs.Codes.{Code, all-codes}
+use Rattle.pattern.specs.Codes.{all-codes}
 use Rattle.pattern.specs.Print.{decimal-of, decimal, print-low, print-count, print-set, double}
 use Rattle.pattern.specs.Decode.{high-of}
-use Rattle.pattern.proofs.Tests.{if-true, if-false}
+use Rattle.pattern.proofs.Tests.{and-both, if-true, if-false, all, all-at}
 use Rattle.table.specs.Opening.{pick, opening, header-of, headed, opened-of}
 use Rattle.table.specs.Checked.{plain}
 use Rattle.table.specs.Leaves.{text-of}
@@ -85,40 +85,21 @@ module _ (low high : ℕ) where
 
 -- ---- sets
 
--- how many letters n sets from i on have
-unfoldable pub counts : (i n : ℕ) → List ℕ
-counts i zero = []
-counts i (suc n) = length (print-set all-codes i) ∷ counts (suc i) n
+-- how many codes four bits of a set stand for
+unfoldable pub fours : List ℕ
+fours = 0 ∷ 1 ∷ 1 ∷ 2 ∷ 1 ∷ 2 ∷ 2 ∷ 3 ∷ 1 ∷ 2 ∷ 2 ∷ 3 ∷ 2 ∷ 3 ∷ 3 ∷ 4 ∷ []
 
-counts-at : (i n k : ℕ) → k < n → getD (counts i n) k 0 ≡ length (print-set all-codes (i + k))
-unfolding counts
-counts-at i zero k h = absurd (omega arith)
-counts-at i (suc n) zero h = let e : i ≡ i + 0 = omega arith in ap (λ x. length (print-set all-codes x)) e
-counts-at i (suc n) (suc k) h =
-    let e : suc i + k ≡ i + suc k = omega arith in
-    counts-at (suc i) n k (omega arith) ∙ ap (λ x. length (print-set all-codes x)) e
+abbrev letters-of : ℕ → ℕ
+letters-of set = getD fours (set % 16) 0 + getD fours (set / 16) 0
 
-few-letters : (cs : List Code) (set : ℕ) → length (print-set cs set) ≤ length cs
-unfolding print-set
-few-letters [] set = omega arith
-few-letters (c ∷ cs) set = go (eqb (set % 2) 1) (few-letters cs (set / 2))
-  where
-    go : (b : Bool) → length (print-set cs (set / 2)) ≤ length cs
-        → length {A = ℕ} (elim b [ true ↦ c .letter ∷ print-set cs (set / 2) | false ↦ print-set cs (set / 2) ]) ≤ suc (length cs)
-    go true h = omega arith
-    go false h = omega arith
+letters-fit : T (all 128 (λ set. eqb (letters-of set) (length (print-set all-codes set)) && leb (letters-of set) 7))
+unfolding all fours all-codes print-set
+letters-fit = tt
 
-seven-letters : (set : ℕ) → length (print-set all-codes set) ≤ 7
-unfolding all-codes
-seven-letters set = few-letters all-codes set
-
-pub letters-at : (set : ℕ) → set < 128 → getD (counts 0 128) set 0 ≡ length (print-set all-codes set)
+pub letters-at : (set : ℕ) → set < 128 → (letters-of set ≡ length (print-set all-codes set)) × (letters-of set ≤ 7)
 letters-at set h =
-    let e : 0 + set ≡ set = omega arith in
-    counts-at 0 128 set h ∙ ap (λ x. length (print-set all-codes x)) e
-
-pub letters-small : (set : ℕ) → set < 128 → getD (counts 0 128) set 0 ≤ 7
-letters-small set h = omega (arith, letters-at set h, seven-letters set)
+    let (a, b) = and-both (eqb (letters-of set) (length (print-set all-codes set))) (leb (letters-of set) 7) (all-at 128 (λ x. eqb (letters-of x) (length (print-set all-codes x)) && leb (letters-of x) 7) letters-fit set h) in
+    (eqb→eq _ _ a, leb→le _ _ b)
 
 -- ---- steps along lists
 
