@@ -14,18 +14,12 @@ use Rattle.pattern.specs.Within.{Fits, Good}
 use Rattle.pattern.specs.Print.{print}
 use Rattle.pattern.specs.Table.{pool, choices, kind-field, a-field, b-field, rec}
 use Rattle.pattern.specs.Decode.{high-of}
-use Rattle.pattern.proofs.RoundTrip.{some-atom, some-pattern}
+use Rattle.pattern.proofs.RoundTrip.{some-atom, some-pattern, some-choice, high-again}
 use Rattle.table.specs.Fields.{record-of}
 use Rattle.table.specs.Checked.{its}
 use Rattle.table.specs.declared.Record.{Record}
 use Rattle.table.specs.Standing.{Set}
-use Rattle.table.proofs.Clean.{high-again}
 use Rattle.table.proofs.Complete.{set-last, set-only, set-then, set-or, set-group, its-there, its-ends}
-
-pub some-choice : (bs : Syntax branches) → 0 < choices bs
-unfolding choices
-some-choice (only q) = omega arith
-some-choice (or q bs) = omega arith
 
 module _ (s : Bytes) (A : ℕ) (r : Record) (i : ℕ) (same : r ≡ record-of (its s A i)) where
   -- ---- an atom

@@ -12,7 +12,7 @@ use Rattle.pattern.specs.Within.{Fits}
 use Rattle.pattern.specs.Print.{print-count, print-set, double, print}
 use Rattle.pattern.specs.Table.{pool}
 use Rattle.pattern.specs.Decode.{high-of}
-use Rattle.pattern.proofs.RoundTrip.{some-atom, some-pattern}
+use Rattle.pattern.proofs.RoundTrip.{some-atom, some-pattern, some-choice}
 use Rattle.table.specs.Fields.{record-of}
 use Rattle.table.specs.Checked.{its}
 use Rattle.table.specs.declared.Record.{Record}
@@ -21,7 +21,7 @@ use Rattle.printer.specs.Stores.{Puts}
 use Rattle.printer.specs.Trees.{Room, Printed, RoomFor, Branched}
 use Rattle.printer.specs.declared.walk.Next.{Next}
 use Rattle.printer.proofs.Storing.{puts-then, puts-more, puts-length, puts-room, puts-as}
-use Rattle.printer.proofs.Views.{some-choice, any-view, group-view, codes-view, text-view, last-view, then-view, first-atom, first-branch, only-view, or-view, atom-in, pattern-in}
+use Rattle.printer.proofs.Views.{any-view, group-view, codes-view, text-view, last-view, then-view, first-atom, first-branch, only-view, or-view, atom-in, pattern-in}
 
 -- the count that a record says, and the value of its literal
 abbrev count-of : Record → Bytes

@@ -16,7 +16,7 @@ use Rattle.pattern.specs.Within.{Small, Fits, Good}
 use Rattle.pattern.specs.Print.{print-count, double, print}
 use Rattle.pattern.specs.Table.{high-field}
 use Rattle.pattern.specs.Decode.{high-of}
-use Rattle.pattern.proofs.Tests.{passed, if-false}
+use Rattle.pattern.proofs.Tests.{passed}
 use Rattle.pattern.proofs.Printed.{count-printed, Printable, quoted-printed, letters-printed, letters-some, quoted-printable}
 use Rattle.table.specs.Checked.{plain, ordered}
 use Rattle.table.specs.Standing.{Clean}
@@ -70,11 +70,6 @@ high-back h = go (eqb h open-high) refl
     go true e = sym (eqb-true h open-high e)
     go false e = refl
 
-pub high-again : (h : Option ℕ) → Small h → high-of (high-field h) ≡ h
-unfolding high-of Small
-high-again none f = refl
-high-again (some m) f = if-false _ _ _ (ne-eqb m open-high (λ e. omega arith))
-
 pub ordered-fits : (low high : ℕ) → ordered low high ≡ true → Fits low (high-of high)
 unfolding ordered high-of Small UpTo
 ordered-fits low high e = let (x, y) = and-true (leb low number-limit) _ e in go (eqb high open-high) (leb-true _ _ x) y
@@ -83,11 +78,8 @@ ordered-fits low high e = let (x, y) = and-true (leb low number-limit) _ e in go
     go true x y = (x, tt, tt)
     go false x y = let (u, v) = and-true (leb low high) (leb high number-limit) y in (x, leb-true _ _ v, leb-true _ _ u)
 
-or-true : (b : Bool) → b || true ≡ true
-or-true true = refl
-or-true false = refl
-
 pub fits-ordered : (low : ℕ) (high : Option ℕ) → Fits low high → ordered low (high-field high) ≡ true
 unfolding ordered Small UpTo
 fits-ordered low none (x, y, z) = true-and _ _ (le-leb low number-limit x) refl
-fits-ordered low (some high) (x, y, z) = true-and _ _ (le-leb low number-limit x) (rw (le-leb low high z, le-leb high number-limit y, or-true))
+fits-ordered low (some high) (x, y, z) =
+    true-and _ _ (le-leb low number-limit x) (rw (ne-eqb high open-high (λ e. omega arith), le-leb low high z, le-leb high number-limit y))

@@ -14,11 +14,11 @@ use Rattle.pattern.specs.Within.{Good}
 use Rattle.pattern.specs.Table.{pool, choices, kind-field, a-field, b-field, Rec, rec, records}
 use Rattle.pattern.specs.Decode.{rec-at, high-of}
 use Rattle.pattern.proofs.Records.{Placed, head-there, tail-there, then-there, or-there}
-use Rattle.pattern.proofs.RoundTrip.{some-atom, some-pattern}
+use Rattle.pattern.proofs.RoundTrip.{some-atom, some-pattern, some-choice, high-again}
 use Rattle.table.specs.Checked.{plain, ordered, a-set, after, only-if, choose, its, text, leaf, closed, read-pattern, read-atom, read-branches}
 use Rattle.table.specs.Standing.{Clean, bare, Set}
 use Rattle.table.proofs.Options.{kept, first, second, going-on, true-and}
-use Rattle.table.proofs.Clean.{high-again, fits-ordered}
+use Rattle.table.proofs.Clean.{fits-ordered}
 
 module _ (s : Bytes) (A : ℕ) where
   pub set-last : {e : ℕ} {a : Syntax atom} {i p d : ℕ} → Set s A e (last a) i p d → Set s A 1 a i p d
@@ -121,11 +121,6 @@ module _ (s : Bytes) (A : ℕ) where
       ∙ second _ _ _ (ne-eqb (its s A i .ends) 1 (λ x. omega (arith, z, x)))
       ∙ kept _ _ (eq-eqb _ _ z)
       ∙ going-on _ _ (ih .patterns e q _ _ d c (omega (arith, n, some-atom a)))
-
-  some-choice : (bs : Syntax branches) → 0 < choices bs
-  unfolding choices
-  some-choice (only q) = omega arith
-  some-choice (or q bs) = omega arith
 
   complete-branches : (f : ℕ) → Complete f → (e : ℕ) (bs : Syntax branches) (i p d : ℕ) → Set s A e bs i p d → 3 * size bs + 2 < suc f → read-branches s A (suc f) (choices bs) i p d ≡ some bs
   unfolding read-pattern size choices

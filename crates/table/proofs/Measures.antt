@@ -1,9 +1,9 @@
 -- Lengths of what is printed, and steps along lists. Assumes nothing.
 use mathlib.Core.Path.{_≡_, refl, sym, ap, ap₂, _∙_}
 use mathlib.Core.Bool.{Bool, true, false, _&&_}
-use mathlib.Core.List.{List, [], _∷_}
-use mathlib.Core.Option.{Option, some}
+use mathlib.Core.List.{List, [], _∷_, _++_}
 use Prim.Native.Nat.{ℕ, suc, _+_, _*_, _/_, _%_, _<_, _≤_}
+use native.Mathlib.Numerals.{add-one}
 use native.Mathlib.Omega.{arith}
 use lib.Dec.{T, leb, eqb, eqb→eq, leb→le}
 use lib.ListN.{length, getD, take, drop, length-append, drop-of-length-le}
@@ -21,6 +21,7 @@ use Rattle.table.specs.Leaves.{text-of}
 use Rattle.table.specs.declared.opening.Opened.{Opened}
 use Rattle.table.specs.declared.opening.Opened.the-variants as opened
 use Rattle.table.specs.declared.lengths.Text.the-variants as texts
+use Rattle.table.proofs.Sources.{count-open, count-two, quote-here, plain-here, double-end}
 
 -- ---- numbers
 
@@ -52,36 +53,15 @@ pub digits-4 : (n : ℕ) → 1000 ≤ n → 4 ≡ length (decimal n)
 unfolding decimal
 digits-4 n h = omega (arith, more 2 n (omega arith), more 1 (n / 10) (omega arith), more 0 (n / 10 / 10) (omega arith), last-digit (n / 10 / 10 / 10))
 
-pub low-none : (n : ℕ) → n ≡ 0 → 0 ≡ length (print-low n)
-unfolding print-low
-low-none n e = sym (ap length (if-true _ _ _ (eq-eqb n 0 e)))
-
-pub low-some : (n : ℕ) → (n ≡ 0 → ⊥) → length (decimal n) ≡ length (print-low n)
-unfolding print-low
-low-some n e = sym (ap length (if-false _ _ _ (ne-eqb n 0 e)))
-
 -- ---- counts
 
-module _ (low high : ℕ) where
-  pub count-open : (a : ℕ) → high ≡ open-high → a ≡ length (print-low low) → a + 1 ≡ length (print-count low (high-of high))
-  unfolding high-of print-count
-  count-open a e f =
-      omega (arith, f, length-append (print-low low) (point-byte ∷ []))
-      ∙ sym (ap (λ (h : Option ℕ). length (print-count low h)) (if-true _ _ _ (eq-eqb high open-high e)))
+module _ (low high a : ℕ) (f : a ≡ length (print-low low)) where
+  pub open-length : high ≡ open-high → a + 1 ≡ length (print-count low (high-of high))
+  open-length e = omega (arith, f, ap length (count-open low high e), length-append (print-low low) (point-byte ∷ []))
 
-  closed : (high ≡ open-high → ⊥) → high-of high ≡ some high
-  unfolding high-of
-  closed n = if-false _ _ _ (ne-eqb high open-high n)
-
-  pub count-exact : (high ≡ open-high → ⊥) → low ≡ high → length (decimal low) ≡ length (print-count low (high-of high))
-  unfolding print-count
-  count-exact n e = sym (ap (λ (h : Option ℕ). length (print-count low h)) (closed n) ∙ ap length (if-true _ _ _ (eq-eqb low high e)))
-
-  pub count-two : (a b : ℕ) → (high ≡ open-high → ⊥) → (low ≡ high → ⊥) → a ≡ length (print-low low) → b ≡ length (decimal high) → a + 1 + b ≡ length (print-count low (high-of high))
-  unfolding print-count
-  count-two a b n e f g =
-      omega (arith, f, g, length-append (print-low low) (point-byte ∷ decimal high))
-      ∙ sym (ap (λ (h : Option ℕ). length (print-count low h)) (closed n) ∙ ap length (if-false _ _ _ (ne-eqb low high e)))
+  pub two-length : (b : ℕ) → (high ≡ open-high → ⊥) → (low ≡ high → ⊥) → b ≡ length (decimal high) → a + 1 + b ≡ length (print-count low (high-of high))
+  two-length b n e g =
+      omega (arith, f, g, ap length (count-two low high n e), length-append (print-low low ++ point-byte ∷ []) (decimal high), length-append (print-low low) (point-byte ∷ []))
 
 -- ---- sets
 
@@ -115,32 +95,15 @@ plain-step v i j e h =
     let n : suc i ≡ j = omega (arith, e) in
     ap plain (drop-cons v i 0 h) ∙ ap (λ m. (leb 32 (getD v i 0) && leb (getD v i 0) 126) && plain (drop m v)) n
 
--- a byte has two bytes in the source if it is a quote, else one
-abbrev shown : Bool → ℕ
-shown true = 2
-shown false = 1
-
-pub double-cons : (b : ℕ) (v : Bytes) → length (double (b ∷ v)) ≡ shown (eqb b quote-byte) + length (double v)
-unfolding double
-double-cons b v = go (eqb b quote-byte)
-  where
-    go : (t : Bool) → length {A = ℕ} (elim t [ true ↦ quote-byte ∷ quote-byte ∷ double v | false ↦ b ∷ double v ]) ≡ shown t + length (double v)
-    go true = omega arith
-    go false = omega arith
-
-double-step : (v : Bytes) (i j : ℕ) → j ≡ i + 1 → i < length v → length (double (drop i v)) ≡ shown (eqb (getD v i 0) quote-byte) + length (double (drop j v))
-double-step v i j e h =
-    let n : suc i ≡ j = omega (arith, e) in
-    ap (λ x. length (double x)) (drop-cons v i 0 h) ∙ double-cons (getD v i 0) (drop (suc i) v) ∙ ap (λ m. shown (eqb (getD v i 0) quote-byte) + length (double (drop m v))) n
-
-shown-two : (t : Bool) → shown t ≤ 2
-shown-two true = omega arith
-shown-two false = omega arith
-
+-- doubled quotes at most double a value
 pub double-length : (v : Bytes) → length (double v) ≤ 2 * length v
 unfolding double
 double-length [] = omega arith
-double-length (b ∷ v) = omega (arith, double-cons b v, shown-two (eqb b quote-byte), double-length v)
+double-length (b ∷ v) = go (eqb b quote-byte) (double-length v)
+  where
+    go : (t : Bool) → length (double v) ≤ 2 * length v → length {A = ℕ} (elim t [ true ↦ quote-byte ∷ quote-byte ∷ double v | false ↦ b ∷ double v ]) ≤ 2 * suc (length v)
+    go true h = omega arith
+    go false h = omega arith
 
 -- ---- the mark, byte by byte
 
@@ -186,16 +149,16 @@ module _ (v : Bytes) (i : ℕ) where
   text-on h e m n = e ∙ plain-step v i (i + 1) refl h ∙ ap₂ (λ a b. (a && b) && plain (drop (i + 1) v)) (le-leb _ _ m) (le-leb _ _ n)
 
   pub quote-on : i < length v → getD v i 0 ≡ quote-byte → length (double (drop i v)) ≡ 2 + length (double (drop (i + 1) v))
-  quote-on h e = double-step v i (i + 1) refl h ∙ ap (λ b. shown b + length (double (drop (i + 1) v))) (eq-eqb _ _ e)
+  quote-on h e = rw add-one (omega (arith, ap length (quote-here v i h e)))
 
   pub other-on : i < length v → (getD v i 0 ≡ quote-byte → ⊥) → length (double (drop i v)) ≡ 1 + length (double (drop (i + 1) v))
-  other-on h e = double-step v i (i + 1) refl h ∙ ap (λ b. shown b + length (double (drop (i + 1) v))) (ne-eqb _ _ e)
+  other-on h e = rw add-one (omega (arith, ap length (plain-here v i h e)))
 
   pub text-end : (n : ℕ) → length v ≤ i → Plain i → length (double v) ≡ n + length (double (drop i v)) → texts.Length n ≡ text-of v
-  unfolding text-of pick plain double
+  unfolding text-of pick plain
   text-end n h e f =
       let z = drop-of-length-le v h in
-      let q : length (double (drop i v)) ≡ 0 = ap (λ x. length (double x)) z in
+      let q : length (double (drop i v)) ≡ 0 = ap length (double-end v i h) in
       let m : n ≡ length (double v) = omega (arith, f, q) in
       ap (λ x. texts.Length x) m ∙ sym (ap (λ b. pick b (texts.Length (length (double v))) texts.Bad) (e ∙ ap plain z))
 

@@ -5,7 +5,8 @@ use Prim.Native.Nat.{suc, _-_, _≤_}
 use native.Mathlib.Omega.{arith}
 use lib.ListN.{length, getD, drop}
 use Rattle.pattern.specs.Print.{double}
-use Rattle.printer.proofs.Parting.{quote-on, plain-on, quote-room, byte-on, byte-room, double-end}
+use Rattle.table.proofs.Sources.{double-end}
+use Rattle.printer.proofs.Parting.{quote-on, plain-on, quote-room, byte-on, byte-room}
 use Rattle.printer.proofs.Storing.{Partly, partly-start, partly-as, partly-end, partly-length}
 use Rattle.printer.proofs.parts.doubled.Statement.{statement}
 use Rattle.printer.proofs.parts.doubled.Tie as tie
