@@ -3,3 +3,4 @@ pub mod Parting
 pub mod Views
 pub mod Walking
 pub mod Writing
+pub mod Again

@@ -1,16 +1,15 @@
 -- The parts of an atom in the shortest source, cut as the code writes them. Assumes nothing.
-use mathlib.Core.Path.{_≡_, refl, sym, ap, ap₂, _∙_}
+use mathlib.Core.Path.{_≡_, refl, sym, ap, _∙_}
 use mathlib.Core.Logic.{⊎-elim}
 use mathlib.Core.Bool.{Bool, true, false}
-use mathlib.Core.List.{List, [], _∷_, _++_, append-assoc, append-nil, map}
-use mathlib.Core.Option.{Option, none, some}
+use mathlib.Core.List.{List, [], _∷_, _++_, map}
+use mathlib.Core.Option.{none}
 use Prim.Native.Nat.{ℕ, zero, suc, _+_, _*_, _/_, _%_, _<_, _≤_}
 use native.Mathlib.Numerals.{add-one}
 use native.Mathlib.Omega.{arith}
-use lib.Dec.{ltb, eqb}
-use lib.ListN.{length, getD, drop, drop-of-length-le, length-append}
+use lib.Dec.{eqb}
+use lib.ListN.{length, getD, drop, length-append}
 use lib.ListN as ListN
-use lib.Seq.{drop-cons}
 use borrow.Author.Tests.{lt-ltb, le-ltb, eq-eqb, ne-eqb, eqb-true, eqb-false}
 use Rattle.pattern.specs.Numbers.{number-limit, zero-byte, point-byte, quote-byte, open-high}
 use Rattle.pattern.specs.Bytes.{Bytes}
@@ -20,6 +19,7 @@ use Rattle.pattern.specs.Within.{Small, Fits}
 use Rattle.pattern.specs.Print.{decimal-of, decimal, print-low, print-count, print-set, double}
 use Rattle.pattern.specs.Decode.{high-of}
 use Rattle.pattern.proofs.Tests.{if-true, if-false, le-or-lt}
+use Rattle.table.proofs.Sources.{high-given, count-open, count-exact, count-two, quote-here, plain-here}
 use Rattle.printer.proofs.Storing.{Partly, partly-as, partly-at, partly-byte, partly-room}
 
 -- ---- numbers
@@ -48,45 +48,24 @@ unfolding decimal decimal-of most
 decimal-more n h k =
     if-false _ _ _ (le-ltb n 10 h) ∙ ap (λ (v : Bytes). v ++ (zero-byte + n % 10) ∷ []) (sym (enough 2 (n / 10) (omega arith)))
 
-pub low-zero : (n : ℕ) → n ≡ 0 → print-low n ≡ []
-unfolding print-low
-low-zero n e = if-true _ _ _ (eq-eqb n 0 e)
-
-pub low-other : (n : ℕ) → (n ≡ 0 → ⊥) → print-low n ≡ decimal n
-unfolding print-low
-low-other n e = if-false _ _ _ (ne-eqb n 0 e)
-
 -- ---- counts
 
 module _ (low high : ℕ) where
-  closed : (high ≡ open-high → ⊥) → high-of high ≡ some high
-  unfolding high-of
-  closed n = if-false _ _ _ (ne-eqb high open-high n)
-
-  pub count-exact : low ≤ number-limit → low ≡ high → print-count low (high-of high) ≡ decimal low
-  unfolding print-count
-  count-exact k e = ap (print-count low) (closed (λ z. omega arith)) ∙ if-true _ _ _ (eq-eqb low high e)
-
-  pub count-open : high ≡ open-high → print-count low (high-of high) ≡ print-low low ++ point-byte ∷ []
-  unfolding print-count high-of
-  count-open e = ap (print-count low) (if-true _ _ _ (eq-eqb high open-high e))
-
-  pub count-two : (high ≡ open-high → ⊥) → (low ≡ high → ⊥) → print-count low (high-of high) ≡ (print-low low ++ point-byte ∷ []) ++ decimal high
-  unfolding print-count
-  count-two n e =
-      ap (print-count low) (closed n) ∙ if-false _ _ _ (ne-eqb low high e) ∙ sym (append-assoc (print-low low) (point-byte ∷ []) (decimal high))
+  -- a low number that fits is no open end
+  pub exact-given : low ≤ number-limit → low ≡ high → print-count low (high-of high) ≡ decimal low
+  exact-given k e = count-exact low high (λ z. omega arith) e
 
   -- two numbers begin with the low one and the point
   pub count-begins : (low ≡ high → ⊥) → length (print-low low) + 1 ≤ length (print-count low (high-of high))
   count-begins n = go (eqb high open-high) refl
     where
       go : (b : Bool) → eqb high open-high ≡ b → length (print-low low) + 1 ≤ length (print-count low (high-of high))
-      go true e = omega (arith, ap length (count-open (eqb-true _ _ e)), length-append (print-low low) (point-byte ∷ []))
-      go false e = omega (arith, ap length (count-two (eqb-false _ _ e) n), length-append (print-low low ++ point-byte ∷ []) (decimal high), length-append (print-low low) (point-byte ∷ []))
+      go true e = omega (arith, ap length (count-open low high (eqb-true _ _ e)), length-append (print-low low) (point-byte ∷ []))
+      go false e = omega (arith, ap length (count-two low high (eqb-false _ _ e) n), length-append (print-low low ++ point-byte ∷ []) (decimal high), length-append (print-low low) (point-byte ∷ []))
 
   pub high-small : (high ≡ open-high → ⊥) → Fits low (high-of high) → high ≤ number-limit
   unfolding Small
-  high-small n (x, y, z) = rw (closed n) at y
+  high-small n (x, y, z) = rw (high-given low high n) at y
 
 -- ---- letters
 
@@ -113,21 +92,6 @@ module _ (k set : ℕ) (h : k < 7) where
 pub letters-end : (k set : ℕ) → k ≡ 7 → print-set (drop k all-codes) set ≡ []
 unfolding print-set all-codes
 letters-end k set e = rw e
-
--- ---- literals
-
-module _ (v : Bytes) (i : ℕ) (h : i < length v) where
-  pub quote-here : getD v i 0 ≡ quote-byte → double (drop i v) ≡ getD v i 0 ∷ getD v i 0 ∷ double (drop (suc i) v)
-  unfolding double
-  quote-here e = ap double (drop-cons v i 0 h) ∙ if-true _ _ _ (eq-eqb _ _ e) ∙ ap (λ x. x ∷ x ∷ double (drop (suc i) v)) (sym e)
-
-  pub plain-here : (getD v i 0 ≡ quote-byte → ⊥) → double (drop i v) ≡ getD v i 0 ∷ double (drop (suc i) v)
-  unfolding double
-  plain-here e = ap double (drop-cons v i 0 h) ∙ if-false _ _ _ (ne-eqb _ _ e)
-
-pub double-end : (v : Bytes) (i : ℕ) → length v ≤ i → double (drop i v) ≡ []
-unfolding double
-double-end v i h = ap double (drop-of-length-le v h)
 
 -- ---- the two loops
 

@@ -1,30 +1,25 @@
 -- What the record of an atom says of the tree that stands there. Assumes nothing.
 use mathlib.Core.Path.{_≡_, refl, sym, ap, ap₂, subst, _∙_}
-use mathlib.Core.List.{List, [], _∷_, _++_, append-nil}
-use mathlib.Core.Option.{Option, none, some}
-use Prim.Native.Nat.{ℕ, zero, suc, _+_, _*_, _-_, _<_, _≤_}
+use mathlib.Core.List.{[], _∷_, _++_, append-nil}
+use mathlib.Core.Option.{Option}
+use Prim.Native.Nat.{ℕ, suc, _+_, _*_, _-_, _<_, _≤_}
 use native.Mathlib.Numerals.{add-one}
 use native.Mathlib.Omega.{arith}
 use lib.ListN.{length, take, drop}
 use lib.Seq.{take-append-seam}
 use Rattle.pattern.specs.Numbers.{record-size, comma-byte}
 use Rattle.pattern.specs.Bytes.{Bytes}
-use Rattle.pattern.specs.Syntax.{Sort, pattern, atom, body, branches, Syntax, last, then, repeat, codes, literal, group, only, or, size}
+use Rattle.pattern.specs.Syntax.{pattern, atom, body, branches, Syntax, last, then, repeat, codes, literal, group, only, or, size}
 use Rattle.pattern.specs.Within.{Fits, Good}
 use Rattle.pattern.specs.Print.{print}
-use Rattle.pattern.specs.Table.{pool, choices, kind-field, a-field, b-field, high-field, rec}
+use Rattle.pattern.specs.Table.{pool, choices, kind-field, a-field, b-field, rec}
 use Rattle.pattern.specs.Decode.{high-of}
-use Rattle.pattern.proofs.RoundTrip.{some-atom, some-pattern}
+use Rattle.pattern.proofs.RoundTrip.{some-atom, some-pattern, some-choice, high-again}
 use Rattle.table.specs.Fields.{record-of}
 use Rattle.table.specs.Checked.{its}
 use Rattle.table.specs.declared.Record.{Record}
-use Rattle.table.proofs.Clean.{high-again}
-use Rattle.table.proofs.Complete.{Set, set-last, set-only, set-then, set-or, set-group, its-there, its-ends}
-
-pub some-choice : (bs : Syntax branches) → 0 < choices bs
-unfolding choices
-some-choice (only q) = omega arith
-some-choice (or q bs) = omega arith
+use Rattle.table.specs.Standing.{Set}
+use Rattle.table.proofs.Complete.{set-last, set-only, set-then, set-or, set-group, its-there, its-ends}
 
 module _ (s : Bytes) (A : ℕ) (r : Record) (i : ℕ) (same : r ≡ record-of (its s A i)) where
   -- ---- an atom

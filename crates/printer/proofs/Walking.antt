@@ -1,27 +1,27 @@
 -- The steps of the walk that writes: what each call asks for, and what it comes to. Assumes nothing.
-use mathlib.Core.Path.{_≡_, refl, sym, ap, subst, _∙_}
-use mathlib.Core.List.{List, [], _∷_, _++_, append-assoc}
+use mathlib.Core.Path.{_≡_, sym, ap, subst, _∙_}
+use mathlib.Core.List.{[], _∷_, _++_, append-assoc}
 use Prim.Native.Nat.{ℕ, suc, _+_, _*_, _-_, _<_, _≤_}
 use native.Mathlib.Omega.{arith}
 use lib.ListN.{length, set, take, drop, length-append}
 use Rattle.pattern.specs.Numbers.{record-size, quote-byte, opening-byte, closing-byte, comma-byte}
 use Rattle.pattern.specs.Bytes.{Bytes}
 use Rattle.pattern.specs.Codes.{all-codes}
-use Rattle.pattern.specs.Syntax.{Sort, pattern, atom, body, branches, Syntax, last, then, repeat, codes, literal, group, only, or, size}
+use Rattle.pattern.specs.Syntax.{Sort, pattern, atom, branches, Syntax, repeat, codes, literal, group, or, size}
 use Rattle.pattern.specs.Within.{Fits}
 use Rattle.pattern.specs.Print.{print-count, print-set, double, print}
-use Rattle.pattern.specs.Table.{pool, choices}
+use Rattle.pattern.specs.Table.{pool}
 use Rattle.pattern.specs.Decode.{high-of}
-use Rattle.pattern.proofs.RoundTrip.{some-atom, some-pattern}
+use Rattle.pattern.proofs.RoundTrip.{some-atom, some-pattern, some-choice}
 use Rattle.table.specs.Fields.{record-of}
 use Rattle.table.specs.Checked.{its}
 use Rattle.table.specs.declared.Record.{Record}
-use Rattle.table.proofs.Complete.{Set}
+use Rattle.table.specs.Standing.{Set}
 use Rattle.printer.specs.Stores.{Puts}
 use Rattle.printer.specs.Trees.{Room, Printed, RoomFor, Branched}
 use Rattle.printer.specs.declared.walk.Next.{Next}
-use Rattle.printer.proofs.Storing.{puts-byte, puts-then, puts-more, puts-length, puts-room, puts-as}
-use Rattle.printer.proofs.Views.{some-choice, any-view, group-view, codes-view, text-view, last-view, then-view, first-atom, first-branch, only-view, or-view, atom-in, pattern-in}
+use Rattle.printer.proofs.Storing.{puts-then, puts-more, puts-length, puts-room, puts-as}
+use Rattle.printer.proofs.Views.{any-view, group-view, codes-view, text-view, last-view, then-view, first-atom, first-branch, only-view, or-view, atom-in, pattern-in}
 
 -- the count that a record says, and the value of its literal
 abbrev count-of : Record → Bytes

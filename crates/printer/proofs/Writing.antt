@@ -1,19 +1,15 @@
 -- What writing back answers, by what the test of the table says. Assumes nothing.
 use mathlib.Core.Path.{_≡_, refl, sym, ap, subst, _∙_}
-use mathlib.Core.Bool.{Bool, true, false}
-use mathlib.Core.List.{List, [], _∷_, _++_}
 use mathlib.Core.Option.{Option, none, some}
-use Prim.Native.Nat.{ℕ, _+_, _*_, _-_, _<_, _≤_}
+use Prim.Native.Nat.{ℕ, _-_, _<_, _≤_}
 use native.Mathlib.Omega.{arith}
-use lib.Dec.{leb}
 use lib.ListN.{length, take, drop, length-drop}
 use lib.Seq.{take-all}
 use borrow.Author.Tests.{le-leb, lt-leb}
-use Rattle.pattern.specs.Numbers.{ROOM, TABLE, header-size}
+use Rattle.pattern.specs.Numbers.{TABLE, header-size}
 use Rattle.pattern.specs.Bytes.{Bytes, over}
 use Rattle.pattern.specs.Syntax.{pattern, Syntax, size}
 use Rattle.pattern.specs.Print.{print}
-use Rattle.pattern.specs.Table.{encode}
 use Rattle.pattern.specs.Decode.{decode}
 use Rattle.pattern.specs.Answers.{refusal, result, Output, written-back, writeOf}
 use Rattle.pattern.proofs.Calls.{put-fits, put-short}
@@ -23,9 +19,9 @@ use Rattle.table.specs.Walk.{tested}
 use Rattle.table.specs.declared.Summary.{Summary}
 use Rattle.table.specs.declared.Tested.the-variants as verdict
 use Rattle.table.proofs.Clean.{spells-clean}
-use Rattle.table.proofs.Complete.{Set}
+use Rattle.table.specs.Standing.{Set}
 use Rattle.table.proofs.Whole.{contents, contents-there, set-encode}
-use Rattle.printer.specs.Stores.{stored, Puts}
+use Rattle.printer.specs.Stores.{Puts}
 use Rattle.printer.specs.Trees.{Room, Printed}
 use Rattle.printer.specs.Outputs.{answer-of, output-of}
 use Rattle.printer.specs.declared.Written.the-variants as written

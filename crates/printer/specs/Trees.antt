@@ -6,7 +6,7 @@ use Rattle.pattern.specs.Bytes.{Bytes}
 use Rattle.pattern.specs.Syntax.{Sort, branches, Syntax, size}
 use Rattle.pattern.specs.Table.{choices}
 use Rattle.pattern.specs.Print.{print}
-use Rattle.table.proofs.Complete.{Set}
+use Rattle.table.specs.Standing.{Set}
 use Rattle.printer.specs.Stores.{Puts}
 use Rattle.printer.specs.declared.walk.Next.{Next}
 

@@ -1,37 +1,24 @@
 -- A good tree whose records and literals stand in the bytes is the one that the checked reading gives. Assumes nothing.
-use mathlib.Core.Path.{_≡_, refl, sym, ap, ap₂, _∙_}
-use mathlib.Core.Bool.{Bool, true, false, _&&_}
-use mathlib.Core.Option.{Option, none, some}
-use mathlib.Core.List.{List, [], _∷_, _++_}
-use Prim.Native.Nat.{ℕ, zero, suc, _+_, _*_, _<_, _≤_, pred}
+use mathlib.Core.Path.{_≡_, refl, ap, _∙_}
+use mathlib.Core.Option.{Option, some}
+use Prim.Native.Nat.{ℕ, zero, suc, _+_, _*_, _<_}
 use native.Mathlib.Omega.{arith}
-use lib.Dec.{leb, ltb, eqb}
+use lib.Dec.{ltb, eqb}
 use borrow.Author.Tests.{lt-ltb, le-leb, eq-eqb, ne-eqb}
-use lib.ListN.{length, take, drop, length-append}
+use lib.ListN.{length, take, length-append}
 use lib.Seq.{take-append-seam}
 use Rattle.pattern.specs.Numbers.{depth-limit, set-limit, record-size}
 use Rattle.pattern.specs.Bytes.{Bytes}
-use Rattle.pattern.specs.Syntax.{Sort, pattern, atom, body, branches, Syntax, last, then, repeat, codes, literal, group, only, or, size}
-use Rattle.pattern.specs.Within.{Fits, Good}
-use Rattle.pattern.specs.Table.{pool, choices, kind-field, a-field, b-field, high-field, Rec, rec, records, flat}
-use Rattle.pattern.specs.Decode.{rec-at, Layout, high-of}
-use Rattle.pattern.proofs.Records.{Stands, Placed, head-there, tail-there, then-there, or-there}
-use Rattle.pattern.proofs.RoundTrip.{some-atom, some-pattern}
+use Rattle.pattern.specs.Syntax.{pattern, atom, body, branches, Syntax, last, then, repeat, codes, literal, group, only, or, size}
+use Rattle.pattern.specs.Within.{Good}
+use Rattle.pattern.specs.Table.{pool, choices, kind-field, a-field, b-field, Rec, rec, records}
+use Rattle.pattern.specs.Decode.{rec-at, high-of}
+use Rattle.pattern.proofs.Records.{Placed, head-there, tail-there, then-there, or-there}
+use Rattle.pattern.proofs.RoundTrip.{some-atom, some-pattern, some-choice, high-again}
 use Rattle.table.specs.Checked.{plain, ordered, a-set, after, only-if, choose, its, text, leaf, closed, read-pattern, read-atom, read-branches}
+use Rattle.table.specs.Standing.{Clean, bare, Set}
 use Rattle.table.proofs.Options.{kept, first, second, going-on, true-and}
-use Rattle.table.proofs.Clean.{Clean, high-again, fits-ordered}
-
--- where the records and the pool stand in bytes that begin with the records
-abbrev pub bare : ℕ → Layout
-bare A = record { records = 0; pool = record-size * A }
-
--- a good tree stands there, and ends within the records and the bytes
-pub record Set (s : Bytes) (A : ℕ) {o : Sort} (e : ℕ) (t : Syntax o) (i p d : ℕ) : Type 0 where
-  pub placed : Placed s (bare A) e t i p
-  pub good : Good d t
-  pub clean : Clean t
-  pub within : i + size t ≤ A
-  pub pooled : record-size * A + p + length (pool t) ≤ length s
+use Rattle.table.proofs.Clean.{fits-ordered}
 
 module _ (s : Bytes) (A : ℕ) where
   pub set-last : {e : ℕ} {a : Syntax atom} {i p d : ℕ} → Set s A e (last a) i p d → Set s A 1 a i p d
@@ -134,11 +121,6 @@ module _ (s : Bytes) (A : ℕ) where
       ∙ second _ _ _ (ne-eqb (its s A i .ends) 1 (λ x. omega (arith, z, x)))
       ∙ kept _ _ (eq-eqb _ _ z)
       ∙ going-on _ _ (ih .patterns e q _ _ d c (omega (arith, n, some-atom a)))
-
-  some-choice : (bs : Syntax branches) → 0 < choices bs
-  unfolding choices
-  some-choice (only q) = omega arith
-  some-choice (or q bs) = omega arith
 
   complete-branches : (f : ℕ) → Complete f → (e : ℕ) (bs : Syntax branches) (i p d : ℕ) → Set s A e bs i p d → 3 * size bs + 2 < suc f → read-branches s A (suc f) (choices bs) i p d ≡ some bs
   unfolding read-pattern size choices

@@ -1,36 +1,36 @@
 -- The checked walk with the test of the source's length reads bytes as `decode` does. Assumes nothing.
 use mathlib.Core.Path.{_≡_, refl, sym, ap, ap₂, subst, _∙_}
-use mathlib.Core.Logic.{_⊎_, inl, inr, ⊎-elim}
-use mathlib.Core.Bool.{Bool, true, false, _&&_}
+use mathlib.Core.Logic.{_⊎_, ⊎-elim}
+use mathlib.Core.Bool.{true, _&&_}
 use mathlib.Core.Option.{Option, none, some, Option·none-ne-some}
-use mathlib.Core.List.{List, [], _∷_, _++_, append-nil}
-use Prim.Native.Nat.{ℕ, zero, suc, _+_, _*_, _/_, _%_, _<_, _≤_}
+use mathlib.Core.List.{[], _++_, append-nil}
+use Prim.Native.Nat.{ℕ, _+_, _*_, _<_, _≤_}
 use native.Mathlib.Omega.{arith}
-use lib.Dec.{T, leb, eqb}
+use lib.Dec.{leb}
 use borrow.Author.Tests.{eqb-true, leb-true, le-leb, lt-leb, eq-eqb}
 use lib.ListN.{length, getD, take, drop, take-append-drop, drop-of-length-le, length-drop}
-use lib.Seq.{drop-drop, getD-drop}
-use Rattle.pattern.specs.Numbers.{mark, version, source-limit, atom-limit, header-size, record-size}
-use Rattle.pattern.specs.Bytes.{Bytes, word, same}
+use lib.Seq.{getD-drop}
+use Rattle.pattern.specs.Numbers.{source-limit, atom-limit, header-size, record-size}
+use Rattle.pattern.specs.Bytes.{Bytes, same}
 use Rattle.pattern.specs.Syntax.{pattern, Syntax, size}
-use Rattle.pattern.specs.Scan.{accepted, outcome}
 use Rattle.pattern.specs.Within.{Good, Limited}
 use Rattle.pattern.specs.Print.{print}
 use Rattle.pattern.specs.Table.{pool, records, flat, header, encode}
-use Rattle.pattern.specs.Decode.{field, layout, tree-of, decode}
-use Rattle.pattern.proofs.Tests.{Decides, passed, le-or-lt}
+use Rattle.pattern.specs.Decode.{decode}
+use Rattle.pattern.proofs.Tests.{le-or-lt}
 use Rattle.pattern.proofs.Agree.{same-decides}
 use Rattle.pattern.proofs.Accepted.{accepted-exactly}
 use Rattle.pattern.proofs.Records.{length-flat, count-records, next-there}
-use Rattle.pattern.proofs.RoundTrip.{encode-length, tree-encode, good-exactly}
+use Rattle.pattern.proofs.RoundTrip.{encode-length, good-exactly}
 use Rattle.pattern.proofs.Calls.{print-accepted}
 use Rattle.table.specs.Opening.{opening, header-of, headed}
 use Rattle.table.specs.Checked.{after, only-if, read-pattern, read, walk}
-use Rattle.table.proofs.Options.{inside, after-some, only-some, kept, dropped, going-on, stopped, and-true, true-and}
+use Rattle.table.specs.Standing.{Clean, Set}
+use Rattle.table.proofs.Options.{inside, after-some, only-some, kept, dropped, going-on, and-true, true-and}
 use Rattle.table.proofs.Places.{step, pair}
-use Rattle.table.proofs.Clean.{Clean, true-T, clean-spells, spells-clean}
-use Rattle.table.proofs.Sound.{Laid, There, Sound, sound}
-use Rattle.table.proofs.Complete.{Set, found}
+use Rattle.table.proofs.Clean.{true-T, clean-spells, spells-clean}
+use Rattle.table.proofs.Sound.{Laid, sound}
+use Rattle.table.proofs.Complete.{found}
 
 -- ---- what a header that passes says
 

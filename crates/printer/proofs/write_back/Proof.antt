@@ -1,7 +1,7 @@
 -- `write_back` meets its contract: each answer is what the test says of the table. Assumes nothing.
-use Rattle.printer.proofs.Writing.{good-is, table-written, long, room-written, room-start, kept-length, length-written}
 use mathlib.Core.Path.{sym, _∙_}
 use borrow.Author.Needs.{needs}
+use Rattle.printer.proofs.Writing.{good-is, table-written, long, room-written, room-start, kept-length, length-written}
 use Rattle.printer.proofs.write_back.Statement.{statement}
 use Rattle.printer.proofs.write_back.Tie as tie
 

@@ -1,13 +1,13 @@
 -- `parts::number` meets its contract: the last digit comes after those of the tenth. The number falls. Assumes nothing.
-use mathlib.Core.Path.{_≡_, sym, ap, _∙_}
+use mathlib.Core.Path.{sym, ap, _∙_}
 use Prim.Native.Nat.{ℕ, _/_, _<_}
 use native.Mathlib.Omega.{arith}
 use lib.ListN.{length, length-append, length-set}
+use borrow.Fn.Kinds.{In}
+use borrow.Fn.PlainCycle.{Measures, is, falls, and}
 use Rattle.pattern.specs.Print.{decimal}
 use Rattle.printer.proofs.Storing.{puts-byte, puts-more, puts-length, puts-as}
 use Rattle.printer.proofs.Parting.{decimal-one, decimal-more}
-use borrow.Fn.Kinds.{In}
-use borrow.Fn.PlainCycle.{Measures, is, falls, and}
 use Rattle.printer.proofs.parts.number.Reads as number
 use Rattle.printer.proofs.parts.number.Kinds as number-kinds
 use Rattle.printer.proofs.parts.+number.Lts-number as number-lts

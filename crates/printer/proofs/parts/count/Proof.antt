@@ -1,24 +1,23 @@
 -- `parts::count` meets its contract: one number, an open count, two numbers. Assumes nothing.
-use Rattle.printer.proofs.Parting.{count-exact, count-open, count-two, count-begins, high-small}
-use Rattle.printer.proofs.Storing.{puts-then, puts-more, puts-as, puts-length, puts-room}
-use Rattle.pattern.specs.Print.{decimal, print-low}
-use lib.ListN.{length, length-append, length-set}
-use native.Mathlib.Omega.{arith}
-use mathlib.Core.List.{[], _∷_, _++_}
-use Prim.Native.Nat.{_+_}
 use mathlib.Core.Path.{sym, ap, _∙_}
+use native.Mathlib.Omega.{arith}
+use lib.ListN.{length}
 use borrow.Author.Needs.{needs}
+use Rattle.pattern.specs.Print.{decimal}
+use Rattle.table.proofs.Sources.{count-open, count-two}
+use Rattle.printer.proofs.Parting.{exact-given, count-begins, high-small}
+use Rattle.printer.proofs.Storing.{puts-then, puts-more, puts-as, puts-length, puts-room}
 use Rattle.printer.proofs.parts.count.Statement.{statement}
 use Rattle.printer.proofs.parts.count.Tie as tie
 
 number-requires : tie.Need-number-requires
-number-requires c κs = (c .before .before .before .pre .0 .0, omega (arith, c .before .before .before .pre .1, ap length (count-exact (c .before .before .before .args .low) (c .before .before .before .args .high) (c .before .before .before .pre .0 .0) (c .before .if1 .taken))))
+number-requires c κs = (c .before .before .before .pre .0 .0, omega (arith, c .before .before .before .pre .1, ap length (exact-given (c .before .before .before .args .low) (c .before .before .before .args .high) (c .before .before .before .pre .0 .0) (c .before .if1 .taken))))
 
 same-length : tie.Need-same-length
 same-length c = search needs
 
 returns : tie.Need-returns
-returns c = puts-as (c .before .before .number .ensures) (sym (count-exact (c .before .before .before .before .before .before .args .low) (c .before .before .before .before .before .before .args .high) (c .before .before .before .before .before .before .pre .0 .0) (c .before .before .before .before .if1 .taken)))
+returns c = puts-as (c .before .before .number .ensures) (sym (exact-given (c .before .before .before .before .before .before .args .low) (c .before .before .before .before .before .before .args .high) (c .before .before .before .before .before .before .pre .0 .0) (c .before .before .before .before .if1 .taken)))
 
 low-number-requires : tie.Need-low-number-requires
 low-number-requires c κs = (c .before .before .before .pre .0 .0, omega (arith, c .before .before .before .pre .1, count-begins (c .before .before .before .args .low) (c .before .before .before .args .high) (c .before .if1 .left)))

@@ -1,13 +1,13 @@
 -- `parts::doubled` meets its contract: the bytes passed are written with their quotes doubled. Assumes nothing.
-use lib.ListN.{length, getD, drop}
+use mathlib.Core.Logic.{⊎-elim}
 use mathlib.Core.List.{_∷_}
 use Prim.Native.Nat.{suc, _-_, _≤_}
-use mathlib.Core.Logic.{⊎-elim}
-use Rattle.printer.proofs.Parting.{quote-on, plain-on, quote-room, byte-on, byte-room, double-end}
-use Rattle.printer.proofs.Storing.{Partly, partly-start, partly-as, partly-byte, partly-end, partly-length, partly-room}
-use Rattle.pattern.specs.Print.{double}
-use mathlib.Core.Path.{_≡_, refl, sym}
 use native.Mathlib.Omega.{arith}
+use lib.ListN.{length, getD, drop}
+use Rattle.pattern.specs.Print.{double}
+use Rattle.table.proofs.Sources.{double-end}
+use Rattle.printer.proofs.Parting.{quote-on, plain-on, quote-room, byte-on, byte-room}
+use Rattle.printer.proofs.Storing.{Partly, partly-start, partly-as, partly-end, partly-length}
 use Rattle.printer.proofs.parts.doubled.Statement.{statement}
 use Rattle.printer.proofs.parts.doubled.Tie as tie
 

@@ -1,14 +1,13 @@
 -- `parts::letters` meets its contract: the codes passed have their letters written. Assumes nothing.
-use borrow.Author.Needs.{needs}
+use mathlib.Core.Path.{_≡_}
 use mathlib.Core.Logic.{⊎-elim}
-use Rattle.printer.proofs.Parting.{letters-on, letters-off, letter-room, letters-end}
-use Rattle.printer.proofs.Storing.{Partly, partly-start, partly-as, partly-byte, partly-end, partly-length, partly-room}
+use Prim.Native.Nat.{_-_, _≤_}
+use native.Mathlib.Omega.{arith}
+use lib.ListN.{drop}
 use Rattle.pattern.specs.Print.{print-set}
 use Rattle.pattern.specs.Codes.{all-codes}
-use lib.ListN.{length, drop}
-use Prim.Native.Nat.{_-_, _≤_}
-use mathlib.Core.Path.{_≡_, refl, sym}
-use native.Mathlib.Omega.{arith}
+use Rattle.printer.proofs.Parting.{letters-on, letters-off, letter-room, letters-end}
+use Rattle.printer.proofs.Storing.{Partly, partly-start, partly-as, partly-end, partly-length}
 use Rattle.printer.proofs.parts.letters.Statement.{statement}
 use Rattle.printer.proofs.parts.letters.Tie as tie
 

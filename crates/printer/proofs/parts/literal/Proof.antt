@@ -1,12 +1,10 @@
 -- `parts::literal` meets its contract: a quote, the doubled value, a quote. Assumes nothing.
-use Rattle.printer.proofs.Storing.{puts-byte, puts-then, puts-more, puts-length, puts-room}
-use Rattle.pattern.specs.Print.{double}
-use lib.ListN.{length, length-append, length-set}
+use mathlib.Core.List.{[], _∷_}
 use native.Mathlib.Omega.{arith}
-use mathlib.Core.List.{[], _∷_, _++_}
-use Prim.Native.Nat.{_+_}
-use mathlib.Core.Path.{sym, ap, _∙_}
+use lib.ListN.{length-append, length-set}
 use borrow.Author.Needs.{needs}
+use Rattle.pattern.specs.Print.{double}
+use Rattle.printer.proofs.Storing.{puts-byte, puts-then, puts-more, puts-length, puts-room}
 use Rattle.printer.proofs.parts.literal.Statement.{statement}
 use Rattle.printer.proofs.parts.literal.Tie as tie
 

@@ -1,10 +1,10 @@
 -- `parts::low_number` meets its contract: 0 is left out. Assumes nothing.
-use Rattle.printer.proofs.Parting.{low-zero, low-other}
-use Rattle.printer.proofs.Storing.{puts-none, puts-as}
-use lib.ListN.{length}
-use native.Mathlib.Omega.{arith}
 use mathlib.Core.Path.{sym, ap}
+use native.Mathlib.Omega.{arith}
+use lib.ListN.{length}
 use borrow.Author.Needs.{needs}
+use Rattle.table.proofs.Sources.{low-zero, low-other}
+use Rattle.printer.proofs.Storing.{puts-none, puts-as}
 use Rattle.printer.proofs.parts.low_number.Statement.{statement}
 use Rattle.printer.proofs.parts.low_number.Tie as tie
 

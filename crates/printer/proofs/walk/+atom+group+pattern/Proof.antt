@@ -1,13 +1,13 @@
 -- The proof of the cycle of calls {atom, group, pattern}. The atoms left fall: an atom calls the branches from the next atom on, a group its first branch at the same place, a pattern its first atom at the same place.
 -- Assumes nothing.
-use mathlib.Core.Path.{_≡_, sym, ap, _∙_}
 use Prim.Native.Nat.{ℕ, _+_, _*_, _-_, _<_}
 use native.Mathlib.Omega.{arith}
 use borrow.Author.Needs.{needs}
-use Rattle.printer.proofs.Storing.{puts-length}
-use Rattle.printer.proofs.Walking.{printed-length, branched-length, atom-room, pattern-room, first-room, last-printed, rest-room, rest-on, then-printed, count-room, letters-room, codes-printed, text-in, literal-room, literal-printed, open-room, inner-room, close-room, close-fits, group-printed, branch-room, only-printed, comma-room, more-room, more-on, or-printed, some-branch}
 use borrow.Fn.Kinds.{In}
 use borrow.Fn.PlainCycle.{Measures, is, falls, and}
+use Rattle.table.proofs.fields.Reads as fields-reads
+use Rattle.printer.proofs.Storing.{puts-length}
+use Rattle.printer.proofs.Walking.{printed-length, branched-length, atom-room, pattern-room, first-room, last-printed, rest-room, rest-on, then-printed, count-room, letters-room, codes-printed, text-in, literal-room, literal-printed, open-room, inner-room, close-room, close-fits, group-printed, branch-room, only-printed, comma-room, more-room, more-on, or-printed, some-branch}
 use Rattle.printer.proofs.walk.atom.Reads as atom
 use Rattle.printer.proofs.walk.atom.Kinds as atom-kinds
 use Rattle.printer.proofs.walk.+atom+group+pattern.Lts-atom as atom-lts
@@ -20,7 +20,6 @@ use Rattle.printer.proofs.walk.+atom+group+pattern.Lts-pattern as patte
 use Rattle.printer.proofs.parts.count.Reads as count-reads
 use Rattle.printer.proofs.parts.letters.Reads as letters-reads
 use Rattle.printer.proofs.parts.literal.Reads as literal-reads
-use Rattle.table.proofs.fields.Reads as fields-reads
 use Rattle.printer.proofs.walk.+atom+group+pattern.{statement}
 use Rattle.printer.proofs.walk.+atom+group+pattern.Tie.{close}
 
