@@ -2,21 +2,21 @@
 use mathlib.Core.Path.{_≡_, refl, sym, ap, ap₂, _∙_, subst}
 use mathlib.Core.Logic.{⊎-elim}
 use mathlib.Core.Bool.{Bool, true, false, _&&_, cond}
-use mathlib.Core.List.{List, [], _∷_}
+use mathlib.Core.List.{[], _∷_}
 use mathlib.Core.Option.{Option, none, some}
-use Prim.Native.Nat.{ℕ, zero, suc, _+_, _-_, _*_, _≤_, _<_}
+use Prim.Native.Nat.{ℕ, suc, _+_, _-_, _≤_, _<_}
 use native.Mathlib.Omega.{arith}
 use lib.Dec.{leb, ltb, eqb}
 use lib.ListN.{length, drop, getD}
 use lib.Seq.{drop-cons, drop-drop}
-use borrow.Author.Tests.{lt-ltb, le-ltb, le-leb, lt-leb, eq-eqb, ne-eqb, ltb-true, ltb-false, leb-false}
+use borrow.Author.Tests.{lt-ltb, le-ltb, le-leb, eq-eqb, ne-eqb, ltb-false, leb-false}
 use Rattle.pattern.specs.Numbers.{number-limit, atom-limit, open-high, FORM, NUMBER, RANGE, ATOMS}
 use Rattle.pattern.specs.Bytes.{Bytes}
 use Rattle.pattern.specs.Table.{high-field}
 use Rattle.pattern.specs.Repeats.{repeat-of}
 use Rattle.pattern.specs.Spelling.{Mark, digit, point, Kind, counts, starts, ends, kind}
 use Rattle.pattern.specs.Reading.{Run, empty, first, pointed, second, counting, Around, grow, move, step, finish}
-use Rattle.pattern.specs.Scan.{low, high, ahead, large, falls, refuse, atom-fault, refused}
+use Rattle.pattern.specs.Scan.{low, high, ahead, large, falls, refuse, atom-fault}
 use Rattle.pattern.specs.declared.repeat.Repeat.{Repeat}
 use Rattle.pattern.proofs.Tests.{le-or-lt}
 use Rattle.compiler.specs.declared.cursor.Cursor.{Cursor}
@@ -25,10 +25,10 @@ use Rattle.compiler.specs.declared.cursor.Point.the-variants as points
 use Rattle.compiler.specs.declared.count.Number.{Number}
 use Rattle.compiler.specs.declared.count.Counted.{Counted}
 use Rattle.compiler.specs.declared.count.Counted.the-variants as counted
-use Rattle.compiler.specs.Places.{Onward, kind-at, KindIs, Kind-not, PointRead}
+use Rattle.compiler.specs.Places.{kind-at, KindIs, Kind-not, PointRead}
 use Rattle.compiler.specs.Scans.{scanned}
-use Rattle.compiler.specs.Counts.{lead, number, cap, large-number, NumberRead, judge, CountIs, CountRefused, CountRead}
-use Rattle.compiler.proofs.Pass.{extent, over, past-count, count-scan, ending-refused, ending-passed}
+use Rattle.compiler.specs.Counts.{lead, number, cap, large-number, NumberRead, judge, CountRead}
+use Rattle.compiler.proofs.Pass.{over, past-count, count-scan, ending-refused, ending-passed}
 use Rattle.compiler.proofs.Steps.{stuck, short}
 use Rattle.compiler.proofs.Numbers.{cap-small, cap-large, cap-least, lead-more}
 use Rattle.compiler.proofs.Runs.{Runs, Stops, run-stops, digit-begins, runs-exact, runs-open, runs-closed}

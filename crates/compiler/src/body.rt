@@ -1,5 +1,4 @@
 // Code letters and literals.
-ghost use mathlib.Core.Path.{_≡_};
 ghost use Prim.Native.Nat.{_≤_};
 ghost use lib.ListN.{length};
 ghost use Rattle.compiler.specs.Bodies.{CodesRead, LiteralRead};
