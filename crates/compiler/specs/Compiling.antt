@@ -6,8 +6,8 @@ use Rattle.pattern.specs.Numbers.{source-limit, atom-limit, record-size}
 use Rattle.pattern.specs.Bytes.{Bytes}
 use Rattle.pattern.specs.Table.{header}
 use Rattle.pattern.specs.Answers.{Answer, refusal, result, Output, put}
-use Rattle.compiler.specs.declared.emit.Compiled.{Compiled}
-use Rattle.compiler.specs.declared.emit.Compiled.the-variants as compiled
+use Rattle.compiler.specs.declared.Compiled.{Compiled}
+use Rattle.compiler.specs.declared.Compiled.the-variants as compiled
 
 -- number, position and value of each case; a compiling call has no trials
 abbrev pub answer-of : Compiled → Answer

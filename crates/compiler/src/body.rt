@@ -7,6 +7,9 @@ use crate::cursor::Letter;
 use crate::cursor::Text;
 use pattern::codes;
 
+// The bit of every letter other than the seven.
+const OTHER: u8 = 128;
+
 // The set of a run of code letters, or the place of a letter that is no code.
 pub enum Letters {
     Set(u8, Cursor),
@@ -29,7 +32,7 @@ pub fn codes_from(s: &[u8], c: Cursor) -> Letters
         match at.letter(s) {
             Letter::Is(b, next) => {
                 let bit = codes::bit(b);
-                if 128 <= bit {
+                if OTHER <= bit {
                     return Letters::Fault(at.at);
                 }
                 set |= bit;
