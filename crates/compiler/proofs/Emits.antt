@@ -17,10 +17,11 @@ use Rattle.pattern.specs.Table.{pool, Rec, records, flat, header, encode}
 use Rattle.pattern.specs.Answers.{Answer, refusal, result, Output, put, compileOf}
 use Rattle.pattern.proofs.Tests.{if-true, if-false}
 use Rattle.pattern.proofs.Records.{length-flat, count-records}
+use Rattle.pattern.proofs.Complete.{ended}
 use Rattle.compiler.specs.declared.reader.State.{State}
 use Rattle.compiler.specs.declared.reader.Parsed.{Parsed}
 use Rattle.compiler.specs.declared.reader.Parsed.the-variants as parsed
-use Rattle.compiler.specs.Scans.{scanned, ended}
+use Rattle.compiler.specs.Scans.{scanned}
 use Rattle.compiler.specs.Buffers.{stored}
 use Rattle.compiler.specs.Readers.{Refused, PatternIs, PatternRead}
 use Rattle.compiler.specs.Compiling.{Emits, emitted}

@@ -12,9 +12,10 @@ use Rattle.pattern.specs.Syntax.{pattern, atom, body, branches, Syntax, last, t
 use Rattle.pattern.specs.Spelling.{quote, opening, starts, kind}
 use Rattle.pattern.specs.Reading.{counting, empty, Around, within, fork, next}
 use Rattle.pattern.specs.Scan.{low, high, depth}
-use Rattle.pattern.specs.Table.{choices, flat}
+use Rattle.pattern.specs.Table.{pool, choices, flat}
 use Rattle.pattern.specs.declared.repeat.Repeat.{Repeat}
 use Rattle.pattern.proofs.RoundTrip.{some-pattern}
+use Rattle.pattern.proofs.Complete.{ended}
 use Rattle.compiler.specs.declared.cursor.Cursor.{Cursor}
 use Rattle.compiler.specs.declared.cursor.Class.{Class}
 use Rattle.compiler.specs.declared.cursor.Class.the-variants as class
@@ -28,8 +29,9 @@ use Rattle.compiler.specs.declared.reader.Parsed.the-variants as parsed
 use Rattle.compiler.specs.declared.reader.Grouped.{Grouped}
 use Rattle.compiler.specs.declared.reader.Grouped.the-variants as grouped
 use Rattle.compiler.specs.Places.{flag, kind-at, ByteIs, KindIs, ClassRead, SeparatorRead}
-use Rattle.compiler.specs.Scans.{scanned, ended}
+use Rattle.compiler.specs.Scans.{scanned}
 use Rattle.compiler.specs.Buffers.{stored, rec-of}
+use Rattle.compiler.specs.Bodies.{Inside, in-codes, in-literal}
 use Rattle.compiler.specs.Counts.{CountIs, CountRefused, CountRead}
 use Rattle.compiler.specs.Readers.{Ready, Settled, tail, LeafRead, CodedRead, WordedRead, Refused, AtomIs, AtomRead, PatternIs, PatternRead, GroupIs, GroupRefused, GroupRead}
 use Rattle.compiler.proofs.Leaves.{state}
@@ -56,39 +58,39 @@ module _ (s : Bytes) (st : State) (d : ℕ) (recs text : Bytes) where
   atom-fault r f q recs′ text′ e h = let x : CountRefused s (st .at .at) (st .atoms) f q = subst (λ r. CountRead s (st .at .at) (st .atoms) r) e h in record { scan = λ k z. x .scan k }
 
   module _ (ready : Ready s st d) (rep : Repeat) (at : Cursor) (c : CountIs s (st .at .at) (st .atoms) rep at) (r : Class) (h : ClassRead s (at .at) r) where
-    pub atom-coded : (recs′ : Bytes) (a : Parsed) → r ≡ class.Letter → CodedRead s (at .at) (st .atoms) (st .pool) rep recs recs′ a → AtomRead s st d recs recs′ text text a
-    unfolding ClassRead LeafRead AtomRead
-    atom-coded recs′ (parsed.Fault f q) e x =
-        let (w, y) = subst (λ r. ClassRead s (at .at) r) e h in
-        record { scan = λ k z. c .scan k ∙ codes-enter s (at .at) (suc (st .atoms)) k (c .run) (c .some-run) w y ∙ x .scan (low (c .run)) (high (c .run)) k (suc (st .atoms)) }
-    atom-coded recs′ (parsed.Done u) e x =
-        let (w, y) = subst (λ r. ClassRead s (at .at) r) e h in
+    -- a leaf that the scan enters after the count
+    atom-leaf : (from : Inside) (P : Bytes → Type 0) (i : ℕ) (recs′ text′ : Bytes) (a : Parsed) → at .at ≤ i
+        → ((k : Around) → scanned s (counting (c .run), k) (at .at) (suc (st .atoms)) ≡ scanned s (from (low (c .run)) (high (c .run)) k) i (suc (st .atoms)))
+        → ((v : Bytes) → P v → text′ ≡ stored text (st .pool) v) → LeafRead s from P i (st .atoms) (st .pool) rep recs recs′ a → AtomRead s st d recs recs′ text text′ a
+    unfolding LeafRead AtomRead
+    atom-leaf from P i recs′ text′ (parsed.Fault f q) o y w x = record { scan = λ k z. c .scan k ∙ y k ∙ x .scan (low (c .run)) (high (c .run)) k (suc (st .atoms)) }
+    atom-leaf from P i recs′ text′ (parsed.Done u) o y w x =
+        let l : ℕ = low (c .run) in
+        let m : Option ℕ = high (c .run) in
         record {
-          low = low (c .run);
-          high = high (c .run);
+          low = l;
+          high = m;
           body = x .body;
           moved = record { on = omega (arith, c .onward .on, x .on); within = x .within; atoms = omega (arith, c .room, x .atoms); pool = x .fits };
-          wrote = wrote-leaf (flag s (u .at .at)) (low (c .run)) (high (c .run)) (x .body) rep (st .atoms) (st .pool) (u .atoms) (u .pool) recs recs′ text text (x .alone) (x .single) (c .rep-is) (x .atoms) (x .pooled) (x .recs-are) (rw (x .text-is) (sym (stored-none text (st .pool))));
-          scan = λ k z. c .scan k ∙ codes-enter s (at .at) (suc (st .atoms)) k (c .run) (c .some-run) w y ∙ x .scan (low (c .run)) (high (c .run)) k (suc (st .atoms)) ∙ rw (x .atoms, add-one);
+          wrote = wrote-leaf (flag s (u .at .at)) l m (x .body) rep (st .atoms) (st .pool) (u .atoms) (u .pool) recs recs′ text text′
+              (x .alone) (x .single) (c .rep-is) (x .atoms) (x .pooled) (x .recs-are) (w (pool (x .body)) (x .text-is));
+          scan = λ k z. c .scan k ∙ y k ∙ x .scan l m k (suc (st .atoms)) ∙ rw (x .atoms, add-one);
           settled = x .settled;
         }
 
+    pub atom-coded : (recs′ : Bytes) (a : Parsed) → r ≡ class.Letter → CodedRead s (at .at) (st .atoms) (st .pool) rep recs recs′ a → AtomRead s st d recs recs′ text text a
+    unfolding ClassRead
+    atom-coded recs′ a e x =
+        let (w, y) = subst (λ r. ClassRead s (at .at) r) e h in
+        atom-leaf (in-codes 0) (λ v. v ≡ []) (at .at) recs′ text a (omega arith)
+        (λ k. codes-enter s (at .at) (suc (st .atoms)) k (c .run) (c .some-run) w y)
+        (λ v z. rw z (sym (stored-none text (st .pool)))) x
+
     pub atom-worded : (later : Cursor) (recs′ text′ : Bytes) (a : Parsed) → r ≡ class.Quote later → WordedRead s (later .at) (st .atoms) (st .pool) rep recs recs′ text text′ a → AtomRead s st d recs recs′ text text′ a
-    unfolding ClassRead LeafRead AtomRead
-    atom-worded later recs′ text′ (parsed.Fault f q) e x =
-        let y = subst (λ r. ClassRead s (at .at) r) e h in
-        record { scan = λ k z. c .scan k ∙ literal-enter s (at .at) (suc (st .atoms)) k (c .run) (c .some-run) (y .within) (y .kind) ∙ (rw (y .past) at (x .scan (low (c .run)) (high (c .run)) k (suc (st .atoms)))) }
-    atom-worded later recs′ text′ (parsed.Done u) e x =
-        let y = subst (λ r. ClassRead s (at .at) r) e h in
-        record {
-          low = low (c .run);
-          high = high (c .run);
-          body = x .body;
-          moved = record { on = omega (arith, c .onward .on, x .on, y .past); within = x .within; atoms = omega (arith, c .room, x .atoms); pool = x .fits };
-          wrote = wrote-leaf (flag s (u .at .at)) (low (c .run)) (high (c .run)) (x .body) rep (st .atoms) (st .pool) (u .atoms) (u .pool) recs recs′ text text′ (x .alone) (x .single) (c .rep-is) (x .atoms) (x .pooled) (x .recs-are) (x .text-is);
-          scan = λ k z. c .scan k ∙ literal-enter s (at .at) (suc (st .atoms)) k (c .run) (c .some-run) (y .within) (y .kind) ∙ (rw (y .past) at (x .scan (low (c .run)) (high (c .run)) k (suc (st .atoms)))) ∙ rw (x .atoms, add-one);
-          settled = x .settled;
-        }
+    atom-worded later recs′ text′ a e x =
+        let y = quote-is s (at .at) r later e h in
+        atom-leaf (in-literal []) (λ v. text′ ≡ stored text (st .pool) v) (later .at) recs′ text′ a (omega (arith, y .past))
+        (λ k. literal-enter s (at .at) (suc (st .atoms)) k (c .run) (c .some-run) (y .within) (y .kind) ∙ rw (y .past)) (λ v z. z) x
 
     pub atom-other : (recs′ text′ : Bytes) → r ≡ class.Other → AtomRead s st d recs recs′ text text′ (parsed.Fault FORM (at .at))
     unfolding ClassRead AtomRead
