@@ -1,12 +1,12 @@
 -- The table that is written, and the answer of compiling. Assumes nothing.
 use mathlib.Core.Path.{_≡_, refl, sym, ap, ap₂, _∙_, subst}
-use mathlib.Core.Bool.{Bool, true, false, cond}
+use mathlib.Core.Bool.{cond}
 use mathlib.Core.List.{List, [], _∷_, _++_, append-assoc}
-use Prim.Native.Nat.{ℕ, suc, _+_, _*_, _<_, _≤_}
+use Prim.Native.Nat.{ℕ, _+_, _*_, _<_, _≤_}
 use native.Mathlib.Omega.{arith}
 use lib.Dec.{leb}
 use lib.ListN.{length, take, drop, set, length-append}
-use lib.Seq.{sets, sets-eq, take-append-seam, length-take-le}
+use lib.Seq.{sets-eq, take-append-seam, length-take-le}
 use borrow.Author.Tests.{le-leb, lt-leb}
 use Rattle.pattern.specs.Numbers.{source-limit, atom-limit, header-size, record-size, mark, version, LONG, FORM, ROOM}
 use Rattle.pattern.specs.Bytes.{Bytes, word, over}
@@ -17,11 +17,11 @@ use Rattle.pattern.specs.Table.{pool, Rec, records, flat, header, encode}
 use Rattle.pattern.specs.Answers.{Answer, refusal, result, Output, put, compiled, compileOf}
 use Rattle.pattern.proofs.Calls.{put-fits, put-short}
 use Rattle.pattern.proofs.Records.{length-flat, count-records}
+use Rattle.pattern.proofs.Complete.{ended}
 use Rattle.compiler.specs.declared.reader.State.{State}
 use Rattle.compiler.specs.declared.reader.Parsed.{Parsed}
 use Rattle.compiler.specs.declared.reader.Parsed.the-variants as parsed
-use Rattle.compiler.specs.declared.cursor.Cursor.{Cursor}
-use Rattle.compiler.specs.Scans.{scanned, ended}
+use Rattle.compiler.specs.Scans.{scanned}
 use Rattle.compiler.specs.Buffers.{stored}
 use Rattle.compiler.specs.Readers.{Refused, PatternIs, PatternRead}
 use Rattle.compiler.specs.Compiling.{Emits, emitted}
