@@ -13,3 +13,4 @@ pub mod Following
 pub mod Ends
 pub mod Runs
 pub mod Refusals
+pub mod Budgets

@@ -1,13 +1,10 @@
 -- The refusals of a match from 11 to 14, in order, and what holds where none applies. Assumes nothing.
-use mathlib.Core.Path.{_≡_, refl, sym, ap, subst, _∙_}
-use mathlib.Core.Bool.{Bool, true, false}
-use mathlib.Core.List.{List, [], _∷_}
+use mathlib.Core.Path.{_≡_, refl, sym, ap, _∙_}
 use mathlib.Core.Option.{Option, none, some}
-use Prim.Native.Nat.{ℕ, suc, _+_, _*_, _≤_, _<_}
+use Prim.Native.Nat.{ℕ, _+_, _*_, _≤_, _<_}
 use native.Mathlib.Nat.{mul-le-mul-left, mul-le-mul-right}
 use native.Mathlib.Omega.{arith}
 use borrow.Author.Tests.{lt-ltb, le-ltb}
-use lib.Dec.{ltb}
 use lib.ListN.{length}
 use Rattle.pattern.specs.Numbers.{atom-limit, label-limit, TABLE, LABEL, WORK, PARTS}
 use Rattle.pattern.specs.Bytes.{Bytes}
@@ -20,7 +17,6 @@ use Rattle.pattern.proofs.Accepted.{accepted-exactly}
 use Rattle.pattern.proofs.RoundTrip.{some-atom, tree-encode}
 use Rattle.pattern.proofs.Calls.{print-accepted, decoded-encode}
 use Rattle.table.specs.declared.Summary.{Summary}
-use Rattle.table.specs.declared.Tested.{Tested}
 use Rattle.table.specs.declared.Tested.the-variants.{Bad, Good}
 use Rattle.table.specs.Walk.{tested}
 use Rattle.matcher.specs.Atoms.{GoodTable, atoms}

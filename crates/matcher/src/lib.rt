@@ -47,7 +47,7 @@ fn run(
     let len = (top + 4) * w * w;
     let t = settle_all(table, label, scratch, w, top, budget);
     if t.stopped {
-        clear(scratch, len);
+        clear(scratch, len); // on 15 too
         return Matched::Exhausted;
     }
     if holds(scratch, w, 1, 0, n) {

@@ -1,0 +1,44 @@
+-- The three sentences on budgets, of the matching call: what its answer, scratch and parts are where no other refusal applies. Assumes nothing.
+use mathlib.Core.Path.{_≡_, sym, _∙_}
+use mathlib.Core.Option.{none, some}
+use Prim.Native.Nat.{ℕ, _≤_, _<_}
+use lib.ListN.{length}
+use Rattle.pattern.specs.Numbers.{BUDGET}
+use Rattle.pattern.specs.Bytes.{Bytes}
+use Rattle.pattern.specs.Syntax.{pattern, Syntax, size}
+use Rattle.pattern.specs.Parts.{verdict}
+use Rattle.pattern.specs.Trials.{trials, trial-bound}
+use Rattle.pattern.specs.Decode.{decode}
+use Rattle.pattern.specs.Answers.{cleared, lent-fault, judged, matchOf}
+use Rattle.pattern.proofs.Bound.{bound}
+use Rattle.pattern.proofs.Calls.{within-budget, beyond-budget, budgets-agree, bound-enough}
+use Rattle.matcher.specs.declared.Matched.{Matched}
+use Rattle.matcher.specs.Answered.{outcome-of}
+
+-- what `match_label` promises of its answer, and of scratch and parts afterwards
+abbrev pub Promised : (table label scratch parts : Bytes) → (budget : ℕ) → Matched → (scratch′ parts′ : Bytes) → Type 0
+Promised table label scratch parts budget r scratch′ parts′ = outcome-of budget r scratch′ parts′ ≡ matchOf table label scratch parts budget
+
+module _ (table label scratch parts : Bytes) (t : Syntax pattern) (good : decode table ≡ some t) (lent : lent-fault t label scratch parts ≡ none) where
+  module _ (budget : ℕ) (r : Matched) (scratch′ parts′ : Bytes) (call : Promised table label scratch parts budget r scratch′ parts′) where
+    -- "A verdict is given exactly when that count is within the caller's budget": the verdict, with the count that the paper defines
+    pub call-within : trials label t ≤ budget → outcome-of budget r scratch′ parts′ ≡ judged t label scratch parts (verdict label t)
+    call-within h = call ∙ within-budget table label scratch parts t good lent budget h
+
+    -- "otherwise the answer is refusal 15, which reports the budget"; no part is written and scratch is cleared
+    pub call-beyond : budget < trials label t
+        → outcome-of budget r scratch′ parts′ ≡ record { answer = record { number = BUDGET; position = 0; value = 0; trials = budget }; scratch = cleared t (length label) scratch; parts = parts }
+    call-beyond h = call ∙ beyond-budget table label scratch parts t good lent budget h
+
+    -- "A budget of that bound is always enough"
+    pub call-bound : trial-bound (size t) (length label) ≤ budget → outcome-of budget r scratch′ parts′ ≡ judged t label scratch parts (verdict label t)
+    call-bound h = call ∙ bound-enough table label scratch parts t good lent budget h
+
+    -- the call never makes more trials than the bound
+    pub count-bound : trials label t ≤ trial-bound (size t) (length label)
+    count-bound = bound label t
+
+  -- "Every other budget that the count is within gives the same verdict, the same parts written and the same number reported"
+  pub calls-agree : (b c : ℕ) (r q : Matched) (s p s′ p′ : Bytes) → Promised table label scratch parts b r s p → Promised table label scratch parts c q s′ p′
+      → trials label t ≤ b → trials label t ≤ c → outcome-of b r s p ≡ outcome-of c q s′ p′
+  calls-agree b c r q s p s′ p′ x y h k = x ∙ budgets-agree table label scratch parts t good lent b c h k ∙ sym y
