@@ -16,7 +16,7 @@ use Rattle.pattern.specs.Reading.{Run, empty, first, pointed, second, counting,
 use Rattle.pattern.specs.Scan.{low, high, depth, body-begins, begins, begun, refuse, fault, Outcome, refused, accepted, scan}
 use Rattle.pattern.proofs.Tests.{le-or-lt}
 use Rattle.pattern.proofs.Notation.{kind-byte}
-use Rattle.pattern.proofs.Complete.{ended, ended-closes, ended-parts}
+use Rattle.pattern.proofs.SpeltReads.{ended, ended-closes, ended-parts}
 use Rattle.compiler.specs.Places.{kind-at, count-flag, flag, Kind-not}
 use Rattle.compiler.specs.Scans.{scanned}
 use Rattle.compiler.specs.Readers.{Settled, tail}

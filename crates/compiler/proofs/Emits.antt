@@ -17,7 +17,7 @@ use Rattle.pattern.specs.Table.{pool, Rec, records, flat, header, encode}
 use Rattle.pattern.specs.Answers.{Answer, refusal, result, Output, put, compiled, compileOf}
 use Rattle.pattern.proofs.Calls.{put-fits, put-short}
 use Rattle.pattern.proofs.Records.{length-flat, count-records}
-use Rattle.pattern.proofs.Complete.{ended}
+use Rattle.pattern.proofs.SpeltReads.{ended}
 use Rattle.compiler.specs.declared.reader.State.{State}
 use Rattle.compiler.specs.declared.reader.Parsed.{Parsed}
 use Rattle.compiler.specs.declared.reader.Parsed.the-variants as parsed

@@ -15,7 +15,7 @@ use Rattle.pattern.specs.Scan.{low, high, depth}
 use Rattle.pattern.specs.Table.{pool, choices, flat}
 use Rattle.pattern.specs.declared.repeat.Repeat.{Repeat}
 use Rattle.pattern.proofs.RoundTrip.{some-pattern}
-use Rattle.pattern.proofs.Complete.{ended}
+use Rattle.pattern.proofs.SpeltReads.{ended}
 use Rattle.compiler.specs.declared.cursor.Cursor.{Cursor}
 use Rattle.compiler.specs.declared.cursor.Class.{Class}
 use Rattle.compiler.specs.declared.cursor.Class.the-variants as class

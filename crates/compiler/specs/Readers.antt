@@ -12,7 +12,7 @@ use Rattle.pattern.specs.Reading.{counting, empty, after, Around, within, fork}
 use Rattle.pattern.specs.Scan.{depth, refused}
 use Rattle.pattern.specs.Table.{pool, choices, kind-field, a-field, b-field, records, flat}
 use Rattle.pattern.specs.declared.repeat.Repeat.{Repeat}
-use Rattle.pattern.proofs.Complete.{ended}
+use Rattle.pattern.proofs.SpeltReads.{ended}
 use Rattle.compiler.specs.declared.reader.State.{State}
 use Rattle.compiler.specs.declared.reader.Parsed.{Parsed}
 use Rattle.compiler.specs.declared.reader.Parsed.the-variants as parsed

@@ -22,7 +22,7 @@ Promised table label scratch parts budget r scratch′ parts′ = outcome-of bud
 module _ (table label scratch parts : Bytes) (t : Syntax pattern) (good : decode table ≡ some t) (lent : lent-fault t label scratch parts ≡ none) where
   module _ (budget : ℕ) (r : Matched) (scratch′ parts′ : Bytes) (call : Promised table label scratch parts budget r scratch′ parts′) where
     -- "A verdict is given exactly when that count is within the caller's budget": the verdict, with the count that the paper defines
-    pub call-within : trials label t ≤ budget → outcome-of budget r scratch′ parts′ ≡ judged t label scratch parts (verdict label t)
+    pub call-within : trials label t ≤ budget → outcome-of budget r scratch′ parts′ ≡ judged (verdict label t) t label scratch parts
     call-within h = call ∙ within-budget table label scratch parts t good lent budget h
 
     -- "otherwise the answer is refusal 15, which reports the budget"; no part is written and scratch is cleared
@@ -31,7 +31,7 @@ module _ (table label scratch parts : Bytes) (t : Syntax pattern) (good : decode
     call-beyond h = call ∙ beyond-budget table label scratch parts t good lent budget h
 
     -- "A budget of that bound is always enough"
-    pub call-bound : trial-bound (size t) (length label) ≤ budget → outcome-of budget r scratch′ parts′ ≡ judged t label scratch parts (verdict label t)
+    pub call-bound : trial-bound (size t) (length label) ≤ budget → outcome-of budget r scratch′ parts′ ≡ judged (verdict label t) t label scratch parts
     call-bound h = call ∙ bound-enough table label scratch parts t good lent budget h
 
     -- the call never makes more trials than the bound

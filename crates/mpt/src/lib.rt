@@ -3,8 +3,8 @@ pub mod area;
 
 use crate::area::AREA_SIZE;
 use crate::area::put_answer;
+use compiler::Compiled;
 use compiler::compile;
-use compiler::emit::Compiled;
 use matcher::Matched;
 use matcher::match_label;
 use printer::Written;
