@@ -1,6 +1,6 @@
 -- What compiling answers, by the cases of the code's answer; and what is written of a finished reading. Assumes nothing.
 use mathlib.Core.List.{_++_}
-use Prim.Native.Nat.{ℕ, _+_, _*_, _≤_}
+use Prim.Native.Nat.{ℕ, _*_, _≤_}
 use lib.ListN.{length, take}
 use Rattle.pattern.specs.Numbers.{source-limit, atom-limit, record-size}
 use Rattle.pattern.specs.Bytes.{Bytes}

@@ -1,7 +1,6 @@
 -- The number returned and the area afterwards, from what the called function answers. Assumes nothing.
-use mathlib.Core.Path.{_≡_, refl, sym, ap, _∙_}
-use mathlib.Core.Bool.{Bool, true, false}
-use Prim.Native.Nat.{ℕ, _≤_, _<_}
+use mathlib.Core.Path.{_≡_, sym, ap, _∙_}
+use Prim.Native.Nat.{_≤_, _<_}
 use lib.Dec.{leb}
 use lib.ListN.{length}
 use borrow.Author.Tests.{le-leb, lt-leb}
@@ -9,7 +8,7 @@ use Rattle.pattern.specs.Numbers.{ANSWER}
 use Rattle.pattern.specs.Bytes.{Bytes, over}
 use Rattle.pattern.specs.Answers.{Answer, Output, Matched}
 use Rattle.mpt.specs.Area.{area-size, area}
-use Rattle.mpt.specs.Calls.{Called, called, MatchCalled, match-called}
+use Rattle.mpt.specs.Calls.{called, match-called}
 
 pub short-area : (o : Output) (lent answer : Bytes) → length answer < area-size → record { number = ANSWER; bytes = lent; answer = answer } ≡ called (leb area-size (length answer)) o lent answer
 unfolding called

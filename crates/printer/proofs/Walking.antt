@@ -7,7 +7,7 @@ use lib.ListN.{length, set, take, drop, length-append}
 use Rattle.pattern.specs.Numbers.{record-size, quote-byte, opening-byte, closing-byte, comma-byte}
 use Rattle.pattern.specs.Bytes.{Bytes}
 use Rattle.pattern.specs.Codes.{all-codes}
-use Rattle.pattern.specs.Syntax.{Sort, pattern, atom, branches, Syntax, repeat, codes, literal, group, or, size}
+use Rattle.pattern.specs.Syntax.{Sort, pattern, atom, branches, Syntax, repeat, literal, group, or, size}
 use Rattle.pattern.specs.Within.{Fits}
 use Rattle.pattern.specs.Print.{print-count, print-set, double, print}
 use Rattle.pattern.specs.Table.{pool}

@@ -5,13 +5,12 @@ use Prim.Native.Nat.{ℕ, _-_, _<_, _≤_}
 use native.Mathlib.Omega.{arith}
 use lib.ListN.{length, take, drop, length-drop}
 use lib.Seq.{take-all}
-use borrow.Author.Tests.{le-leb, lt-leb}
-use Rattle.pattern.specs.Numbers.{TABLE, header-size}
+use Rattle.pattern.specs.Numbers.{header-size}
 use Rattle.pattern.specs.Bytes.{Bytes, over}
 use Rattle.pattern.specs.Syntax.{pattern, Syntax, size}
 use Rattle.pattern.specs.Print.{print}
 use Rattle.pattern.specs.Decode.{decode}
-use Rattle.pattern.specs.Answers.{refusal, result, Output, written-back, writeOf}
+use Rattle.pattern.specs.Answers.{result, written-back, writeOf}
 use Rattle.pattern.proofs.Calls.{put-fits, put-short}
 use Rattle.pattern.proofs.Accepted.{accepted-exactly}
 use Rattle.pattern.proofs.RoundTrip.{encode-length, good-exactly}

@@ -4,7 +4,7 @@ use mathlib.Core.Logic.{⊎-elim}
 use mathlib.Core.Bool.{Bool, true, false}
 use mathlib.Core.Option.{some}
 use mathlib.Core.List.{[], _∷_, _++_}
-use Prim.Native.Nat.{ℕ, suc, _+_, _*_, _-_, _<_, _≤_}
+use Prim.Native.Nat.{ℕ, suc, _+_, _*_, _<_, _≤_}
 use native.Mathlib.Omega.{arith}
 use lib.Dec.{ltb}
 use lib.ListN.{length, take, drop, length-take, length-drop, length-append}
@@ -12,7 +12,7 @@ use borrow.Author.Tests.{le-leb, lt-leb, eq-eqb, ne-eqb, ltb-true}
 use Rattle.pattern.specs.Numbers.{record-size, set-limit, quote-byte}
 use Rattle.pattern.specs.Bytes.{Bytes}
 use Rattle.pattern.specs.Codes.{all-codes}
-use Rattle.pattern.specs.Syntax.{body, Syntax, literal, size}
+use Rattle.pattern.specs.Syntax.{body, Syntax, size}
 use Rattle.pattern.specs.Table.{Rec, pool}
 use Rattle.pattern.specs.Print.{print-set, double, print}
 use Rattle.table.specs.Opening.{pick}
