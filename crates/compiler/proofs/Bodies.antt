@@ -1,7 +1,6 @@
 -- The runs of letters and of a literal's bytes, one step after the other. Assumes nothing.
 use mathlib.Core.Path.{_≡_, refl, sym, ap, _∙_, subst}
-use mathlib.Core.List.{List, [], _∷_, _++_}
-use mathlib.Core.Option.{Option, none, some}
+use mathlib.Core.List.{[], _∷_, _++_}
 use Prim.Native.Nat.{ℕ, suc, _+_, _<_, _≤_}
 use native.Mathlib.Omega.{arith}
 use lib.Bits.{bitOr, or-lt}
@@ -12,8 +11,8 @@ use Rattle.pattern.specs.Bytes.{Bytes}
 use Rattle.pattern.specs.Codes.{bit}
 use Rattle.pattern.specs.Syntax.{codes}
 use Rattle.pattern.specs.Spelling.{letter, starts}
-use Rattle.pattern.specs.Reading.{Around, after, move, step, extend}
-use Rattle.pattern.specs.Scan.{begins, begun, body-begins, fault, refuse, refused}
+use Rattle.pattern.specs.Reading.{after, move, step, extend}
+use Rattle.pattern.specs.Scan.{begins, begun, body-begins, fault, refuse}
 use Rattle.compiler.specs.declared.cursor.Cursor.{Cursor}
 use Rattle.compiler.specs.declared.cursor.Letter.{Letter}
 use Rattle.compiler.specs.declared.cursor.Letter.the-variants as letters
@@ -22,9 +21,8 @@ use Rattle.compiler.specs.declared.cursor.Text.the-variants as texts
 use Rattle.compiler.specs.declared.body.Letters.the-variants as sets
 use Rattle.compiler.specs.declared.body.Literal.the-variants as literals
 use Rattle.compiler.specs.Places.{Onward, kind-at, LetterRead}
-use Rattle.compiler.specs.Scans.{scanned}
 use Rattle.compiler.specs.Buffers.{stored}
-use Rattle.compiler.specs.Bodies.{Passes, Refuses, in-codes, in-literal, TextRead, CodesRead, LiteralIs, LiteralRead}
+use Rattle.compiler.specs.Bodies.{Passes, Refuses, in-codes, in-literal, TextRead, CodesRead, LiteralRead}
 use Rattle.compiler.proofs.Steps.{onward, faulty}
 use Rattle.compiler.proofs.Puts.{stored-none, stored-more}
 

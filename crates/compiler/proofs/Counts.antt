@@ -2,21 +2,21 @@
 use mathlib.Core.Path.{_≡_, refl, sym, ap, ap₂, _∙_, subst}
 use mathlib.Core.Logic.{⊎-elim}
 use mathlib.Core.Bool.{Bool, true, false, _&&_, cond}
-use mathlib.Core.List.{List, [], _∷_}
+use mathlib.Core.List.{[], _∷_}
 use mathlib.Core.Option.{Option, none, some}
-use Prim.Native.Nat.{ℕ, zero, suc, _+_, _-_, _*_, _≤_, _<_}
+use Prim.Native.Nat.{ℕ, suc, _+_, _≤_, _<_}
 use native.Mathlib.Omega.{arith}
 use lib.Dec.{leb, ltb, eqb}
 use lib.ListN.{length, drop, getD}
 use lib.Seq.{drop-cons, drop-drop}
-use borrow.Author.Tests.{lt-ltb, le-ltb, le-leb, lt-leb, eq-eqb, ne-eqb, ltb-true, ltb-false, leb-false}
+use borrow.Author.Tests.{lt-ltb, le-ltb, le-leb, eq-eqb, ne-eqb, ltb-false, leb-false}
 use Rattle.pattern.specs.Numbers.{number-limit, atom-limit, open-high, FORM, NUMBER, RANGE, ATOMS}
 use Rattle.pattern.specs.Bytes.{Bytes}
 use Rattle.pattern.specs.Table.{high-field}
 use Rattle.pattern.specs.Repeats.{repeat-of}
 use Rattle.pattern.specs.Spelling.{Mark, digit, point, Kind, counts, starts, ends, kind}
 use Rattle.pattern.specs.Reading.{Run, empty, first, pointed, second, counting, Around, grow, move, step, finish}
-use Rattle.pattern.specs.Scan.{low, high, ahead, large, falls, refuse, atom-fault, refused}
+use Rattle.pattern.specs.Scan.{low, high, ahead, large, falls, refuse, atom-fault}
 use Rattle.pattern.specs.declared.repeat.Repeat.{Repeat}
 use Rattle.pattern.proofs.Tests.{le-or-lt}
 use Rattle.compiler.specs.declared.cursor.Cursor.{Cursor}
@@ -25,10 +25,10 @@ use Rattle.compiler.specs.declared.cursor.Point.the-variants as points
 use Rattle.compiler.specs.declared.count.Number.{Number}
 use Rattle.compiler.specs.declared.count.Counted.{Counted}
 use Rattle.compiler.specs.declared.count.Counted.the-variants as counted
-use Rattle.compiler.specs.Places.{Onward, kind-at, KindIs, Kind-not, PointRead}
+use Rattle.compiler.specs.Places.{kind-at, KindIs, Kind-not, PointRead}
 use Rattle.compiler.specs.Scans.{scanned}
-use Rattle.compiler.specs.Counts.{lead, number, cap, large-number, NumberRead, judge, CountIs, CountRefused, CountRead}
-use Rattle.compiler.proofs.Pass.{extent, over, past-count, count-scan, ending-refused, ending-passed}
+use Rattle.compiler.specs.Counts.{lead, number, cap, large-number, NumberRead, judge, CountRead}
+use Rattle.compiler.proofs.Pass.{over, past-count, count-scan, ending-refused, ending-passed}
 use Rattle.compiler.proofs.Steps.{stuck, short}
 use Rattle.compiler.proofs.Numbers.{cap-small, cap-large, cap-least, lead-more}
 use Rattle.compiler.proofs.Runs.{Runs, Stops, run-stops, digit-begins, runs-exact, runs-open, runs-closed}
@@ -167,6 +167,13 @@ module _ (s : Bytes) (i n : ℕ) (x : Mark) (w : i < length s) (e : kind-at s i 
           let v : eqb (rep .high) large-number ≡ over r = ap (λ y. eqb y large-number) h ∙ over-high r a in
           rw v (last u (over r) refl)
 
+-- the two numbers of a count, as the code has them
+abbrev low-of : Repeat → ℕ
+low-of rep = rep .low
+
+abbrev high-of : Repeat → ℕ
+high-of rep = rep .high
+
 -- the count from its digits and its point
 module _ (s : Bytes) (i n : ℕ) (a : Number) (d : NumberRead s i a) (p : Point) (f : PointRead s (a .end .at) p) where
   -- no count at all
@@ -196,7 +203,10 @@ module _ (s : Bytes) (i n : ℕ) (a : Number) (d : NumberRead s i a) (p : Point)
       let (w, k) = digit-begins s i z in
       let q : Kind-not s (i + lead (drop i s)) (counts point) = rw (d .end) at (subst (λ p. PointRead s (a .end .at) p) e f) in
       rw j
-      (judged-right s i n digit w k (first (number 0 (drop i s))) (lead (drop i s)) (runs-exact s i z q) rep i (a .end) (ap (λ (x : Repeat). x .low) h ∙ d .value) (ap (λ (x : Repeat). x .high) h ∙ d .value) (λ o. let y : _≡_ {A = ℕ} 0 1 = cc in absurd (omega arith)) (d .end) z (d .within) (λ o. let y : _≡_ {A = ℕ} 0 1 = cc in omega arith))
+      (judged-right s i n digit w k (first (number 0 (drop i s))) (lead (drop i s)) (runs-exact s i z q)
+      rep i (a .end) (ap low-of h ∙ d .value) (ap high-of h ∙ d .value)
+      (λ o. let y : _≡_ {A = ℕ} 0 1 = cc in absurd (omega arith)) (d .end) z (d .within)
+      (λ o. let y : _≡_ {A = ℕ} 0 1 = cc in omega arith))
 
   module _ (next : Cursor) (e : p ≡ points.Is next) where
     point-here : KindIs s (i + lead (drop i s)) (counts point) next
@@ -222,7 +232,10 @@ module _ (s : Bytes) (i n : ℕ) (a : Number) (d : NumberRead s i a) (p : Point)
           let t = point-here in
           let z : lead (drop (next .at) s) ≡ 0 = omega (arith, c .end) in
           rw j
-          (judged-right s i n x w k (pointed (number 0 (drop i s))) (lead (drop i s) + 1) (runs-open s i next t z) rep (next .at) (b .end) (ap (λ (x : Repeat). x .low) h ∙ d .value) (ap (λ (x : Repeat). x .high) h) (λ o. let y : _≡_ {A = ℕ} 0 1 = cc in absurd (omega arith)) (omega (arith, t .past)) (omega arith) (c .within) (λ o. let y : _≡_ {A = ℕ} 0 1 = cc in omega arith))
+          (judged-right s i n x w k (pointed (number 0 (drop i s))) (lead (drop i s) + 1) (runs-open s i next t z)
+          rep (next .at) (b .end) (ap low-of h ∙ d .value) (ap high-of h)
+          (λ o. let y : _≡_ {A = ℕ} 0 1 = cc in absurd (omega arith)) (omega (arith, t .past)) (omega arith) (c .within)
+          (λ o. let y : _≡_ {A = ℕ} 0 1 = cc in omega arith))
 
       pub count-closed : ¬ (b .end .at ≡ next .at) → rep ≡ repeat-of (a .value) (some (b .value)) → CountRead s i n r
       unfolding low high
@@ -231,4 +244,6 @@ module _ (s : Bytes) (i n : ℕ) (a : Number) (d : NumberRead s i a) (p : Point)
           let t = point-here in
           let z : 0 < lead (drop (next .at) s) = ⊎-elim (λ u. absurd (g (omega (arith, c .end)))) (λ u. u) (le-or-lt (lead (drop (next .at) s)) 0) in
           rw j
-          (judged-right s i n x w k (second (number 0 (drop i s)) (number 0 (drop (next .at) s))) (lead (drop i s) + suc (lead (drop (next .at) s))) (runs-closed s i next t z) rep (next .at) (b .end) (ap (λ (x : Repeat). x .low) h ∙ d .value) (ap (λ (x : Repeat). x .high) h ∙ c .value) (λ o. omega (arith, t .past)) (omega (arith, c .end, t .past)) (omega arith) (c .within) (λ o. let y : _≡_ {A = ℕ} 0 1 = cc in omega arith))
+          (judged-right s i n x w k (second (number 0 (drop i s)) (number 0 (drop (next .at) s))) (lead (drop i s) + suc (lead (drop (next .at) s))) (runs-closed s i next t z)
+          rep (next .at) (b .end) (ap low-of h ∙ d .value) (ap high-of h ∙ c .value) (λ o. omega (arith, t .past)) (omega (arith, c .end, t .past)) (omega arith) (c .within)
+          (λ o. let y : _≡_ {A = ℕ} 0 1 = cc in omega arith))

@@ -1,25 +1,24 @@
 -- How the scan goes on through an atom, a pattern and a group. Assumes nothing.
 use mathlib.Core.Path.{_≡_, refl, sym, ap, _∙_}
 use mathlib.Core.Logic.{⊎-elim}
-use mathlib.Core.List.{List, [], _∷_, _++_}
+use mathlib.Core.List.{List, [], _∷_}
 use mathlib.Core.Option.{Option, none, some}
-use Prim.Native.Nat.{ℕ, zero, suc, _+_, _<_, _≤_}
+use Prim.Native.Nat.{ℕ, suc, _<_, _≤_}
 use native.Mathlib.Omega.{arith}
-use lib.Bits.{bitOr}
 use lib.ListN.{length, drop, getD}
 use lib.Seq.{drop-cons, drop-length}
 use borrow.Author.Tests.{le-leb, lt-leb, lt-ltb, le-ltb}
 use Rattle.pattern.specs.Numbers.{depth-limit, FORM, DEPTH}
 use Rattle.pattern.specs.Bytes.{Bytes, between}
-use Rattle.pattern.specs.Codes.{bit}
-use Rattle.pattern.specs.Syntax.{pattern, atom, body, branches, Syntax, last, then, repeat, codes, literal, group, only, or}
-use Rattle.pattern.specs.Spelling.{Starter, letter, quote, opening, Ender, closing, comma, neither, Mark, digit, point, Kind, counts, starts, ends, kind}
-use Rattle.pattern.specs.Reading.{Run, empty, first, pointed, second, Place, counting, inside, after, Around, top, within, join, fork, next, State, enter, extend, leave, grow, counted, move, step, finish, start}
+use Rattle.pattern.specs.Syntax.{pattern, atom, body, Syntax, last, then, repeat, codes, literal, group, only}
+use Rattle.pattern.specs.Spelling.{Starter, letter, quote, opening, Ender, closing, comma, neither, Mark, Kind, counts, starts, ends, kind}
+use Rattle.pattern.specs.Reading.{Run, empty, first, pointed, second, counting, inside, after, Around, top, within, join, fork, next, State, enter, extend, leave, grow, counted, move, step, finish}
 use Rattle.pattern.specs.Scan.{low, high, depth, body-begins, begins, begun, refuse, fault, Outcome, refused, accepted, scan}
 use Rattle.pattern.proofs.Tests.{le-or-lt}
-use Rattle.pattern.proofs.Notation.{Byte, kind-byte}
+use Rattle.pattern.proofs.Notation.{kind-byte}
+use Rattle.pattern.proofs.SpeltReads.{ended, ended-closes, ended-parts}
 use Rattle.compiler.specs.Places.{kind-at, count-flag, flag, Kind-not}
-use Rattle.compiler.specs.Scans.{scanned, ended}
+use Rattle.compiler.specs.Scans.{scanned}
 use Rattle.compiler.specs.Readers.{Settled, tail}
 use Rattle.compiler.proofs.Steps.{fault-here, begun-here, onward, faulty, stuck, short}
 
@@ -135,18 +134,6 @@ module _ (s : Bytes) (j m : ℕ) (w : j < length s) (e : Ender) (f : kind-at s j
 
   branch-next : (t : Syntax pattern) (k : Around) (q : State) → step (ended k t) (getD s j 0) ≡ some q → scanned s (ended k t) j m ≡ scanned s q (suc j) m
   branch-next t k q g = let (x, y) = ended-quiet t k in onward s j m w (ended k t) q g x y
-
-ended-closes : (k : Around) (l : ℕ) (h : Option ℕ) (others : List (Syntax pattern)) (t : Syntax pattern) (before : List (Syntax atom))
-    → step (ended (within k l h others before) t) 41 ≡ some (after l h (group (fork others (only (join before t)))), k)
-unfolding ended step move kind between leave next join
-ended-closes k l h others (last (repeat u v b)) before = refl
-ended-closes k l h others (then a t) before = ended-closes k l h others t (a ∷ before)
-
-ended-parts : (k : Around) (l : ℕ) (h : Option ℕ) (others : List (Syntax pattern)) (t : Syntax pattern) (before : List (Syntax atom))
-    → step (ended (within k l h others before) t) 44 ≡ some (counting empty, within k l h (join before t ∷ others) [])
-unfolding ended step move kind between leave next join
-ended-parts k l h others (last (repeat u v b)) before = refl
-ended-parts k l h others (then a t) before = ended-parts k l h others t (a ∷ before)
 
 module _ (s : Bytes) (j m : ℕ) (t : Syntax pattern) (k : Around) (l : ℕ) (h : Option ℕ) (others : List (Syntax pattern)) where
   -- a closing bracket after a branch

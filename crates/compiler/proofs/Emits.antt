@@ -1,12 +1,11 @@
 -- The table that is written, and the answer of compiling. Assumes nothing.
 use mathlib.Core.Path.{_≡_, refl, sym, ap, ap₂, _∙_, subst}
-use mathlib.Core.Bool.{Bool, true, false, cond}
+use mathlib.Core.Bool.{cond}
 use mathlib.Core.List.{List, [], _∷_, _++_, append-assoc}
-use Prim.Native.Nat.{ℕ, suc, _+_, _*_, _<_, _≤_}
+use Prim.Native.Nat.{ℕ, _+_, _*_, _<_, _≤_}
 use native.Mathlib.Omega.{arith}
-use lib.Dec.{leb}
 use lib.ListN.{length, take, drop, set, length-append}
-use lib.Seq.{sets, sets-eq, take-append-seam, length-take-le}
+use lib.Seq.{sets-eq, take-append-seam, length-take-le}
 use borrow.Author.Tests.{le-leb, lt-leb}
 use Rattle.pattern.specs.Numbers.{source-limit, atom-limit, header-size, record-size, mark, version, LONG, FORM, ROOM}
 use Rattle.pattern.specs.Bytes.{Bytes, word, over}
@@ -14,13 +13,14 @@ use Rattle.pattern.specs.Syntax.{pattern, Syntax, size}
 use Rattle.pattern.specs.Reading.{top, start}
 use Rattle.pattern.specs.Scan.{depth, Outcome, refused, accepted, scan, outcome}
 use Rattle.pattern.specs.Table.{pool, Rec, records, flat, header, encode}
-use Rattle.pattern.specs.Answers.{Answer, refusal, result, Output, put-if, put, compiled, compileOf}
+use Rattle.pattern.specs.Answers.{Answer, refusal, result, Output, put, compiled, compileOf}
+use Rattle.pattern.proofs.Calls.{put-fits, put-short}
 use Rattle.pattern.proofs.Records.{length-flat, count-records}
+use Rattle.pattern.proofs.SpeltReads.{ended}
 use Rattle.compiler.specs.declared.reader.State.{State}
 use Rattle.compiler.specs.declared.reader.Parsed.{Parsed}
 use Rattle.compiler.specs.declared.reader.Parsed.the-variants as parsed
-use Rattle.compiler.specs.declared.cursor.Cursor.{Cursor}
-use Rattle.compiler.specs.Scans.{scanned, ended}
+use Rattle.compiler.specs.Scans.{scanned}
 use Rattle.compiler.specs.Buffers.{stored}
 use Rattle.compiler.specs.Readers.{Refused, PatternIs, PatternRead}
 use Rattle.compiler.specs.Compiling.{Emits, emitted}
@@ -40,15 +40,6 @@ stored-over l v h = let z : 0 + length v ≡ length v = omega arith in sets-eq v
 take-stored : (l v : Bytes) (n : ℕ) → n ≡ length v → n ≤ length l → take n (stored l 0 v) ≡ v
 unfolding over
 take-stored l v n e h = rw (e, stored-over l v (omega arith)) (take-append-seam v (drop (length v) l))
-
--- a result in lent bytes that are long enough, and in others
-put-fits : (position : ℕ) (w l : Bytes) → length w ≤ length l → put position w l ≡ output (result (length w) 0) (over w l)
-unfolding put put-if
-put-fits position w l h = ap (λ b. put-if b position w l) (le-leb (length w) (length l) h)
-
-put-short : (position : ℕ) (w l : Bytes) → length l < length w → put position w l ≡ output (refusal ROOM position) l
-unfolding put put-if
-put-short position w l h = ap (λ b. put-if b position w l) (lt-leb (length w) (length l) h)
 
 module _ (position n m : ℕ) (recs text table : Bytes) (emits : Emits n m recs text) where
   abbrev written : Bytes
@@ -93,7 +84,7 @@ output-of s table (refused f p) = output (refusal f p) table
 output-of s table (accepted t) = put (length s) (encode t) table
 
 compile-by : (s table : Bytes) (o : Outcome) → outcome s ≡ o → output-of s table o ≡ compileOf s table
-unfolding compiled compileOf
+unfolding compileOf compiled
 compile-by s table o e = go o ∙ ap (λ o. compiled o s table) (sym e)
   where
     go : (o : Outcome) → output-of s table o ≡ compiled o s table

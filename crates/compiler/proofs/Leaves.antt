@@ -1,6 +1,6 @@
 -- Atoms of codes and literals, from their bodies and their records. Assumes nothing.
-use mathlib.Core.Path.{_≡_, refl, sym, ap, _∙_, subst}
-use mathlib.Core.List.{List, [], _∷_}
+use mathlib.Core.Path.{_≡_, refl, subst}
+use mathlib.Core.List.{[], _∷_}
 use Prim.Native.Nat.{ℕ, _+_, _-_, _*_, _≤_}
 use native.Mathlib.Omega.{arith}
 use lib.ListN.{length}
@@ -19,7 +19,7 @@ use Rattle.compiler.specs.declared.reader.Parsed.the-variants as parsed
 use Rattle.compiler.specs.Places.{flag}
 use Rattle.compiler.specs.Buffers.{stored, rec-of}
 use Rattle.compiler.specs.Bodies.{CodesRead, LiteralIs, LiteralRead}
-use Rattle.compiler.specs.Readers.{Settled, LeafIs, LeafRead, CodedRead, WordedRead}
+use Rattle.compiler.specs.Readers.{Settled, LeafRead, CodedRead, WordedRead}
 
 abbrev pub state : Cursor → ℕ → ℕ → State
 state at n p = record { at = at; atoms = n; pool = p }

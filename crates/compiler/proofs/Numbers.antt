@@ -1,11 +1,10 @@
 -- A run of digits: how many, and the number that they spell, held at 10,000. Assumes nothing.
-use mathlib.Core.Path.{_≡_, refl, sym, ap, _∙_, subst}
+use mathlib.Core.Path.{_≡_, refl, sym, _∙_, subst}
 use mathlib.Core.Logic.{_⊎_, inl, inr, ⊎-elim}
-use mathlib.Core.Bool.{Bool, true, false, cond}
-use mathlib.Core.List.{List, [], _∷_}
-use Prim.Native.Nat.{ℕ, zero, suc, _+_, _-_, _*_, _≤_, _<_}
+use mathlib.Core.List.{[], _∷_}
+use Prim.Native.Nat.{ℕ, suc, _+_, _-_, _*_, _≤_, _<_}
 use native.Mathlib.Omega.{arith}
-use lib.ListN.{length, drop, getD, length-drop, drop-of-length-le}
+use lib.ListN.{length, drop, getD, drop-of-length-le}
 use lib.Seq.{drop-cons}
 use borrow.Author.Tests.{le-leb, lt-leb}
 use Rattle.pattern.specs.Numbers.{number-limit}
@@ -16,7 +15,7 @@ use Rattle.compiler.specs.declared.cursor.Cursor.{Cursor}
 use Rattle.compiler.specs.declared.cursor.Digit.{Digit}
 use Rattle.compiler.specs.declared.cursor.Digit.the-variants as digits
 use Rattle.compiler.specs.declared.count.Number.{Number}
-use Rattle.compiler.specs.Places.{Onward, kind-at, KindIs, Kind-not, DigitRead}
+use Rattle.compiler.specs.Places.{Onward, Kind-not, DigitRead}
 use Rattle.compiler.specs.Counts.{lead, number, cap, large-number, NumberRead}
 
 pub cap-small : (x : ℕ) → x ≤ number-limit → cap x ≡ x

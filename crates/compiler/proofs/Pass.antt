@@ -1,17 +1,17 @@
 -- A scan, passed on byte by byte and count by count. Assumes nothing.
-use mathlib.Core.Path.{_≡_, refl, sym, ap, _∙_}
+use mathlib.Core.Path.{_≡_, refl, sym, _∙_}
 use mathlib.Core.Bool.{Bool, true, false}
-use mathlib.Core.List.{List, [], _∷_}
+use mathlib.Core.List.{[], _∷_}
 use mathlib.Core.Option.{Option, none, some}
-use Prim.Native.Nat.{ℕ, zero, suc, _+_, _-_, _*_, _≤_, _<_}
+use Prim.Native.Nat.{ℕ, suc, _+_, _-_, _*_}
 use native.Mathlib.Nat.{add-zero}
 use native.Mathlib.Omega.{arith}
-use lib.ListN.{length, drop, getD}
+use lib.ListN.{drop}
 use Rattle.pattern.specs.Numbers.{FORM, NUMBER}
 use Rattle.pattern.specs.Bytes.{Bytes}
 use Rattle.pattern.specs.Spelling.{Mark, digit, point, Kind, counts, starts, ends, kind}
-use Rattle.pattern.specs.Reading.{Run, empty, first, pointed, second, Place, counting, Around, top, State, grow, counted, move, step}
-use Rattle.pattern.specs.Scan.{high, ahead, depth, begins, begun, large, refuse, atom-fault, fault, Outcome, refused, accepted, scan}
+use Rattle.pattern.specs.Reading.{Run, empty, first, pointed, second, counting, Around, top, State, grow, counted, move, step}
+use Rattle.pattern.specs.Scan.{high, ahead, depth, begins, begun, large, refuse, atom-fault, fault, Outcome, refused, scan}
 use Rattle.compiler.specs.Counts.{lead}
 
 -- how many bytes the longest run that begins so still takes

@@ -1,12 +1,11 @@
 -- What the byte at a place says of it. Assumes nothing.
 use mathlib.Core.Path.{_≡_, refl, sym, ap, _∙_, subst}
 use mathlib.Core.Bool.{Bool, true, false, not, cond}
-use Prim.Native.Nat.{ℕ, suc, _-_, _≤_, _<_}
+use Prim.Native.Nat.{ℕ, _≤_, _<_}
 use native.Mathlib.Omega.{arith}
-use lib.Dec.{T, leb, ltb, eqb}
-use lib.ListN.{length, getD}
+use lib.Dec.{T, leb, eqb}
+use lib.ListN.{length}
 use borrow.Author.Tests.{leb-true, lt-ltb, le-ltb}
-use Rattle.pattern.specs.Numbers.{quote-byte, opening-byte, closing-byte, comma-byte, point-byte}
 use Rattle.pattern.specs.Bytes.{Bytes, between}
 use Rattle.pattern.specs.Spelling.{letter, quote, opening, digit, point, Kind, counts, starts, ends, kind, text}
 use Rattle.pattern.proofs.Tests.{all, all-at}
@@ -14,12 +13,7 @@ use Rattle.pattern.proofs.Notation.{Byte as Spelt, kind-byte}
 use Rattle.compiler.specs.declared.cursor.Cursor.{Cursor}
 use Rattle.compiler.specs.declared.cursor.Byte.{Byte}
 use Rattle.compiler.specs.declared.cursor.Byte.the-variants as byte
-use Rattle.compiler.specs.declared.cursor.Digit.the-variants as digits
-use Rattle.compiler.specs.declared.cursor.Letter.the-variants as letters
-use Rattle.compiler.specs.declared.cursor.Point.the-variants as points
-use Rattle.compiler.specs.declared.cursor.Class.the-variants as class
-use Rattle.compiler.specs.declared.cursor.Separator.the-variants as separator
-use Rattle.compiler.specs.Places.{kind-at, digit-kind, letter-kind, is-digit, is-letter, is-plain, count-flag, flag, ByteIs, KindIs, Kind-not, ByteRead, DigitRead, LetterRead, PointRead, ClassRead, SeparatorRead}
+use Rattle.compiler.specs.Places.{digit-kind, letter-kind, is-digit, is-letter, is-plain, count-flag, flag, ByteIs, KindIs, Kind-not, ByteRead}
 
 -- two tests that agree
 agree : Bool → Bool → Bool

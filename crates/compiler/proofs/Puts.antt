@@ -1,11 +1,11 @@
 -- Stores one after the other, and what they come to. Assumes nothing.
 use mathlib.Core.Path.{_≡_, refl, sym, ap, _∙_}
-use mathlib.Core.List.{List, [], _∷_, _++_}
+use mathlib.Core.List.{[], _∷_, _++_}
 use Prim.Native.Nat.{ℕ, suc, _+_, _≤_, _<_}
 use native.Mathlib.Omega.{arith}
 use native.Mathlib.Numerals.{add-one}
-use lib.ListN.{length, set, getD, take, drop, length-set}
-use lib.Seq.{sets, length-sets, set-comm, sets-eq, take-suc, length-take-le}
+use lib.ListN.{length, set, getD, take}
+use lib.Seq.{sets, length-sets, set-comm, take-suc, length-take-le}
 use Rattle.pattern.specs.Bytes.{Bytes, word}
 use Rattle.pattern.specs.Table.{Rec, flat}
 use Rattle.compiler.specs.Buffers.{stored}

@@ -1,20 +1,21 @@
 -- How the answers of the readers fit together. Assumes nothing.
 use mathlib.Core.Path.{_≡_, refl, sym, ap, _∙_, subst}
-use mathlib.Core.List.{List, [], _∷_, _++_}
-use mathlib.Core.Option.{Option, none, some}
-use Prim.Native.Nat.{ℕ, zero, suc, _+_, _-_, _*_, _<_, _≤_}
+use mathlib.Core.List.{List, [], _∷_}
+use mathlib.Core.Option.{Option}
+use Prim.Native.Nat.{ℕ, suc, _+_, _-_, _*_, _<_, _≤_}
 use native.Mathlib.Omega.{arith}
 use native.Mathlib.Numerals.{add-one}
-use lib.ListN.{length, getD}
+use lib.ListN.{length}
 use Rattle.pattern.specs.Numbers.{atom-limit, depth-limit, record-size, FORM, DEPTH}
 use Rattle.pattern.specs.Bytes.{Bytes, between}
-use Rattle.pattern.specs.Syntax.{pattern, atom, body, branches, Syntax, last, then, repeat, codes, literal, group, only, or, size}
+use Rattle.pattern.specs.Syntax.{pattern, atom, body, branches, Syntax, last, then, repeat, group, only, or, size}
 use Rattle.pattern.specs.Spelling.{quote, opening, starts, kind}
-use Rattle.pattern.specs.Reading.{counting, empty, after, Around, within, fork, next}
-use Rattle.pattern.specs.Scan.{low, high, depth, refused}
-use Rattle.pattern.specs.Table.{choices, flat}
+use Rattle.pattern.specs.Reading.{counting, empty, Around, within, fork, next}
+use Rattle.pattern.specs.Scan.{low, high, depth}
+use Rattle.pattern.specs.Table.{pool, choices, flat}
 use Rattle.pattern.specs.declared.repeat.Repeat.{Repeat}
 use Rattle.pattern.proofs.RoundTrip.{some-pattern}
+use Rattle.pattern.proofs.SpeltReads.{ended}
 use Rattle.compiler.specs.declared.cursor.Cursor.{Cursor}
 use Rattle.compiler.specs.declared.cursor.Class.{Class}
 use Rattle.compiler.specs.declared.cursor.Class.the-variants as class
@@ -27,11 +28,12 @@ use Rattle.compiler.specs.declared.reader.Parsed.{Parsed}
 use Rattle.compiler.specs.declared.reader.Parsed.the-variants as parsed
 use Rattle.compiler.specs.declared.reader.Grouped.{Grouped}
 use Rattle.compiler.specs.declared.reader.Grouped.the-variants as grouped
-use Rattle.compiler.specs.Places.{Onward, flag, kind-at, ByteIs, KindIs, ClassRead, SeparatorRead}
-use Rattle.compiler.specs.Scans.{scanned, ended}
+use Rattle.compiler.specs.Places.{flag, kind-at, ByteIs, KindIs, ClassRead, SeparatorRead}
+use Rattle.compiler.specs.Scans.{scanned}
 use Rattle.compiler.specs.Buffers.{stored, rec-of}
+use Rattle.compiler.specs.Bodies.{Inside, in-codes, in-literal}
 use Rattle.compiler.specs.Counts.{CountIs, CountRefused, CountRead}
-use Rattle.compiler.specs.Readers.{Ready, Room, Moved, Wrote, Settled, tail, LeafIs, LeafRead, CodedRead, WordedRead, Refused, AtomIs, AtomRead, PatternIs, PatternRead, GroupIs, GroupRefused, GroupRead}
+use Rattle.compiler.specs.Readers.{Ready, Settled, tail, LeafRead, CodedRead, WordedRead, Refused, AtomIs, AtomRead, PatternIs, PatternRead, GroupIs, GroupRefused, GroupRead}
 use Rattle.compiler.proofs.Leaves.{state}
 use Rattle.compiler.proofs.Puts.{stored-none}
 use Rattle.compiler.proofs.Descent.{codes-enter, literal-enter, group-enter, group-deep, body-form, atom-next, depth-next, flag-count, flag-one, closes, parts, branch-form}
@@ -56,39 +58,39 @@ module _ (s : Bytes) (st : State) (d : ℕ) (recs text : Bytes) where
   atom-fault r f q recs′ text′ e h = let x : CountRefused s (st .at .at) (st .atoms) f q = subst (λ r. CountRead s (st .at .at) (st .atoms) r) e h in record { scan = λ k z. x .scan k }
 
   module _ (ready : Ready s st d) (rep : Repeat) (at : Cursor) (c : CountIs s (st .at .at) (st .atoms) rep at) (r : Class) (h : ClassRead s (at .at) r) where
-    pub atom-coded : (recs′ : Bytes) (a : Parsed) → r ≡ class.Letter → CodedRead s (at .at) (st .atoms) (st .pool) rep recs recs′ a → AtomRead s st d recs recs′ text text a
-    unfolding ClassRead LeafRead AtomRead
-    atom-coded recs′ (parsed.Fault f q) e x =
-        let (w, y) = subst (λ r. ClassRead s (at .at) r) e h in
-        record { scan = λ k z. c .scan k ∙ codes-enter s (at .at) (suc (st .atoms)) k (c .run) (c .some-run) w y ∙ x .scan (low (c .run)) (high (c .run)) k (suc (st .atoms)) }
-    atom-coded recs′ (parsed.Done u) e x =
-        let (w, y) = subst (λ r. ClassRead s (at .at) r) e h in
+    -- a leaf that the scan enters after the count
+    atom-leaf : (from : Inside) (P : Bytes → Type 0) (i : ℕ) (recs′ text′ : Bytes) (a : Parsed) → at .at ≤ i
+        → ((k : Around) → scanned s (counting (c .run), k) (at .at) (suc (st .atoms)) ≡ scanned s (from (low (c .run)) (high (c .run)) k) i (suc (st .atoms)))
+        → ((v : Bytes) → P v → text′ ≡ stored text (st .pool) v) → LeafRead s from P i (st .atoms) (st .pool) rep recs recs′ a → AtomRead s st d recs recs′ text text′ a
+    unfolding LeafRead AtomRead
+    atom-leaf from P i recs′ text′ (parsed.Fault f q) o y w x = record { scan = λ k z. c .scan k ∙ y k ∙ x .scan (low (c .run)) (high (c .run)) k (suc (st .atoms)) }
+    atom-leaf from P i recs′ text′ (parsed.Done u) o y w x =
+        let l : ℕ = low (c .run) in
+        let m : Option ℕ = high (c .run) in
         record {
-          low = low (c .run);
-          high = high (c .run);
+          low = l;
+          high = m;
           body = x .body;
           moved = record { on = omega (arith, c .onward .on, x .on); within = x .within; atoms = omega (arith, c .room, x .atoms); pool = x .fits };
-          wrote = wrote-leaf (flag s (u .at .at)) (low (c .run)) (high (c .run)) (x .body) rep (st .atoms) (st .pool) (u .atoms) (u .pool) recs recs′ text text (x .alone) (x .single) (c .rep-is) (x .atoms) (x .pooled) (x .recs-are) (rw (x .text-is) (sym (stored-none text (st .pool))));
-          scan = λ k z. c .scan k ∙ codes-enter s (at .at) (suc (st .atoms)) k (c .run) (c .some-run) w y ∙ x .scan (low (c .run)) (high (c .run)) k (suc (st .atoms)) ∙ rw (x .atoms, add-one);
+          wrote = wrote-leaf (flag s (u .at .at)) l m (x .body) rep (st .atoms) (st .pool) (u .atoms) (u .pool) recs recs′ text text′
+              (x .alone) (x .single) (c .rep-is) (x .atoms) (x .pooled) (x .recs-are) (w (pool (x .body)) (x .text-is));
+          scan = λ k z. c .scan k ∙ y k ∙ x .scan l m k (suc (st .atoms)) ∙ rw (x .atoms, add-one);
           settled = x .settled;
         }
 
+    pub atom-coded : (recs′ : Bytes) (a : Parsed) → r ≡ class.Letter → CodedRead s (at .at) (st .atoms) (st .pool) rep recs recs′ a → AtomRead s st d recs recs′ text text a
+    unfolding ClassRead
+    atom-coded recs′ a e x =
+        let (w, y) = subst (λ r. ClassRead s (at .at) r) e h in
+        atom-leaf (in-codes 0) (λ v. v ≡ []) (at .at) recs′ text a (omega arith)
+        (λ k. codes-enter s (at .at) (suc (st .atoms)) k (c .run) (c .some-run) w y)
+        (λ v z. rw z (sym (stored-none text (st .pool)))) x
+
     pub atom-worded : (later : Cursor) (recs′ text′ : Bytes) (a : Parsed) → r ≡ class.Quote later → WordedRead s (later .at) (st .atoms) (st .pool) rep recs recs′ text text′ a → AtomRead s st d recs recs′ text text′ a
-    unfolding ClassRead LeafRead AtomRead
-    atom-worded later recs′ text′ (parsed.Fault f q) e x =
-        let y = subst (λ r. ClassRead s (at .at) r) e h in
-        record { scan = λ k z. c .scan k ∙ literal-enter s (at .at) (suc (st .atoms)) k (c .run) (c .some-run) (y .within) (y .kind) ∙ (rw (y .past) at (x .scan (low (c .run)) (high (c .run)) k (suc (st .atoms)))) }
-    atom-worded later recs′ text′ (parsed.Done u) e x =
-        let y = subst (λ r. ClassRead s (at .at) r) e h in
-        record {
-          low = low (c .run);
-          high = high (c .run);
-          body = x .body;
-          moved = record { on = omega (arith, c .onward .on, x .on, y .past); within = x .within; atoms = omega (arith, c .room, x .atoms); pool = x .fits };
-          wrote = wrote-leaf (flag s (u .at .at)) (low (c .run)) (high (c .run)) (x .body) rep (st .atoms) (st .pool) (u .atoms) (u .pool) recs recs′ text text′ (x .alone) (x .single) (c .rep-is) (x .atoms) (x .pooled) (x .recs-are) (x .text-is);
-          scan = λ k z. c .scan k ∙ literal-enter s (at .at) (suc (st .atoms)) k (c .run) (c .some-run) (y .within) (y .kind) ∙ (rw (y .past) at (x .scan (low (c .run)) (high (c .run)) k (suc (st .atoms)))) ∙ rw (x .atoms, add-one);
-          settled = x .settled;
-        }
+    atom-worded later recs′ text′ a e x =
+        let y = quote-is s (at .at) r later e h in
+        atom-leaf (in-literal []) (λ v. text′ ≡ stored text (st .pool) v) (later .at) recs′ text′ a (omega (arith, y .past))
+        (λ k. literal-enter s (at .at) (suc (st .atoms)) k (c .run) (c .some-run) (y .within) (y .kind) ∙ rw (y .past)) (λ v z. z) x
 
     pub atom-other : (recs′ text′ : Bytes) → r ≡ class.Other → AtomRead s st d recs recs′ text text′ (parsed.Fault FORM (at .at))
     unfolding ClassRead AtomRead
@@ -191,6 +193,44 @@ module _ (s : Bytes) (st : State) (d : ℕ) (recs recs₁ text text₁ : Bytes) 
           over = h .over;
         }
 
+-- how far a loop over atoms or branches has come
+pub record Gone (s : Bytes) (d : ℕ) (st now : State) (recs recs₁ text text₁ : Bytes) : Type 0 where
+  pub ready : Ready s now d
+  pub on : st .at .at ≤ now .at .at
+  pub recs-size : length recs₁ ≡ length recs
+  pub text-size : length text₁ ≡ length text
+
+gone-start : (s : Bytes) (d : ℕ) (st : State) (recs text : Bytes) → Ready s st d → Gone s d st st recs recs text text
+gone-start s d st recs text r = record { ready = r; on = omega arith; recs-size = refl; text-size = refl }
+
+module _ (s : Bytes) (d : ℕ) (st now : State) (recs recs₁ text text₁ recs₂ text₂ : Bytes) where
+  gone-more : (u : State) → Gone s d st now recs recs₁ text text₁ → Ready s u d → now .at .at ≤ u .at .at → length recs₂ ≡ length recs₁ → length text₂ ≡ length text₁ → Gone s d st u recs recs₂ text text₂
+  gone-more u g r o x y = record { ready = r; on = omega (arith, g .on); recs-size = x ∙ g .recs-size; text-size = y ∙ g .text-size }
+
+-- where the loop over a pattern's atoms stands: what is read from there on is read from the start
+pub record Going (s : Bytes) (d : ℕ) (st now : State) (recs recs₁ text text₁ : Bytes) : Type 0 where
+  pub gone : Gone s d st now recs recs₁ text text₁
+  pub rest : (recs₂ text₂ : Bytes) (a : Parsed) → PatternRead s now d recs₁ recs₂ text₁ text₂ a → PatternRead s st d recs recs₂ text text₂ a
+
+pub going-start : (s : Bytes) (d : ℕ) (st : State) (recs text : Bytes) → Ready s st d → Going s d st st recs recs text text
+going-start s d st recs text r = record { gone = gone-start s d st recs text r; rest = λ recs₂ text₂ a h. h }
+
+module _ (s : Bytes) (d : ℕ) (st now : State) (recs recs₁ text text₁ : Bytes) (g : Going s d st now recs recs₁ text text₁) (recs₂ text₂ : Bytes) where
+  pub going-fault : (a : Parsed) (f q : ℕ) → a ≡ parsed.Fault f q → AtomRead s now d recs₁ recs₂ text₁ text₂ a → PatternRead s st d recs recs₂ text text₂ (parsed.Fault f q)
+  going-fault a f q e h = g .rest recs₂ text₂ (parsed.Fault f q) (pattern-fault s now d recs₁ recs₂ text₁ text₂ a f q e h)
+
+  module _ (u : State) (a : AtomIs s now d recs₁ recs₂ text₁ text₂ u) (f : ℕ) (e : f ≡ flag s (u .at .at)) where
+    pub going-last : ¬ (f ≡ 0) → PatternRead s st d recs recs₂ text text₂ (parsed.Done u)
+    going-last o = g .rest recs₂ text₂ (parsed.Done u) (pattern-last s now d recs₁ recs₂ text₁ text₂ u a f e o)
+
+    pub going-more : f ≡ 0 → length recs₂ ≡ length recs₁ → length text₂ ≡ length text₁ → Going s d st u recs recs₂ text text₂
+    going-more z x y =
+        let m = a .moved in
+        record {
+          gone = gone-more s d st now recs recs₁ text text₁ recs₂ text₂ u (g .gone) (record { within = m .within; atoms = m .atoms; pool = m .pool; shallow = g .gone .ready .shallow }) (omega (arith, m .on)) x y;
+          rest = λ r t b h. g .rest r t b (pattern-more s now d recs₁ recs₂ text₁ text₂ u a f e r t b z h);
+        }
+
 -- the branches of a group from the first
 module _ (s : Bytes) (st : State) (d : ℕ) (recs recs₁ text text₁ : Bytes) where
   pub group-fault : (a : Parsed) (f q : ℕ) → a ≡ parsed.Fault f q → PatternRead s st d recs recs₁ text text₁ a → GroupRead s st d recs recs₁ text text₁ (grouped.Fault f q)
@@ -248,6 +288,58 @@ module _ (s : Bytes) (st : State) (d : ℕ) (recs recs₁ text text₁ : Bytes) 
             wrote = wrote-or (p .tree) (x .tree) (st .atoms) (st .pool) (u .atoms) (u .pool) (w .atoms) (w .pool) recs recs₁ recs₂ text text₁ text₂ (p .wrote) (x .wrote);
             count = omega (arith, x .count);
             scan = λ k l v others z. parted k l v others z ∙ x .scan k l v (p .tree ∷ others) z;
+          }
+
+-- k branches before others
+abbrev later : ℕ → Grouped → Grouped
+later k (grouped.Done u b) = grouped.Done u (k + b)
+later k (grouped.Fault f q) = grouped.Fault f q
+
+-- where the loop over a group's branches stands, after k of them
+pub record Branching (s : Bytes) (d : ℕ) (st now : State) (recs recs₁ text text₁ : Bytes) (k : ℕ) : Type 0 where
+  pub gone : Gone s d st now recs recs₁ text text₁
+  pub few : k ≤ now .atoms
+  pub rest : (recs₂ text₂ : Bytes) (g : Grouped) → GroupRead s now d recs₁ recs₂ text₁ text₂ g → GroupRead s st d recs recs₂ text text₂ (later k g)
+
+pub branching-start : (s : Bytes) (d : ℕ) (st : State) (recs text : Bytes) → Ready s st d → Branching s d st st recs recs text text 0
+branching-start s d st recs text r = record {
+  gone = gone-start s d st recs text r;
+  few = omega arith;
+  rest = λ recs₂ text₂ g h. same recs₂ text₂ g h;
+}
+  where
+    same : (recs₂ text₂ : Bytes) (g : Grouped) → GroupRead s st d recs recs₂ text text₂ g → GroupRead s st d recs recs₂ text text₂ (later 0 g)
+    same recs₂ text₂ (grouped.Done u b) h = let e : 0 + b ≡ b = omega arith in rw e h
+    same recs₂ text₂ (grouped.Fault f q) h = h
+
+module _ (s : Bytes) (d : ℕ) (st now : State) (recs recs₁ text text₁ : Bytes) (k : ℕ) (g : Branching s d st now recs recs₁ text text₁ k) (recs₂ text₂ : Bytes) where
+  pub branching-fault : (a : Parsed) (f q : ℕ) → a ≡ parsed.Fault f q → PatternRead s now d recs₁ recs₂ text₁ text₂ a → GroupRead s st d recs recs₂ text text₂ (grouped.Fault f q)
+  branching-fault a f q e h = g .rest recs₂ text₂ (grouped.Fault f q) (group-fault s now d recs₁ recs₂ text₁ text₂ a f q e h)
+
+  module _ (u : State) (p : PatternIs s now d recs₁ recs₂ text₁ text₂ u) (r : Separator) (h : SeparatorRead s (u .at .at) r) where
+    pub branching-other : r ≡ separator.Other → GroupRead s st d recs recs₂ text text₂ (grouped.Fault FORM (u .at .at))
+    branching-other e = g .rest recs₂ text₂ (grouped.Fault FORM (u .at .at)) (group-other s now d recs₁ recs₂ text₁ text₂ u p r h e)
+
+    pub branching-close : (past : Cursor) → r ≡ separator.Closing past → GroupRead s st d recs recs₂ text text₂ (grouped.Done (state past (u .atoms) (u .pool)) (k + 1))
+    branching-close past e = g .rest recs₂ text₂ (grouped.Done (state past (u .atoms) (u .pool)) 1) (group-close s now d recs₁ recs₂ text₁ text₂ u p r h past e)
+
+    module _ (past : Cursor) (e : r ≡ separator.Comma past) where
+      on-with : (r′ t′ : Bytes) (b : Grouped) → GroupRead s (state past (u .atoms) (u .pool)) d recs₂ r′ text₂ t′ b → GroupRead s st d recs r′ text t′ (later (k + 1) b)
+      on-with r′ t′ (grouped.Done w b) x =
+          let z : k + 1 + b ≡ k + (b + 1) = omega arith in
+          rw z (g .rest r′ t′ (grouped.Done w (b + 1)) (group-comma s now d recs₁ recs₂ text₁ text₂ u p r h past e r′ t′ w b (group-is s (state past (u .atoms) (u .pool)) d recs₂ r′ text₂ t′ (grouped.Done w b) w b refl x)))
+      on-with r′ t′ (grouped.Fault f q) x =
+          g .rest r′ t′ (grouped.Fault f q) (group-comma-fault s now d recs₁ recs₂ text₁ text₂ u p r h past e r′ t′ (grouped.Fault f q) f q refl x)
+
+      pub branching-more : length recs₂ ≡ length recs₁ → length text₂ ≡ length text₁ → Branching s d st (state past (u .atoms) (u .pool)) recs recs₂ text text₂ (k + 1)
+      branching-more x y =
+          let m = p .moved in
+          let w = p .wrote in
+          let o = comma-is s now d recs₁ recs₂ text₁ text₂ u p r h past e in
+          record {
+            gone = gone-more s d st now recs recs₁ text text₁ recs₂ text₂ (state past (u .atoms) (u .pool)) (g .gone) (record { within = omega (arith, o .past, o .within); atoms = m .atoms; pool = omega (arith, m .pool, o .past); shallow = g .gone .ready .shallow }) (omega (arith, m .on, o .past)) x y;
+            few = omega (arith, g .few, w .atoms, some-pattern (p .tree));
+            rest = on-with;
           }
 
 -- each branch has an atom

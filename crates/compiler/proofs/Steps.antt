@@ -1,16 +1,13 @@
 -- The scan over one byte of a source, at a place. Assumes nothing.
-use mathlib.Core.Path.{_≡_, refl, sym, ap, _∙_}
-use mathlib.Core.List.{List, [], _∷_, _++_}
+use mathlib.Core.Path.{_≡_, _∙_}
 use mathlib.Core.Option.{Option, none, some}
 use Prim.Native.Nat.{ℕ, suc, _<_, _≤_}
-use native.Mathlib.Omega.{arith}
 use lib.ListN.{length, drop, getD, drop-of-length-le}
 use lib.Seq.{drop-cons}
 use Rattle.pattern.specs.Numbers.{FORM}
 use Rattle.pattern.specs.Bytes.{Bytes}
 use Rattle.pattern.specs.Reading.{State, step, finish}
-use Rattle.pattern.specs.Scan.{depth, begins, begun, fault, Outcome, refused, scan}
-use Rattle.pattern.specs.Spelling.{kind}
+use Rattle.pattern.specs.Scan.{depth, begins, begun, fault, refused, scan}
 use Rattle.compiler.specs.Places.{kind-at}
 use Rattle.compiler.specs.Scans.{scanned}
 use Rattle.compiler.proofs.Pass.{scan-next, scan-fault, scan-form}

@@ -1,23 +1,23 @@
 -- The scan inside a literal. Assumes nothing.
 use mathlib.Core.Path.{_≡_, refl, sym, ap, _∙_}
 use mathlib.Core.Bool.{true, false}
-use mathlib.Core.List.{List, [], _∷_, _++_}
-use mathlib.Core.Option.{Option, none, some}
+use mathlib.Core.List.{[], _∷_, _++_}
+use mathlib.Core.Option.{Option}
 use Prim.Native.Nat.{ℕ, suc, _<_, _≤_}
 use native.Mathlib.Omega.{arith}
 use lib.ListN.{length, getD}
 use Rattle.pattern.specs.Numbers.{FORM, quote-byte}
 use Rattle.pattern.specs.Bytes.{Bytes, between}
 use Rattle.pattern.specs.Syntax.{literal}
-use Rattle.pattern.specs.Spelling.{quote, Kind, counts, starts, ends, kind, Text, plain, quoting, barred, text}
-use Rattle.pattern.specs.Reading.{inside, after, Around, State, extend, quoted, move, step, finish}
+use Rattle.pattern.specs.Spelling.{quote, starts, kind, Text, plain, quoting, barred, text}
+use Rattle.pattern.specs.Reading.{inside, after, Around, extend, quoted, move, step, finish}
 use Rattle.pattern.specs.Scan.{begins, begun, body-begins, fault, refused}
 use Rattle.pattern.proofs.Notation.{text-byte}
 use Rattle.compiler.specs.declared.cursor.Cursor.{Cursor}
 use Rattle.compiler.specs.declared.cursor.Text.the-variants as read
 use Rattle.compiler.specs.Places.{Onward, kind-at, is-plain, plain-text, ByteIs, Kind-not}
 use Rattle.compiler.specs.Scans.{scanned}
-use Rattle.compiler.specs.Bodies.{Passes, Refuses, in-literal, past-literal, TextRead}
+use Rattle.compiler.specs.Bodies.{Passes, in-literal, past-literal, TextRead}
 use Rattle.compiler.proofs.Steps.{onward, stuck, short}
 
 plain-is : (b : ℕ) → is-plain b ≡ true → text b ≡ plain

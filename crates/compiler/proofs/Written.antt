@@ -1,14 +1,14 @@
 -- The records and the text of a tree, from those of its parts. Assumes nothing.
 use mathlib.Core.Path.{_≡_, refl, sym, ap, ap₂, _∙_}
-use mathlib.Core.List.{List, [], _∷_, _++_, append-assoc}
+use mathlib.Core.List.{List, [], _∷_, _++_}
 use mathlib.Core.Option.{Option}
-use Prim.Native.Nat.{ℕ, suc, _+_, _*_, _≤_}
+use Prim.Native.Nat.{ℕ, suc, _+_, _*_}
 use native.Mathlib.Omega.{arith}
 use native.Mathlib.Numerals.{add-one}
 use lib.ListN.{length, length-append}
 use Rattle.pattern.specs.Numbers.{record-size}
 use Rattle.pattern.specs.Bytes.{Bytes, word}
-use Rattle.pattern.specs.Syntax.{Sort, pattern, atom, body, branches, Syntax, last, then, repeat, codes, literal, group, only, or, size}
+use Rattle.pattern.specs.Syntax.{Sort, pattern, atom, body, branches, Syntax, last, then, repeat, group, only, or, size}
 use Rattle.pattern.specs.Table.{pool, choices, Rec, kind-field, a-field, b-field, rec, records, flat}
 use Rattle.pattern.specs.Repeats.{repeat-of}
 use Rattle.pattern.specs.declared.repeat.Repeat.{Repeat}

@@ -1,14 +1,13 @@
 -- What compiling answers, by the cases of the code's answer; and what is written of a finished reading. Assumes nothing.
-use mathlib.Core.Bool.{true, false}
-use mathlib.Core.List.{List, [], _∷_, _++_}
-use Prim.Native.Nat.{ℕ, _+_, _*_, _≤_}
+use mathlib.Core.List.{_++_}
+use Prim.Native.Nat.{ℕ, _*_, _≤_}
 use lib.ListN.{length, take}
 use Rattle.pattern.specs.Numbers.{source-limit, atom-limit, record-size}
 use Rattle.pattern.specs.Bytes.{Bytes}
 use Rattle.pattern.specs.Table.{header}
 use Rattle.pattern.specs.Answers.{Answer, refusal, result, Output, put}
-use Rattle.compiler.specs.declared.emit.Compiled.{Compiled}
-use Rattle.compiler.specs.declared.emit.Compiled.the-variants as compiled
+use Rattle.compiler.specs.declared.Compiled.{Compiled}
+use Rattle.compiler.specs.declared.Compiled.the-variants as compiled
 
 -- number, position and value of each case; a compiling call has no trials
 abbrev pub answer-of : Compiled → Answer

@@ -6,7 +6,7 @@ use lib.Dec.{ltb}
 use lib.ListN.{length, getD}
 use Rattle.pattern.specs.Numbers.{closing-byte, comma-byte, zero-byte}
 use Rattle.pattern.specs.Bytes.{Bytes}
-use Rattle.pattern.specs.Spelling.{letter, quote, opening, Mark, digit, point, Kind, counts, starts, ends, kind, Text, plain, quoting, barred, text}
+use Rattle.pattern.specs.Spelling.{letter, quote, opening, digit, point, Kind, counts, starts, ends, kind, Text, plain, quoting, barred, text}
 use Rattle.compiler.specs.declared.cursor.Cursor.{Cursor}
 use Rattle.compiler.specs.declared.cursor.Byte.{Byte}
 use Rattle.compiler.specs.declared.cursor.Byte.the-variants as byte

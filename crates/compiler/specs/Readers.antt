@@ -12,14 +12,14 @@ use Rattle.pattern.specs.Reading.{counting, empty, after, Around, within, fork}
 use Rattle.pattern.specs.Scan.{depth, refused}
 use Rattle.pattern.specs.Table.{pool, choices, kind-field, a-field, b-field, records, flat}
 use Rattle.pattern.specs.declared.repeat.Repeat.{Repeat}
-use Rattle.compiler.specs.declared.cursor.Cursor.{Cursor}
+use Rattle.pattern.proofs.SpeltReads.{ended}
 use Rattle.compiler.specs.declared.reader.State.{State}
 use Rattle.compiler.specs.declared.reader.Parsed.{Parsed}
 use Rattle.compiler.specs.declared.reader.Parsed.the-variants as parsed
 use Rattle.compiler.specs.declared.reader.Grouped.{Grouped}
 use Rattle.compiler.specs.declared.reader.Grouped.the-variants as grouped
 use Rattle.compiler.specs.Places.{flag, Kind-not}
-use Rattle.compiler.specs.Scans.{scanned, ended}
+use Rattle.compiler.specs.Scans.{scanned}
 use Rattle.compiler.specs.Buffers.{stored, rec-of}
 use Rattle.compiler.specs.Bodies.{Inside, in-codes, in-literal, Refuses}
 

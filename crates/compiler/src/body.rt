@@ -1,5 +1,4 @@
 // Code letters and literals.
-ghost use mathlib.Core.Path.{_≡_};
 ghost use Prim.Native.Nat.{_≤_};
 ghost use lib.ListN.{length};
 ghost use Rattle.compiler.specs.Bodies.{CodesRead, LiteralRead};
@@ -7,6 +6,9 @@ use crate::cursor::Cursor;
 use crate::cursor::Letter;
 use crate::cursor::Text;
 use pattern::codes;
+
+// The bit of every letter other than the seven.
+const OTHER: u8 = 128;
 
 // The set of a run of code letters, or the place of a letter that is no code.
 pub enum Letters {
@@ -30,7 +32,7 @@ pub fn codes_from(s: &[u8], c: Cursor) -> Letters
         match at.letter(s) {
             Letter::Is(b, next) => {
                 let bit = codes::bit(b);
-                if 128 <= bit {
+                if OTHER <= bit {
                     return Letters::Fault(at.at);
                 }
                 set |= bit;

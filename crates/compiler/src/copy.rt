@@ -6,6 +6,7 @@ ghost use lib.ListN.{length, take};
 ghost use Rattle.pattern.specs.Bytes.{word};
 ghost use Rattle.pattern.specs.Table.{flat};
 ghost use Rattle.compiler.specs.Buffers.{stored, rec-of};
+use pattern::limits;
 use pattern::repeat::Repeat;
 
 // The first n bytes of from.
@@ -34,7 +35,7 @@ pub fn put_record(recs: &mut [u8], i: usize, kind: u8, last: u8, rep: Repeat, a:
     requires { ⌜ 10 * i + 10 ≤ length (now recs) ⌝ }
     ensures { λ _. ⌜ now (recs .exit) ≡ stored (now (recs .entry)) (10 * i) (flat (rec-of kind last rep a b ∷ []) []) ⌝ }
 {
-    let at = 10 * i;
+    let at = limits::RECORD_SIZE * i;
     recs[at] = kind;
     recs[at + 1] = last;
     put16(recs, at + 2, rep.low);

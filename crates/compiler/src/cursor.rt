@@ -53,16 +53,16 @@ pub enum Text {
 fn is_digit(b: u8) -> bool
     ensures { λ r. ⌜ r ≡ is-digit b ⌝ }
 {
-    if 48 <= b { b <= 57 } else { false }
+    if b'0' <= b { b <= b'9' } else { false }
 }
 
 fn is_letter(b: u8) -> bool
     ensures { λ r. ⌜ r ≡ is-letter b ⌝ }
 {
-    if b <= 90 {
-        65 <= b
-    } else if 97 <= b {
-        b <= 122
+    if b <= b'Z' {
+        b'A' <= b
+    } else if b'a' <= b {
+        b <= b'z'
     } else {
         false
     }
@@ -72,10 +72,10 @@ fn is_letter(b: u8) -> bool
 fn is_plain(b: u8) -> bool
     ensures { λ r. ⌜ r ≡ is-plain b ⌝ }
 {
-    if b == 34 {
+    if b == b'"' {
         false
-    } else if 32 <= b {
-        b <= 126
+    } else if b' ' <= b {
+        b <= b'~'
     } else {
         false
     }
@@ -99,7 +99,7 @@ impl Cursor {
         match self.byte(s) {
             Byte::Is(b, next) => {
                 if is_digit(b) {
-                    Digit::Is((b - 48) as u16, next)
+                    Digit::Is((b - b'0') as u16, next)
                 } else {
                     Digit::None
                 }
@@ -113,7 +113,7 @@ impl Cursor {
     {
         match self.byte(s) {
             Byte::Is(b, next) => {
-                if b == 46 {
+                if b == b'.' {
                     Point::Is(next)
                 } else {
                     Point::None
@@ -146,7 +146,7 @@ impl Cursor {
             Byte::Is(b, _) => {
                 if is_digit(b) {
                     0
-                } else if b == 46 {
+                } else if b == b'.' {
                     0
                 } else {
                     1
@@ -163,9 +163,9 @@ impl Cursor {
             Byte::Is(b, next) => {
                 if is_letter(b) {
                     Class::Letter
-                } else if b == 34 {
+                } else if b == b'"' {
                     Class::Quote(next)
-                } else if b == 40 {
+                } else if b == b'(' {
                     Class::Opening(next)
                 } else {
                     Class::Other
@@ -180,9 +180,9 @@ impl Cursor {
     {
         match self.byte(s) {
             Byte::Is(b, next) => {
-                if b == 44 {
+                if b == b',' {
                     Separator::Comma(next)
-                } else if b == 41 {
+                } else if b == b')' {
                     Separator::Closing(next)
                 } else {
                     Separator::Other
@@ -199,11 +199,11 @@ impl Cursor {
             Byte::Is(b, next) => {
                 if is_plain(b) {
                     Text::Byte(b, next)
-                } else if b == 34 {
+                } else if b == b'"' {
                     match next.byte(s) {
                         Byte::Is(d, after) => {
-                            if d == 34 {
-                                Text::Byte(34, after)
+                            if d == b'"' {
+                                Text::Byte(b'"', after)
                             } else {
                                 Text::End(next)
                             }

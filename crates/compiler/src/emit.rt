@@ -1,16 +1,11 @@
 // The table of what was read: header, records and pool.
 ghost use mathlib.Core.Path.{_≡_};
 ghost use Rattle.compiler.specs.Compiling.{answer-of, Emits, emitted};
+use crate::Compiled;
 use crate::copy::copy;
 use crate::copy::put16;
 use crate::refusal;
 use pattern::limits;
-
-// The length of the table, or a refusal and its position.
-pub enum Compiled {
-    Table(usize),
-    Refused(u8, usize),
-}
 
 // A table of these records and this pool, or ROOM at the source's length.
 pub fn emit(

@@ -3,30 +3,36 @@ ghost use mathlib.Core.Path.{_≡_};
 ghost use Rattle.pattern.specs.Answers.{compileOf};
 ghost use Rattle.compiler.specs.Compiling.{answer-of};
 
-pub mod body;
-pub mod copy;
-pub mod count;
-pub mod cursor;
-pub mod emit;
-pub mod reader;
+mod body;
+mod copy;
+mod count;
+mod cursor;
+mod emit;
+mod reader;
 pub mod refusal;
 
 use crate::cursor::Cursor;
-use crate::emit::Compiled;
 use crate::emit::emit;
 use crate::reader::Parsed;
 use crate::reader::State;
 use crate::reader::read_pattern;
 use pattern::limits;
 
+// The length of the table, or a refusal and its position.
+pub enum Compiled {
+    Table(usize),
+    Refused(u8, usize),
+}
+
+// A refused call has written nothing.
 pub fn compile(source: &[u8], table: &mut [u8]) -> Compiled
     ensures { λ r. ⌜ record { answer = answer-of r; bytes = now (table .exit) } ≡ compileOf (now (source .entry)) (now (table .entry)) ⌝ }
 {
     if limits::SOURCE_LIMIT < source.len() {
         return Compiled::Refused(refusal::LONG, limits::SOURCE_LIMIT);
     }
-    let mut recs = [0u8; 640];
-    let mut pool = [0u8; 512];
+    let mut recs = [0u8; limits::RECORD_SIZE * limits::ATOM_LIMIT];
+    let mut pool = [0u8; limits::SOURCE_LIMIT];
     let st = State {
         at: Cursor { at: 0 },
         atoms: 0,

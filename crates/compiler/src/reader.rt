@@ -1,5 +1,4 @@
 // The readers of a pattern, an atom and a group call each other. Records and literal values go to lent buffers.
-ghost use mathlib.Core.Path.{_≡_};
 ghost use Prim.Native.Nat.{_≤_};
 ghost use lib.ListN.{length};
 ghost use Rattle.compiler.specs.Readers.{Ready, Room, LeafReady, CodedRead, WordedRead, PatternRead, AtomRead, GroupRead};
@@ -84,16 +83,18 @@ pub fn read_pattern(s: &[u8], st: State, depth: usize, recs: &mut [u8], pool: &m
     requires { ⌜ Ready (now s) st depth × Room (now s) (now recs) (now pool) ⌝ }
     ensures { λ r. ⌜ PatternRead (now (s .entry)) st depth (now (recs .entry)) (now (recs .exit)) (now (pool .entry)) (now (pool .exit)) r ⌝ }
 {
-    match read_atom(s, st, depth, recs, pool) {
-        Parsed::Done(next) => {
-            let at = next.at;
-            if at.last(s) == 0 {
-                read_pattern(s, next, depth, recs, pool)
-            } else {
-                Parsed::Done(next)
+    let mut from = st;
+    loop {
+        match read_atom(s, from, depth, recs, pool) {
+            Parsed::Done(next) => {
+                let at = next.at;
+                if at.last(s) != 0 {
+                    return Parsed::Done(next);
+                }
+                from = next;
             }
+            Parsed::Fault(no, pos) => return Parsed::Fault(no, pos),
         }
-        Parsed::Fault(no, pos) => Parsed::Fault(no, pos),
     }
 }
 
@@ -137,32 +138,33 @@ fn read_group(s: &[u8], st: State, depth: usize, recs: &mut [u8], pool: &mut [u8
     requires { ⌜ Ready (now s) st depth × Room (now s) (now recs) (now pool) ⌝ }
     ensures { λ r. ⌜ GroupRead (now (s .entry)) st depth (now (recs .entry)) (now (recs .exit)) (now (pool .entry)) (now (pool .exit)) r ⌝ }
 {
-    match read_pattern(s, st, depth, recs, pool) {
-        Parsed::Done(next) => {
-            let at = next.at;
-            match at.separator(s) {
-                Separator::Comma(after) => {
-                    let again = State {
-                        at: after,
-                        atoms: next.atoms,
-                        pool: next.pool,
-                    };
-                    match read_group(s, again, depth, recs, pool) {
-                        Grouped::Done(end, k) => Grouped::Done(end, k + 1),
-                        Grouped::Fault(no, pos) => Grouped::Fault(no, pos),
+    let mut from = st;
+    let mut before: usize = 0;
+    loop {
+        match read_pattern(s, from, depth, recs, pool) {
+            Parsed::Done(next) => {
+                let at = next.at;
+                match at.separator(s) {
+                    Separator::Comma(after) => {
+                        from = State {
+                            at: after,
+                            atoms: next.atoms,
+                            pool: next.pool,
+                        };
+                        before += 1;
                     }
+                    Separator::Closing(after) => {
+                        let end = State {
+                            at: after,
+                            atoms: next.atoms,
+                            pool: next.pool,
+                        };
+                        return Grouped::Done(end, before + 1);
+                    }
+                    Separator::Other => return Grouped::Fault(refusal::FORM, at.at),
                 }
-                Separator::Closing(after) => {
-                    let end = State {
-                        at: after,
-                        atoms: next.atoms,
-                        pool: next.pool,
-                    };
-                    Grouped::Done(end, 1)
-                }
-                Separator::Other => Grouped::Fault(refusal::FORM, at.at),
             }
+            Parsed::Fault(no, pos) => return Grouped::Fault(no, pos),
         }
-        Parsed::Fault(no, pos) => Grouped::Fault(no, pos),
     }
 }

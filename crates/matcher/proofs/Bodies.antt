@@ -1,22 +1,20 @@
 -- The loop over the number of bodies, in plain values. Assumes nothing.
-use mathlib.Core.Path.{_≡_, refl, sym, ap, _∙_}
-use mathlib.Core.Bool.{Bool, true, false, _&&_, _||_}
+use mathlib.Core.Path.{_≡_, refl, _∙_}
+use mathlib.Core.Bool.{true, false}
 use mathlib.Core.List.{List}
 use Prim.Native.Nat.{ℕ, suc, _+_, _*_, _≤_, _<_}
 use native.Mathlib.Numerals.{add-one}
 use native.Mathlib.Omega.{arith}
 use borrow.Author.Tests.{le-leb, lt-leb}
-use lib.Dec.{eqb, leb}
-use lib.ListN.{length, getD}
-use Rattle.pattern.specs.Decision.{Rel, any, made, join}
-use Rattle.pattern.specs.Trials.{sum}
+use lib.ListN.{length}
+use Rattle.pattern.specs.Decision.{any, made, join}
 use Rattle.matcher.specs.declared.join.Tally.{Tally}
 use Rattle.matcher.specs.declared.fill.Source.the-variants.{Either}
-use Rattle.matcher.specs.Cells.{InRoom, Plane, Readable, Kept, Not, on}
+use Rattle.matcher.specs.Cells.{InRoom, Plane, Kept, Not, on}
 use Rattle.matcher.specs.Joined.{join-trials, Ready, Joined}
 use Rattle.matcher.specs.Filled.{held-in, Fit, Aside, Fillable, Filled}
 use Rattle.matcher.specs.Made.{Gatherable, Gathered, fewer, body-trials, Making, Elsewhere, MadeOf}
-use Rattle.matcher.proofs.Planes.{Same, kept-all, kept-then, kept-less, plane-on, plane-same, plane-flags, plane-kept, room-of, planes-le}
+use Rattle.matcher.proofs.Planes.{kept-all, kept-then, kept-less, plane-on, plane-same, plane-flags, plane-kept, room-of, planes-le}
 use Rattle.matcher.proofs.Relations.{join-same, join-trials-same}
 use Rattle.matcher.proofs.Counting.{Counting, count-start, count-step, count-stop, count-end}
 

@@ -1,8 +1,7 @@
 -- The three sentences on budgets, of the matching call: what its answer, scratch and parts are where no other refusal applies. Assumes nothing.
-use mathlib.Core.Path.{_≡_, sym, ap, _∙_}
+use mathlib.Core.Path.{_≡_, sym, _∙_}
 use mathlib.Core.Option.{none, some}
 use Prim.Native.Nat.{ℕ, _≤_, _<_}
-use native.Mathlib.Omega.{arith}
 use lib.ListN.{length}
 use Rattle.pattern.specs.Numbers.{BUDGET}
 use Rattle.pattern.specs.Bytes.{Bytes}
@@ -10,7 +9,7 @@ use Rattle.pattern.specs.Syntax.{pattern, Syntax, size}
 use Rattle.pattern.specs.Parts.{verdict}
 use Rattle.pattern.specs.Trials.{trials, trial-bound}
 use Rattle.pattern.specs.Decode.{decode}
-use Rattle.pattern.specs.Answers.{Answer, Matched as Outcome, cleared, lent-fault, judged, matchOf}
+use Rattle.pattern.specs.Answers.{cleared, lent-fault, judged, matchOf}
 use Rattle.pattern.proofs.Bound.{bound}
 use Rattle.pattern.proofs.Calls.{within-budget, beyond-budget, budgets-agree, bound-enough}
 use Rattle.matcher.specs.declared.Matched.{Matched}

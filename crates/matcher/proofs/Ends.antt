@@ -1,27 +1,27 @@
 -- The parts, in plain values: the search for a last end, and the loop over the top-level atoms. Assumes nothing.
-use mathlib.Core.Path.{_≡_, refl, sym, ap, ap₂, subst, _∙_}
+use mathlib.Core.Path.{_≡_, refl, sym, ap, _∙_}
 use mathlib.Core.Bool.{Bool, true, false, cond}
-use mathlib.Core.List.{List, [], _∷_, _++_, append-assoc, append-nil}
+use mathlib.Core.List.{[], _∷_, _++_, append-assoc, append-nil}
 use Prim.Native.Nat.{ℕ, zero, suc, _+_, _*_, _-_, _/_, _%_, _≤_, _<_}
 use native.Mathlib.Omega.{arith}
-use lib.ListN.{length, getD, set, drop, length-append, length-set, length-drop}
-use lib.Seq.{drop-cons, drop-drop, set-at, append-snoc}
+use lib.ListN.{length, getD, set, drop, length-append, length-set}
+use lib.Seq.{drop-cons, set-at}
 use Rattle.pattern.specs.Bytes.{Bytes, word, over}
 use Rattle.pattern.specs.Syntax.{pattern, atom, Syntax, last, then, size, top-size, nodes}
-use Rattle.pattern.specs.Decision.{Rel, trial, decide}
+use Rattle.pattern.specs.Decision.{trial, decide}
 use Rattle.pattern.specs.Parts.{longest, end, parts}
 use Rattle.pattern.specs.Decode.{layout, its, tree-of}
 use Rattle.pattern.specs.Answers.{part-bytes}
-use Rattle.pattern.proofs.RoundTrip.{some-atom, some-pattern}
+use Rattle.pattern.proofs.RoundTrip.{some-pattern}
 use Rattle.pattern.proofs.Nodes.{At}
 use Rattle.table.specs.declared.Record.{Record}
 use Rattle.table.specs.Fields.{record-of}
 use Rattle.matcher.specs.Cells.{Plane, Readable, on}
-use Rattle.matcher.specs.Atoms.{atoms, node, head, Work, Settled}
+use Rattle.matcher.specs.Atoms.{atoms, node, head}
 use Rattle.matcher.specs.Parted.{Parting, Parted}
-use Rattle.matcher.proofs.Planes.{Same, plane-on, plane-flags}
+use Rattle.matcher.proofs.Planes.{plane-on, plane-flags}
 use Rattle.matcher.proofs.Relations.{trial-same}
-use Rattle.matcher.proofs.Views.{at-node, at-size, ends-last, ends-then}
+use Rattle.matcher.proofs.Views.{at-node, ends-last, ends-then}
 use Rattle.matcher.proofs.Groups.{work-room}
 
 -- ---- the last end

@@ -1,17 +1,16 @@
 -- The loops that fill a plane from a source, in plain values. Assumes nothing.
-use mathlib.Core.Path.{_≡_, refl, sym, ap, ap₂, _∙_}
+use mathlib.Core.Path.{_≡_, refl, ap, ap₂, _∙_}
 use mathlib.Core.Bool.{Bool, not, _&&_, _||_}
 use mathlib.Core.List.{List}
 use mathlib.Core.Logic.{⊎-elim}
-use Prim.Native.Nat.{ℕ, suc, _+_, _-_, _*_, _≤_, _<_}
+use Prim.Native.Nat.{ℕ, suc, _+_, _≤_, _<_}
 use native.Mathlib.Nat.{eq-or-lt-of-le}
 use native.Mathlib.Omega.{arith}
 use lib.Dec.{eqb}
-use lib.ListN.{length, getD, set, length-set}
-use Rattle.pattern.specs.Decision.{Rel}
+use lib.ListN.{length, set, length-set}
 use Rattle.matcher.specs.declared.fill.Source.{Source}
 use Rattle.matcher.specs.declared.fill.Source.the-variants.{Nothing, Empty, Codes, Literal, Copy, Either, Gate}
-use Rattle.matcher.specs.Cells.{InRoom, Plane, Kept, Not, on, at, cell, bitOf}
+use Rattle.matcher.specs.Cells.{InRoom, Kept, on, at, cell, bitOf}
 use Rattle.matcher.specs.Filled.{held-in, Fit, Aside, Fillable, FilledColumn, Filled}
 use Rattle.matcher.proofs.Planes.{mark-here, mark-kept, kept-all, kept-then, kept-less}
 

@@ -1,12 +1,12 @@
 -- The join of an atom with its followers, and the loop over all atoms, in plain values. Assumes nothing.
-use mathlib.Core.Path.{_≡_, refl, sym, ap, ap₂, subst, _∙_}
-use mathlib.Core.Bool.{Bool, true, false}
+use mathlib.Core.Path.{_≡_, refl, sym, ap, _∙_}
+use mathlib.Core.Bool.{true, false}
 use mathlib.Core.List.{List, [], _∷_}
 use mathlib.Core.Logic.{⊎-elim}
 use Prim.Native.Nat.{ℕ, zero, suc, _+_, _*_, _-_, _/_, _≤_, _<_}
 use native.Mathlib.Nat.{eq-or-lt-of-le}
 use native.Mathlib.Omega.{arith}
-use lib.ListN.{length, getD, drop}
+use lib.ListN.{length, drop}
 use lib.Seq.{drop-cons, drop-length}
 use Rattle.pattern.specs.Bytes.{Bytes}
 use Rattle.pattern.specs.Syntax.{pattern, atom, Syntax, last, then, size, nodes}
@@ -19,14 +19,13 @@ use Rattle.table.specs.declared.Record.{Record}
 use Rattle.table.specs.Fields.{record-of}
 use Rattle.matcher.specs.declared.join.Tally.{Tally}
 use Rattle.matcher.specs.declared.fill.Source.the-variants.{Copy}
-use Rattle.matcher.specs.Cells.{Plane, Kept, Not, on}
-use Rattle.matcher.specs.Budget.{Counted}
+use Rattle.matcher.specs.Cells.{Plane, Kept, on}
 use Rattle.matcher.specs.Joined.{join-trials, Ready, Joined}
 use Rattle.matcher.specs.Filled.{held-in, Fit, Aside, Fillable, Filled}
 use Rattle.matcher.specs.Atoms.{atoms, node, head, Work, Settled}
 use Rattle.matcher.specs.Bodied.{Bodying}
-use Rattle.matcher.specs.Steps.{Later, NoPlane, Owned, follow-trials, Following, Followed, Stepped, AllSettled}
-use Rattle.matcher.proofs.Planes.{Same, kept-all, kept-then, kept-less, plane-on, plane-same, plane-flags, plane-kept}
+use Rattle.matcher.specs.Steps.{NoPlane, Owned, follow-trials, Following, Followed, Stepped, AllSettled}
+use Rattle.matcher.proofs.Planes.{kept-all, kept-then, kept-less, plane-on, plane-same, plane-flags, plane-kept}
 use Rattle.matcher.proofs.Relations.{join-same, join-trials-same, joins-all}
 use Rattle.matcher.proofs.Counting.{counted-whole, counted-room, counted-all, counted-stop}
 use Rattle.matcher.proofs.Views.{ends-last, ends-then}

@@ -1,21 +1,20 @@
 -- The plane of an atom's body, in plain values: leaves, and the loop over the branches of a group. Assumes nothing.
-use mathlib.Core.Path.{_≡_, refl, sym, ap, ap₂, subst, _∙_}
+use mathlib.Core.Path.{_≡_, refl, sym, ap, subst, _∙_}
 use mathlib.Core.Bool.{Bool, true, false, _||_}
-use mathlib.Core.List.{List, [], _∷_, _++_}
+use mathlib.Core.List.{[]}
 use mathlib.Core.Logic.{⊎-elim}
-use Prim.Native.Nat.{ℕ, zero, suc, _+_, _*_, _-_, _≤_, _<_}
+use Prim.Native.Nat.{ℕ, suc, _+_, _*_, _≤_, _<_}
 use native.Mathlib.Omega.{arith}
 use native.Mathlib.Nat.{eq-or-lt-of-le}
 use borrow.Author.Tests.{eq-eqb, ne-eqb}
 use lib.Dec.{eqb}
-use lib.ListN.{length, getD}
+use lib.ListN.{length}
 use lib.Seq.{slice, slice-empty, length-slice}
 use Rattle.pattern.specs.Bytes.{Bytes, same}
-use Rattle.pattern.specs.Syntax.{pattern, body, branches, Syntax, codes, literal, group, only, or, size, nodes}
-use Rattle.pattern.specs.Decision.{Rel, decide}
+use Rattle.pattern.specs.Syntax.{pattern, branches, Syntax, only, or, size, nodes}
+use Rattle.pattern.specs.Decision.{decide}
 use Rattle.pattern.specs.Table.{choices}
-use Rattle.pattern.specs.Decode.{Layout, layout, its, tree-of}
-use Rattle.pattern.proofs.Tests.{le-or-lt}
+use Rattle.pattern.specs.Decode.{layout, its, tree-of}
 use Rattle.pattern.proofs.Bound.{nodes-size}
 use Rattle.pattern.proofs.RoundTrip.{some-pattern}
 use Rattle.pattern.proofs.Nodes.{At, at-branch}
@@ -25,7 +24,7 @@ use Rattle.matcher.specs.declared.fill.Source.{Source}
 use Rattle.matcher.specs.declared.fill.Source.the-variants.{Nothing, Empty, Codes, Literal, Either}
 use Rattle.matcher.specs.Cells.{InRoom, Plane, Kept, Not, on}
 use Rattle.matcher.specs.Filled.{held-in, Fit, Aside, Fillable, Filled}
-use Rattle.matcher.specs.Atoms.{GoodTable, atoms, node, head, inside, Work, Settled}
+use Rattle.matcher.specs.Atoms.{atoms, node, head, inside, Work, Settled}
 use Rattle.matcher.specs.Bodied.{Bodying, Bodied}
 use Rattle.matcher.proofs.Planes.{Same, kept-all, kept-then, plane-on, plane-same, plane-flags, plane-kept, room-of, planes-le}
 use Rattle.matcher.proofs.Slices.{same-false}

@@ -1,17 +1,17 @@
 -- The loops of a join, in plain values: what holds where the cells before i of column j, or the columns before j, are stored. Assumes nothing.
-use mathlib.Core.Path.{_≡_, refl, sym, ap, _∙_}
+use mathlib.Core.Path.{_≡_, refl, ap, _∙_}
 use mathlib.Core.Bool.{Bool, true, false}
 use mathlib.Core.List.{List}
 use mathlib.Core.Logic.{⊎-elim}
-use Prim.Native.Nat.{ℕ, suc, _+_, _-_, _*_, _≤_, _<_}
+use Prim.Native.Nat.{ℕ, suc, _+_, _-_, _≤_, _<_}
 use native.Mathlib.Nat.{eq-or-lt-of-le}
 use native.Mathlib.Omega.{arith}
-use lib.ListN.{length, getD, set, length-set}
-use Rattle.pattern.specs.Decision.{Rel, trial, join, any}
-use Rattle.pattern.specs.Trials.{tries, sum}
+use lib.ListN.{length, set, length-set}
+use Rattle.pattern.specs.Decision.{trial, join, any}
+use Rattle.pattern.specs.Trials.{tries}
 use Rattle.matcher.specs.declared.join.Search.{Search}
 use Rattle.matcher.specs.declared.join.Tally.{Tally}
-use Rattle.matcher.specs.Cells.{InRoom, Plane, Readable, Kept, Not, on, at, cell, bitOf}
+use Rattle.matcher.specs.Cells.{Kept, Not, on, at, cell, bitOf}
 use Rattle.matcher.specs.Seek.{seek, trialsOf, stoppedOf, foundOf}
 use Rattle.matcher.specs.Joined.{column-trials, join-trials, Ready, Columned, Joined}
 use Rattle.matcher.proofs.Planes.{Same, mark-here, mark-kept, kept-all, kept-then, kept-less, on-kept, read-kept}

@@ -8,7 +8,7 @@ use native.Mathlib.Omega.{arith}
 use lib.Arith.{digits-lt, digits-div, digits-mod}
 use lib.Bits.{bitAnd}
 use lib.Dec.{eqb}
-use lib.ListN.{length, getD, set}
+use lib.ListN.{length, set}
 use lib.Seq.{getD-set-same, getD-set-other}
 use Rattle.pattern.specs.Decision.{Rel, trial}
 use Rattle.matcher.specs.Cells.{at, cell, InRoom, bitOf, on, Plane, Readable, Kept}

@@ -1,13 +1,10 @@
 -- The refusals of a match from 11 to 14, in order, and what holds where none applies. Assumes nothing.
-use mathlib.Core.Path.{_≡_, refl, sym, ap, subst, _∙_}
-use mathlib.Core.Bool.{Bool, true, false}
-use mathlib.Core.List.{List, [], _∷_}
+use mathlib.Core.Path.{_≡_, refl, sym, ap, _∙_}
 use mathlib.Core.Option.{Option, none, some}
-use Prim.Native.Nat.{ℕ, suc, _+_, _*_, _≤_, _<_}
+use Prim.Native.Nat.{ℕ, _+_, _*_, _≤_, _<_}
 use native.Mathlib.Nat.{mul-le-mul-left, mul-le-mul-right}
 use native.Mathlib.Omega.{arith}
 use borrow.Author.Tests.{lt-ltb, le-ltb}
-use lib.Dec.{ltb}
 use lib.ListN.{length}
 use Rattle.pattern.specs.Numbers.{atom-limit, label-limit, TABLE, LABEL, WORK, PARTS}
 use Rattle.pattern.specs.Bytes.{Bytes}
@@ -15,31 +12,22 @@ use Rattle.pattern.specs.Syntax.{pattern, Syntax, last, then, size, top-size}
 use Rattle.pattern.specs.Scan.{refuse}
 use Rattle.pattern.specs.Print.{print}
 use Rattle.pattern.specs.Decode.{tree-of, decode}
-use Rattle.pattern.specs.Answers.{refusal, work, lent-fault, tried, tried-unless, matched, matchOf, Matched as Outcome}
+use Rattle.pattern.specs.Answers.{work, lent-fault, tried, untried, tried-unless, matched, matchOf}
 use Rattle.pattern.proofs.Accepted.{accepted-exactly}
 use Rattle.pattern.proofs.RoundTrip.{some-atom, tree-encode}
 use Rattle.pattern.proofs.Calls.{print-accepted, decoded-encode}
 use Rattle.table.specs.declared.Summary.{Summary}
-use Rattle.table.specs.declared.Tested.{Tested}
 use Rattle.table.specs.declared.Tested.the-variants.{Bad, Good}
 use Rattle.table.specs.Walk.{tested}
 use Rattle.matcher.specs.Atoms.{GoodTable, atoms}
 use Rattle.matcher.specs.Answered.{Running}
-
--- a refusal leaves the lent bytes as they were
-abbrev refused : ℕ → Bytes → Bytes → Outcome
-refused f scratch parts = record { answer = refusal f 0; scratch = scratch; parts = parts }
-
--- what a call does with a fault of what is lent, if there is one
-abbrev on-fault : Syntax pattern → (label scratch parts : Bytes) → ℕ → Option ℕ → Outcome
-on-fault t label scratch parts budget o = tried-unless o t label scratch parts budget
 
 none-bad : (o : Option (Syntax pattern)) → Bad ≡ tested o → o ≡ none
 unfolding tested
 none-bad none e = refl
 none-bad (some t) e = absurd (let z : _≡_ {A = ℕ} 0 1 = cc in omega arith)
 
-pub bad-table : (table label scratch parts : Bytes) (budget : ℕ) → Bad ≡ tested (decode table) → refused TABLE scratch parts ≡ matchOf table label scratch parts budget
+pub bad-table : (table label scratch parts : Bytes) (budget : ℕ) → Bad ≡ tested (decode table) → untried TABLE scratch parts ≡ matchOf table label scratch parts budget
 unfolding matchOf matched
 bad-table table label scratch parts budget e = sym (ap (λ o. matched o label scratch parts budget) (none-bad (decode table) e))
 
@@ -53,7 +41,7 @@ module _ (table : Bytes) where
   read-tree : (t : Syntax pattern) → decode table ≡ some t → (tree-of table ≡ t) × (size t ≤ atom-limit)
   read-tree t d =
       let (n, h, g) = accepted-exactly (print t) t .0 (print-accepted table t d) in
-      (ap tree-of (sym (decoded-encode table t d)) ∙ tree-encode t (g .parts), g .atoms)
+      (ap tree-of (sym (decoded-encode table t d)) ∙ tree-encode t (g .tree), g .atoms)
 
   some-good : (s : Summary) (o : Option (Syntax pattern)) → Good s ≡ tested o → (t : Syntax pattern) × (o ≡ some t) × (s .atoms ≡ size t) × (s .top ≡ top-size t)
   unfolding tested
@@ -90,19 +78,19 @@ module _ (table : Bytes) where
           omega (arith, mul-le-mul-right (n + 1) rows-few, mul-le-mul-left 33792 b)
 
     module _ (label scratch parts : Bytes) (budget : ℕ) where
-      faulted : (o : Option ℕ) → lent-fault (tree-of table) label scratch parts ≡ o → on-fault (tree-of table) label scratch parts budget o ≡ matchOf table label scratch parts budget
+      faulted : (o : Option ℕ) → lent-fault (tree-of table) label scratch parts ≡ o → tried-unless o (tree-of table) label scratch parts budget ≡ matchOf table label scratch parts budget
       unfolding matchOf matched
-      faulted o f = sym (ap (λ o. matched o label scratch parts budget) (told .0 .decoded) ∙ ap (on-fault (tree-of table) label scratch parts budget) f)
+      faulted o f = sym (ap (λ o. matched o label scratch parts budget) (told .0 .decoded) ∙ ap (λ o. tried-unless o (tree-of table) label scratch parts budget) f)
 
       work-is : work (tree-of table) (length label) ≡ (2 * s .atoms + 4) * (length label + 1) * (length label + 1)
       work-is = ap (λ (k : ℕ). (2 * k + 4) * (length label + 1) * (length label + 1)) (sym (told .1))
 
-      pub long-label : label-limit < length label → refused LABEL scratch parts ≡ matchOf table label scratch parts budget
+      pub long-label : label-limit < length label → untried LABEL scratch parts ≡ matchOf table label scratch parts budget
       unfolding lent-fault refuse tried-unless
       long-label h = faulted (some LABEL) (rw (lt-ltb label-limit (length label) h))
 
       module _ (h : length label ≤ label-limit) where
-        pub little-work : length scratch < (2 * s .atoms + 4) * (length label + 1) * (length label + 1) → refused WORK scratch parts ≡ matchOf table label scratch parts budget
+        pub little-work : length scratch < (2 * s .atoms + 4) * (length label + 1) * (length label + 1) → untried WORK scratch parts ≡ matchOf table label scratch parts budget
         unfolding lent-fault refuse tried-unless
         little-work k =
             let l : length scratch < work (tree-of table) (length label) = rw work-is k in
@@ -112,7 +100,7 @@ module _ (table : Bytes) where
           room : work (tree-of table) (length label) ≤ length scratch
           room = rw work-is k
 
-          pub few-parts : length parts < 2 * s .top → refused PARTS scratch parts ≡ matchOf table label scratch parts budget
+          pub few-parts : length parts < 2 * s .top → untried PARTS scratch parts ≡ matchOf table label scratch parts budget
           unfolding lent-fault refuse tried-unless
           few-parts m =
               let l : length parts < 2 * top-size (tree-of table) = rw (← told .2) m in

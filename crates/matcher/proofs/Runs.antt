@@ -1,29 +1,28 @@
 -- A match where no refusal but 15 can come, in plain values. Assumes nothing.
-use mathlib.Core.Path.{_≡_, refl, sym, ap, ap₂, _∙_}
-use mathlib.Core.Bool.{Bool, true, false}
-use mathlib.Core.List.{List, [], _∷_, _++_}
+use mathlib.Core.Path.{_≡_, refl, sym, ap, _∙_}
+use mathlib.Core.Bool.{true, false}
+use mathlib.Core.List.{List, _++_}
 use mathlib.Core.Option.{Option, none, some}
-use Prim.Native.Nat.{ℕ, suc, _+_, _*_, _≤_, _<_}
+use Prim.Native.Nat.{ℕ, _+_, _*_, _≤_}
 use native.Mathlib.Nat.{mul-le-mul-left, mul-one}
 use native.Mathlib.Omega.{arith}
 use borrow.Author.Tests.{le-leb, lt-leb}
-use lib.Dec.{leb}
 use lib.ListN.{length, getD, drop, replicate, length-drop, length-replicate}
 use lib.Seq.{ext-getD, getD-drop}
 use Rattle.pattern.specs.Numbers.{BUDGET}
 use Rattle.pattern.specs.Bytes.{Bytes, over}
-use Rattle.pattern.specs.Syntax.{pattern, Syntax, size}
+use Rattle.pattern.specs.Syntax.{pattern, Syntax}
 use Rattle.pattern.specs.Decision.{decide}
 use Rattle.pattern.specs.Parts.{parts, verdict}
 use Rattle.pattern.specs.Trials.{trials}
 use Rattle.pattern.specs.Decode.{tree-of}
-use Rattle.pattern.specs.Answers.{Answer, result, work, cleared, part-bytes, judged, tried-if, tried, Matched as Outcome}
+use Rattle.pattern.specs.Answers.{result, work, cleared, judged, tried-if, tried, Matched as Outcome}
 use Rattle.pattern.proofs.Tests.{if-true, if-false}
 use Rattle.pattern.proofs.RoundTrip.{some-pattern}
 use Rattle.matcher.specs.declared.join.Tally.{Tally}
-use Rattle.matcher.specs.Cells.{InRoom, Kept, on}
-use Rattle.matcher.specs.Atoms.{atoms, node, Work, Settled}
-use Rattle.matcher.specs.Steps.{NoPlane, AllSettled}
+use Rattle.matcher.specs.Cells.{InRoom, on}
+use Rattle.matcher.specs.Atoms.{atoms, Work}
+use Rattle.matcher.specs.Steps.{AllSettled}
 use Rattle.matcher.specs.Parted.{Parting, Parted}
 use Rattle.matcher.specs.Answered.{Running}
 use Rattle.matcher.proofs.Planes.{plane-on}
@@ -90,7 +89,8 @@ module _ (table label scratch lent : Bytes) (count : ℕ) (ok : Running table la
     module _ (e : r .stopped ≡ false) where
       judged-is : (o : Option (List ℕ)) → verdict label t ≡ o → tried t label scratch lent budget ≡ judged o t label scratch lent
       unfolding tried tried-if
-      judged-is o v = ap (λ b. tried-if b t label scratch lent budget) (le-leb _ _ (counted-room (got .counted) e)) ∙ ap (λ o. judged o t label scratch lent) v
+      judged-is o v =
+          ap (λ b. tried-if b t label scratch lent budget) (le-leb _ _ (counted-room (got .counted) e)) ∙ ap (λ v. judged v t label scratch lent) v
 
       -- the cell of the whole label is the decision
       decided : on s w 1 0 (length label) ≡ decide label t 0 (length label)

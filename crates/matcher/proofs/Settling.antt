@@ -1,42 +1,34 @@
 -- One atom after the other, in plain values. Assumes nothing.
-use mathlib.Core.Path.{_≡_, refl, sym, ap, ap₂, subst, _∙_}
+use mathlib.Core.Path.{_≡_, refl, sym, ap, _∙_}
 use mathlib.Core.Bool.{Bool, true, false, _&&_, _||_}
-use mathlib.Core.List.{List, [], _∷_, _++_}
-use mathlib.Core.Logic.{⊎-elim}
 use mathlib.Core.Option.{Option, none, some}
-use Prim.Native.Nat.{ℕ, zero, suc, _+_, _*_, _-_, _/_, _≤_, _<_, min}
-use native.Mathlib.Nat.{eq-or-lt-of-le}
+use Prim.Native.Nat.{ℕ, suc, _+_, _*_, _≤_, _<_, min}
 use native.Mathlib.Omega.{arith}
 use borrow.Author.Tests.{le-leb, lt-leb}
-use lib.Dec.{eqb, leb}
-use lib.ListN.{length, getD, drop}
-use lib.Seq.{drop-cons}
-use Rattle.pattern.specs.Numbers.{label-limit, open-high}
+use lib.Dec.{leb}
+use lib.ListN.{length}
+use Rattle.pattern.specs.Numbers.{label-limit}
 use Rattle.pattern.specs.Bytes.{Bytes}
-use Rattle.pattern.specs.Syntax.{pattern, atom, body, Syntax, last, then, repeat, size, nodes}
-use Rattle.pattern.specs.Decision.{Rel, any, made, most, join, repeated, decide}
-use Rattle.pattern.specs.Trials.{sum, joins, repeats, own, total, trials}
+use Rattle.pattern.specs.Syntax.{atom, body, Syntax, repeat}
+use Rattle.pattern.specs.Decision.{Rel, made, most, repeated, decide}
+use Rattle.pattern.specs.Trials.{sum, joins, repeats}
 use Rattle.pattern.specs.Table.{high-field}
-use Rattle.pattern.specs.Decode.{blank, layout, its, tree-of}
-use Rattle.pattern.proofs.Bound.{nodes-size}
+use Rattle.pattern.specs.Decode.{layout, its}
 use Rattle.table.specs.declared.Record.{Record}
 use Rattle.table.specs.Fields.{record-of}
 use Rattle.matcher.specs.declared.join.Tally.{Tally}
-use Rattle.matcher.specs.declared.fill.Source.{Source}
-use Rattle.matcher.specs.declared.fill.Source.the-variants.{Nothing, Empty, Copy, Gate}
-use Rattle.matcher.specs.Cells.{InRoom, Plane, Readable, Kept, Not, on}
-use Rattle.matcher.specs.Budget.{Counted}
-use Rattle.matcher.specs.Joined.{join-trials, Ready, Joined}
+use Rattle.matcher.specs.declared.fill.Source.the-variants.{Nothing, Empty, Gate}
+use Rattle.matcher.specs.Cells.{InRoom, Plane, Kept, on}
+use Rattle.matcher.specs.Joined.{join-trials}
 use Rattle.matcher.specs.Filled.{held-in, Fit, Aside, Fillable, Filled}
-use Rattle.matcher.specs.Made.{fewer, body-trials, Making, MadeOf}
-use Rattle.matcher.specs.Atoms.{GoodTable, atoms, node, head, inside, Work, Settled}
+use Rattle.matcher.specs.Made.{fewer, body-trials, MadeOf}
+use Rattle.matcher.specs.Atoms.{node, head, inside}
 use Rattle.matcher.specs.Bodied.{Bodying, Bodied}
-use Rattle.matcher.specs.Steps.{Later, NoPlane, Begun, Owned, follow-trials, Following, Followed, Stepped, AllSettled}
-use Rattle.matcher.proofs.Planes.{Same, kept-all, kept-then, kept-less, plane-on, plane-same, plane-flags, plane-kept}
-use Rattle.matcher.proofs.Relations.{any-same, sum-same, join-same, join-trials-same, joins-all, made-same}
-use Rattle.matcher.proofs.Counting.{counted-whole, counted-room, counted-all, counted-past, counted-stop}
-use Rattle.matcher.proofs.Views.{told-count, ends-last, ends-then}
-use Rattle.matcher.proofs.Groups.{settled-kept, work-long, work-room, work-few}
+use Rattle.matcher.specs.Steps.{Later, Begun, Owned}
+use Rattle.matcher.proofs.Planes.{Same, kept-then, kept-less, plane-on, plane-same, plane-flags, plane-kept}
+use Rattle.matcher.proofs.Relations.{any-same, sum-same, join-trials-same, joins-all, made-same}
+use Rattle.matcher.proofs.Views.{told-count}
+use Rattle.matcher.proofs.Groups.{work-long, work-room}
 
 -- ---- the planes to start from
 

@@ -1,20 +1,20 @@
 -- What the record of an atom says of it, in a good table. Assumes nothing.
 use mathlib.Core.Path.{_≡_, refl, sym, ap, ap₂, subst, _∙_}
 use mathlib.Core.List.{List, [], _∷_, _++_}
-use mathlib.Core.Option.{Option, none, some}
-use Prim.Native.Nat.{ℕ, zero, suc, _+_, _*_, _-_, _≤_, _<_}
+use mathlib.Core.Option.{Option, none}
+use Prim.Native.Nat.{ℕ, suc, _+_, _*_, _-_, _≤_, _<_}
 use native.Mathlib.Omega.{arith}
 use lib.ListN.{length, getD, take, drop, length-append, length-drop}
 use lib.Seq.{slice, getD-drop, take-append-seam}
 use Rattle.pattern.specs.Numbers.{header-size, record-size}
 use Rattle.pattern.specs.Bytes.{Bytes}
-use Rattle.pattern.specs.Syntax.{Sort, pattern, atom, body, branches, Syntax, last, then, repeat, codes, literal, group, only, or, size, nodes}
-use Rattle.pattern.specs.Table.{pool, choices, high-field, kind-field, a-field, b-field, Rec, rec, records, encode}
-use Rattle.pattern.specs.Decode.{blank, Layout, layout, its, tree-of, decode}
+use Rattle.pattern.specs.Syntax.{pattern, atom, body, branches, Syntax, last, then, repeat, codes, literal, group, size, nodes}
+use Rattle.pattern.specs.Table.{pool, choices, high-field, kind-field, a-field, b-field, rec, records}
+use Rattle.pattern.specs.Decode.{blank, layout, its, tree-of}
 use Rattle.pattern.proofs.Bound.{all-nodes, nodes-size, outside}
 use Rattle.pattern.proofs.Stretch.{slice-take}
-use Rattle.pattern.proofs.Records.{Placed, Stands, head-there, then-there}
-use Rattle.pattern.proofs.RoundTrip.{some-pattern, some-atom, encode-length}
+use Rattle.pattern.proofs.Records.{Placed, head-there, then-there}
+use Rattle.pattern.proofs.RoundTrip.{some-pattern, encode-length}
 use Rattle.pattern.proofs.Nodes.{At, at-atom, at-last, at-next, Held, held}
 use Rattle.pattern.proofs.Calls.{decoded-encode}
 use Rattle.table.specs.declared.Record.{Record}

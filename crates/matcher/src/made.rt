@@ -1,5 +1,4 @@
 // Stretches made of several bodies. Plane top has the body; top + 1 and top + 2 take turns.
-ghost use mathlib.Core.Path.{_≡_};
 ghost use Prim.Native.Nat.{_≤_};
 ghost use Rattle.matcher.specs.Made.{Gatherable, Gathered, Making, MadeOf};
 use crate::fill::Source;

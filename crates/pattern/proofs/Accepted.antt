@@ -20,10 +20,10 @@ use Rattle.pattern.specs.Places.{before-size, others-size, around-size, 
 use Rattle.pattern.specs.Scan.{low, high, ahead, depth, body-begins, an-atom, begins, begun, large, falls, refuse, atom-fault, fault, Outcome, refused, accepted, scan, outcome}
 use Rattle.pattern.specs.Within.{Small, Fits, Good, Limited}
 use Rattle.pattern.proofs.Tests.{Decides, On, le-or-lt, leb-decides, both, no-test}
-use Rattle.pattern.proofs.Begun.{join-size, held-next, leave-count, move-count}
+use Rattle.pattern.proofs.Begun.{join-size, next-size, leave-count, move-count}
 use Rattle.pattern.proofs.Form.{form}
 
--- how far the begun-at at a place was looked at: its longest run has no fault yet, none but perhaps a large second number, or none
+-- how far the count at a place was looked at: its longest run has no fault yet, none but perhaps a large second number, or none
 Looked : Run → Run → Type 0
 Looked empty r = Unit {0}
 Looked (first n) r = (low r ≤ number-limit) × UpTo (high r) (low r)
@@ -135,7 +135,7 @@ ahead-stop : (r : Run) (b : Starter) (c : ℕ) (s : Bytes) → kind c ≡ starts
 unfolding ahead
 ahead-stop r b c s e = rw (e, ahead)
 
--- a begun-at begins or goes on
+-- a count begins or goes on
 grow-looks : (r : Run) (m : Mark) (c : ℕ) (s : Bytes) (d n : ℕ) → kind c ≡ counts m
     → On (grow r m c) (λ r′. ((n ≤ atom-limit) × Looked r (ahead r (c ∷ s)) × (fault (begins (counting r) (counts m)) d n c s ≡ none))
     ↔ ((begun (begins (counting r) (counts m)) n ≤ atom-limit) × Looked r′ (ahead r′ s)))
@@ -164,7 +164,7 @@ counted-holds none k s n n′ X G e c = tt
 counted-holds (some r) k s n n′ X G e c =
     (λ ((a, h, x), g). let (b, y) = e .0 (a, x, g) in (rw c b, h, y), λ (b, h, y). let (a, x, g) = e .1 (rw c at b, y) in ((a, h, x), g))
 
--- a begun-at ends where a body begins
+-- a count ends where a body begins
 first-fits : (n : ℕ) (b : Starter) (c : ℕ) (s : Bytes) → kind c ≡ starts b → Looked (first n) (ahead (first n) (c ∷ s)) ↔ Fits n (some n)
 unfolding Looked low high Small UpTo
 first-fits n b c s e = rw (ahead-stop (first n) b c s e) (λ (x, y). (x, x, y), λ (x, z, y). (x, y))
@@ -243,10 +243,10 @@ next-holds : (k : Around) (l : ℕ) (h : Option ℕ) (b : Syntax body) (s : Byte
 unfolding begun-at Placed Looked size Good
 next-holds k l h b s =
     let i = next-holding k (repeat l h b) in
-    let e = held-next k (repeat l h b) in
+    let e = next-size k (repeat l h b) in
     (λ (n, x, y). (omega arith, i .0 (x, y), tt), λ (n, x, y). let (z, w) = i .1 x in (omega arith, z, w))
 
--- the same with another begun-at
+-- the same with another count
 by-fits : {n : ℕ} {H X Y G Z : Type 0} → X ↔ Y → (((n ≤ atom-limit) × H × Y) × G) ↔ Z → (((n ≤ atom-limit) × H × X) × G) ↔ Z
 by-fits e f = (λ ((n, h, x), g). f .0 ((n, h, e .0 x), g), λ z. let ((n, h, y), g) = f .1 z in ((n, h, e .1 y), g))
 
@@ -269,7 +269,7 @@ after-holds : (m : Mark) (c : ℕ) (s : Bytes) (k : Around) (l : ℕ) (h : Optio
 unfolding begins fault
 after-holds m c s k l h b e =
     let i = next-holds k l h b (c ∷ s) in
-    let f : begun-at (after l h b) k ≡ begun-at (counting empty) (next k (repeat l h b)) = unfold begun-at size in sym (held-next k (repeat l h b)) in
+    let f : begun-at (after l h b) k ≡ begun-at (counting empty) (next k (repeat l h b)) = unfold begun-at size in sym (next-size k (repeat l h b)) in
     on-via (counted (next k (repeat l h b)) (grow empty m c)) s (λ (x, g). (i .0 x, rw f at g), λ (y, g). (i .1 y, rw f g)) (counting-holds empty (next k (repeat l h b)) m c s e)
 
 -- a byte brings no fault, and all before is good, just where all is good after it
@@ -300,8 +300,8 @@ finish-holds (after l h b) (top before) =
     let a : Syntax pattern = last (repeat l h b) in
     let e = join-size before a in
     let i = join-good 0 before a in (
-      λ (n, x, y). record { parts = i .0 (x, y); atoms = omega arith },
-      λ t. let (x, y) = i .1 (t .parts) in (omega (arith, t .atoms), x, y),
+      λ (n, x, y). record { tree = i .0 (x, y); atoms = omega arith },
+      λ t. let (x, y) = i .1 (t .tree) in (omega (arith, t .atoms), x, y),
     )
 finish-holds (after l h b) (within k u v others before) = tt
 

@@ -1,4 +1,4 @@
--- Theorem A: the decision agrees with the meaning. Assumes nothing.
+-- The decision agrees with the meaning. Assumes nothing.
 use mathlib.Core.Path.{_≡_, refl, sym, ap, _∙_}
 use mathlib.Core.Bool.{_&&_}
 use mathlib.Core.List.{[], _∷_}
@@ -68,7 +68,7 @@ module _ {l : Bytes} where
         (few P low high n (slice i j l) o (rw (length-slice i j l k) (omega arith)));
   }
 
-  -- Theorem A: of every stretch the decision says just whether it satisfies the tree
+  -- of every stretch the decision says just whether it satisfies the tree
   pub agree : {s : Sort} (x : Syntax s) → Ordered x → Agree l (decide l x) (Satisfies x)
   unfolding decide Satisfies Ordered
   agree (last a) o = agree a o

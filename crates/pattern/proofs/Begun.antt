@@ -22,10 +22,10 @@ unfolding others-size fork size
 fork-size [] bs = omega arith
 fork-size (p ∷ others) bs = omega (arith, fork-size others (or p bs))
 
-pub held-next : (k : Around) (a : Syntax atom) → around-size (next k a) ≡ size a + around-size k
+pub next-size : (k : Around) (a : Syntax atom) → around-size (next k a) ≡ size a + around-size k
 unfolding around-size next before-size
-held-next (top before) a = refl
-held-next (within k l h others before) a = omega arith
+next-size (top before) a = refl
+next-size (within k l h others before) a = omega arith
 
 grow-count : (r : Run) (m : Mark) (c : ℕ) (k : Around) → On (counted k (grow r m c)) (λ q. begun-at (q .0) (q .1) ≡ suc (around-size k))
 unfolding counted grow begun-at
@@ -82,6 +82,6 @@ move-count (counting (pointed n)) k (starts b) c = enter-count n none k b c
 move-count (counting (second n m)) k (starts b) c = enter-count n (some m) k b c
 move-count (counting r) k (ends e) c = tt
 move-count (inside l h value) k x c = quoted-count l h value k (text c) c
-move-count (after l h b) k (counts m) c = rw held-next at (grow-count empty m c (next k (repeat l h b)))
+move-count (after l h b) k (counts m) c = rw next-size at (grow-count empty m c (next k (repeat l h b)))
 move-count (after l h b) k (starts x) c = extend-count l h b k x c
 move-count (after l h b) k (ends x) c = leave-count k l h b x

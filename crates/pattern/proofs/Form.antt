@@ -12,7 +12,7 @@ use Rattle.pattern.specs.Faults.{Viable}
 use Rattle.pattern.proofs.ReadSpells.{sound}
 use Rattle.pattern.proofs.SpeltReads.{Leads, reads-on, complete}
 
--- Theorem B: a source is read as a tree just where it spells it
+-- a source is read as a tree just where it spells it
 pub form : (s : Bytes) (t : Syntax pattern) → (read s ≡ some t) ↔ Spells t s
 form s t = (λ e. rw e at (sound s), complete t s)
 

@@ -20,3 +20,4 @@ pub mod RoundTrip
 pub mod Calls
 pub mod CodeRows
 pub mod Nodes
+pub mod LongestRuns

@@ -1,21 +1,22 @@
--- Theorem B: the parts are a partition of the label, and the greatest. Assumes nothing.
-use mathlib.Core.Path.{_≡_, refl, ap}
+-- The parts are a partition of the label, and the longest-first one. Assumes nothing.
+use mathlib.Core.Path.{_≡_, refl, sym, ap, _∙_}
 use mathlib.Core.Logic.{inl, inr, ⊎-elim}
 use mathlib.Core.Bool.{Bool, true, false}
 use mathlib.Core.List.{List, [], _∷_}
-use mathlib.Core.Option.{Option, none, some}
-use Prim.Native.Nat.{ℕ, zero, suc, _+_, _-_, _<_, _≤_}
+use mathlib.Core.Option.{Option, none, some, Option·none-ne-some}
+use Prim.Native.Nat.{ℕ, zero, suc, _+_, _-_, _*_, _<_, _≤_}
 use native.Mathlib.Nat.{eq-or-lt-of-le}
 use native.Mathlib.Omega.{arith}
 use lib.Dec.{T, T-not}
-use lib.ListN.{length}
+use lib.ListN.{length, getD}
 use lib.Seq.{slice, take-length}
 use Rattle.pattern.specs.Bytes.{Bytes}
-use Rattle.pattern.specs.Syntax.{pattern, atom, Syntax, last, then}
+use Rattle.pattern.specs.Syntax.{pattern, atom, Syntax, last, then, top-size}
 use Rattle.pattern.specs.Meaning.{Cut, Satisfies}
 use Rattle.pattern.specs.Decision.{trial, decide}
 use Rattle.pattern.specs.Parts.{longest, Partition, Lex, Means, end, parts, verdict}
 use Rattle.pattern.specs.Within.{Ordered}
+use Rattle.pattern.specs.Answers.{part-bytes}
 use Rattle.pattern.proofs.Tests.{Decides, cond-case, below-suc}
 use Rattle.pattern.proofs.Stretch.{cut-slice, slice-cut}
 use Rattle.pattern.proofs.Agree.{trial-agree, agree}
@@ -71,7 +72,7 @@ module _ (l : Bytes) where
       let (f, g, s′, q′) = choice a p (o .0) (o .1) i m h k s (partition-satisfies l p m rest q) in
       rw e (⊎-elim (λ x. inr (x, rw x at (parts-longest p (o .1) m rest q))) inl (eq-or-lt-of-le f))
 
-  -- Theorem B: the verdict is no just where the label does not satisfy the pattern, and else its greatest partition
+  -- the verdict is no just where the label does not satisfy the pattern, and else its greatest partition
   pub verdict-means : (p : Syntax pattern) → Ordered p → Means l p (verdict l p)
   unfolding Means verdict
   verdict-means p o = go (decide l p 0 (length l)) (rw take-length at (agree {l = l} p o .on 0 (length l) (omega arith) (omega arith)))
@@ -98,3 +99,32 @@ means-one l p none none h k = refl
 means-one l p none (some y) h k = absurd (h (rw take-length at (partition-satisfies l p 0 y (k .0))))
 means-one l p (some x) none h k = absurd (k (rw take-length at (partition-satisfies l p 0 x (h .0))))
 means-one l p (some x) (some y) h k = ap some (lex-antisym x y (k .1 x (h .0)) (h .1 y (k .0)))
+
+-- ---- the parts as they are written
+
+-- there is a part for each top-level atom
+pub parts-length : (l : Bytes) (p : Syntax pattern) (i : ℕ) → length (parts l p i) ≡ top-size p
+unfolding parts top-size
+parts-length l (last a) i = refl
+parts-length l (then a p) i = ap suc (parts-length l p (end l a p i))
+
+pub verdict-length : (l : Bytes) (p : Syntax pattern) (ends : List ℕ) → verdict l p ≡ some ends → length ends ≡ top-size p
+unfolding verdict
+verdict-length l p ends e = go (decide l p 0 (length l)) e
+  where
+    go : (b : Bool) → _≡_ {A = Option (List ℕ)} (elim b [ true ↦ some (parts l p 0) | false ↦ none ]) (some ends) → length ends ≡ top-size p
+    go true e = let z : parts l p 0 ≡ ends = cc in ap length (sym z) ∙ parts-length l p 0
+    go false e = absurd (Option·none-ne-some ends e)
+
+-- no end is past the label
+pub ends-within : (l : Bytes) (p : Syntax pattern) (i : ℕ) (ends : List ℕ) → Partition l p i ends → (k : ℕ) → getD ends k 0 ≤ length l
+unfolding Partition
+ends-within l (last a) i ends (e, s) zero = rw e (omega arith)
+ends-within l (last a) i ends (e, s) (suc k) = rw e (omega arith)
+ends-within l (then a p) i ends (m, rest, e, h, g, s, q) zero = rw e g
+ends-within l (then a p) i ends (m, rest, e, h, g, s, q) (suc k) = rw e (ends-within l p m rest q k)
+
+pub part-bytes-length : (es : List ℕ) → length (part-bytes es) ≡ 2 * length es
+unfolding part-bytes
+part-bytes-length [] = refl
+part-bytes-length (e ∷ es) = omega (arith, part-bytes-length es)

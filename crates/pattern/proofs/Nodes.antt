@@ -46,6 +46,7 @@ module _ {xs : List (Syntax pattern)} {k : ℕ} where
 
 -- in a table of this layout the node at place k of the list has its records from index i + k on
 module _ (s : Bytes) (l : Layout) where
+  -- (the records of a pattern do not depend on ends)
   pub record Held (xs : List (Syntax pattern)) (i k : ℕ) : Type 0 where
     pub node : Syntax pattern
     pub ends : ℕ

@@ -35,7 +35,7 @@ first-runs k digit c d e = Number.one c d
 first-runs k point c d e = ([], rw e, missing)
 
 -- a count goes on
-grow-runs : (k : Around) (r : Run) (m : Mark) (c : ℕ) (u : Bytes) → kind c ≡ counts m → Byte (counts m) c → Runs k r u → On (grow r m c) (λ r′. Runs k r′ (u ++ c ∷ []))
+pub grow-runs : (k : Around) (r : Run) (m : Mark) (c : ℕ) (u : Bytes) → kind c ≡ counts m → Byte (counts m) c → Runs k r u → On (grow r m c) (λ r′. Runs k r′ (u ++ c ∷ []))
 unfolding grow Runs
 grow-runs k empty m c u d e (h, o) = rw h (unfold grow Runs in first-runs k m c d e)
 grow-runs k (first n) digit c u d e h = Number.more h c d

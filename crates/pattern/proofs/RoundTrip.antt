@@ -32,12 +32,12 @@ unfolding size
 some-pattern (last a) = some-atom a
 some-pattern (then a q) = omega (arith, some-atom a)
 
-some-choice : (bs : Syntax branches) → 0 < choices bs
+pub some-choice : (bs : Syntax branches) → 0 < choices bs
 unfolding choices
 some-choice (only q) = omega arith
 some-choice (or q bs) = omega arith
 
-high-again : (h : Option ℕ) → Small h → high-of (high-field h) ≡ h
+pub high-again : (h : Option ℕ) → Small h → high-of (high-field h) ≡ h
 unfolding high-of Small
 high-again none f = refl
 high-again (some m) f = if-false _ _ _ (ne-eqb m open-high (λ e. omega arith))
@@ -147,6 +147,6 @@ module _ (s : Bytes) where
     λ e. let (a, m) = compiled-is (outcome (print (tree-of s))) t .0 e in (print (tree-of s), a, m),
     λ (source, a, m).
         let (n, h, g) = accepted-exactly source t .0 a in
-        let v : tree-of s ≡ t = ap tree-of (sym m) ∙ tree-encode t (g .parts) in
+        let v : tree-of s ≡ t = ap tree-of (sym m) ∙ tree-encode t (g .tree) in
         compiled-is (outcome (print (tree-of s))) t .1 (ap (λ u. outcome (print u)) v ∙ good-tree t .0 (source, a), m),
   )

@@ -153,7 +153,7 @@ shortest d (or p bs) w (g, k) (x, y, e, h, i) =
 pub good-tree : (t : Syntax pattern) → ((s : Bytes) × (outcome s ≡ accepted t)) ↔ (outcome (print t) ≡ accepted t)
 good-tree t = (
   λ (s, e). let (l, h, g) = accepted-exactly s t .0 e in
-      let k = shortest 0 t s (g .parts) h in
-      accepted-exactly (print t) t .1 (omega arith, printed 0 t s (g .parts) h, g),
+      let k = shortest 0 t s (g .tree) h in
+      accepted-exactly (print t) t .1 (omega arith, printed 0 t s (g .tree) h, g),
   λ e. (print t, e),
 )

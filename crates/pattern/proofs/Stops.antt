@@ -15,10 +15,10 @@ use Rattle.pattern.specs.Spelling.{kind, Spells}
 use Rattle.pattern.specs.Reading.{State, step, finish, read-from, start, read}
 use Rattle.pattern.specs.Places.{place-after, begun-at}
 use Rattle.pattern.specs.Scan.{depth, Begins, an-atom, a-second, a-code, a-group, nothing, begins, refuse, atom-fault, fault}
-use Rattle.pattern.specs.Faults.{Viable, Stops, later-rows, rows-there, rows-at, Applies}
+use Rattle.pattern.specs.Faults.{Viable, Stops, rows-there, rows-at, Applies}
 use Rattle.pattern.proofs.Tests.{On}
 use Rattle.pattern.proofs.SpeltReads.{Leads, by-step, _⨾_, reads-on, complete}
-use Rattle.pattern.proofs.TableRows.{refuse-applies, refuse-none, refuse-lowest, found, found-there, found-rows, rows-ascend}
+use Rattle.pattern.proofs.TableRows.{refuse-applies, refuse-none, refuse-lowest, found, found-there, found-rows, rows-ascend, row-number}
 use Rattle.pattern.proofs.Form.{form, viable, not-viable}
 
 -- no fault of a byte is FORM
@@ -110,14 +110,6 @@ stuck-from (c ∷ s) q e = go (step q c) refl e (λ q′ h. stuck-from s q′ h)
     go none z e f = (0, omega arith, rw (z, found-there, found))
     go (some q′) z e f = let (j, l, h) = f q′ e in (suc j, omega arith, rw (z, place-after) h)
 
--- no row has a number below FORM
-lowest-form : (o : Option State) (s : Bytes) (f : ℕ) → Applies (rows-there o s) f → FORM ≤ f
-unfolding rows-there later-rows Applies
-lowest-form none s f a = absurd a
-lowest-form (some q) [] f a = ⊎-elim (λ (x, y). omega arith) (λ b. absurd b) a
-lowest-form (some q) (c ∷ s) f a =
-    ⊎-elim (λ (x, y). omega arith) (⊎-elim (λ (x, y). omega arith) (⊎-elim (λ (x, y). omega arith) (⊎-elim (λ (x, y). omega arith) (⊎-elim (λ (x, y). omega arith) (⊎-elim (λ (x, y). omega arith) (λ b. absurd b)))))) a
-
 stops-from : (s : Bytes) (q : State) (u : Bytes) → Leads start u q → (j : ℕ) → j ≤ length s → (found-there (place-after q (take j s)) (drop j s) ≡ some FORM) ↔ Stopping u s j
 unfolding found-there found place-after read-from
 stops-from [] q u h zero l = at-end u q h (finish (q .0) (q .1)) refl
@@ -142,7 +134,7 @@ form-found s p =
     go none r a = absurd (refuse-none _ FORM r a)
     go (some f) r a =
         let u : f ≤ FORM = refuse-lowest _ 0 f FORM (rows-ascend _ _) r a in
-        let v : FORM ≤ f = lowest-form _ _ f (refuse-applies _ f r) in
+        let v : FORM ≤ f = row-number _ _ f (refuse-applies _ f r) .0 in
         let w : f ≡ FORM = omega arith in
         sym (found-rows _ (drop p s)) ∙ r ∙ ap some w
 

@@ -1,5 +1,5 @@
 -- The scan's fault at a place is the lowest of the table's rows that apply there. Assumes nothing.
-use mathlib.Core.Path.{_≡_, refl, sym, ap, _∙_}
+use mathlib.Core.Path.{_≡_, refl}
 use mathlib.Core.Logic.{_⊎_, inl, inr, ⊎-elim}
 use mathlib.Core.Bool.{Bool, true, false, not, _&&_, _||_}
 use mathlib.Core.List.{List, [], _∷_}
@@ -7,8 +7,7 @@ use mathlib.Core.Option.{Option, none, some, Option·none-ne-some, Option·some-
 use Prim.Native.Nat.{ℕ, suc, _≤_, _<_}
 use native.Mathlib.Omega.{arith}
 use lib.Dec.{T, leb, ltb, leb→le}
-use borrow.Author.Tests.{lt-leb}
-use Rattle.pattern.specs.Numbers.{number-limit, FORM, NUMBER, RANGE, ATOMS, DEPTH}
+use Rattle.pattern.specs.Numbers.{number-limit, FORM, DEPTH}
 use Rattle.pattern.specs.Bytes.{Bytes}
 use Rattle.pattern.specs.Syntax.{pattern, Syntax}
 use Rattle.pattern.specs.Spelling.{kind}
@@ -117,3 +116,16 @@ unfolding rows-there later-rows
 rows-ascend none s = tt
 rows-ascend (some q) [] = (tt, tt)
 rows-ascend (some q) (c ∷ s) = (tt, (tt, (tt, (tt, (tt, (tt, tt))))))
+
+-- the numbers of the rows are 2 to 7
+pub row-number : (o : Option State) (s : Bytes) (f : ℕ) → Applies (rows-there o s) f → (FORM ≤ f) × (f ≤ DEPTH)
+unfolding rows-there later-rows Applies
+row-number none s f a = absurd a
+row-number (some q) [] f a = ⊎-elim (λ (x, y). (omega arith, omega arith)) (λ b. absurd b) a
+row-number (some q) (c ∷ s) f a =
+    ⊎-elim (λ (x, y). (omega arith, omega arith))
+    (⊎-elim (λ (x, y). (omega arith, omega arith))
+    (⊎-elim (λ (x, y). (omega arith, omega arith))
+    (⊎-elim (λ (x, y). (omega arith, omega arith))
+    (⊎-elim (λ (x, y). (omega arith, omega arith))
+    (⊎-elim (λ (x, y). (omega arith, omega arith)) (λ b. absurd b)))))) a

@@ -33,8 +33,8 @@ abbrev small : ℕ
 small = 1 + 8 + 4
 
 -- the character set in order: how many bytes of each sort follow each other, and 128 bytes of no class
-unfoldable pub layout : List ℕ
-layout =
+unfoldable pub in-order : List ℕ
+in-order =
     replicate 32 control ++ replicate 16 punctuation ++ replicate 10 digit ++ replicate 7 punctuation ++ replicate 26 capital
     ++ replicate 6 punctuation ++ replicate 26 small ++ replicate 4 punctuation ++ replicate 1 control ++ replicate 128 0
 
@@ -43,6 +43,6 @@ unfoldable pub count-up : ℕ → ℕ → List ℕ
 count-up zero b = []
 count-up (suc c) b = b ∷ count-up c (suc b)
 
-pub classes-hold : map classes (count-up 256 0) ≡ layout
-unfolding between all-codes ranged coded in-set classes layout count-up
+pub classes-hold : map classes (count-up 256 0) ≡ in-order
+unfolding between all-codes ranged coded in-set classes in-order count-up
 classes-hold = refl

@@ -1,6 +1,6 @@
 -- The examples P1 to P14 and the easy errors, from their source texts, by computation. Assumes nothing.
 use mathlib.Core.Path.{_≡_, refl}
-use mathlib.Core.List.{List, [], _∷_, map}
+use mathlib.Core.List.{List, [], _∷_, _++_, map}
 use mathlib.Core.Option.{Option, none, some}
 use Prim.Native.Nat.{ℕ}
 use lib.ListN.{take, replicate}
@@ -19,10 +19,10 @@ use Rattle.pattern.specs.Table.{pool, choices, kind-field, a-field, b-fi
 use Rattle.pattern.specs.Decode.{high-of, pattern-at, tree-of, compiled-to, decode}
 use Rattle.pattern.specs.Answers.{Output, put-if, put, compiled, compileOf, Matched, cleared, part-bytes, lent-fault, judged, tried-if, tried, tried-unless, matched, matchOf}
 
--- what a source and a label give under a budget: compiled into 64 bytes, then matched with 1,024 bytes of scratch and 8 of parts
+-- what a source and a label give under a budget: compiled into 128 bytes, then matched with 1,024 bytes of scratch and 8 of parts
 unfoldable pub run : Bytes → Bytes → ℕ → Matched
 run source label budget =
-    let c : Output = compileOf source (replicate 64 7) in
+    let c : Output = compileOf source (replicate 128 7) in
     matchOf (take (c .answer .value) (c .bytes)) label (replicate 1024 7) (replicate 8 7) budget
 
 -- an example: what is run, and the number, verdict, parts and, where the paper says them, trials that it must answer
@@ -73,9 +73,21 @@ easy-errors =
     ∷ matches (bytes ".5N") [] (0 ∷ []) none
     ∷ []
 
+-- counts worked out by hand, with more bodies and followers than P1 to P14 have
+unfoldable pub counts : List Example
+counts =
+    matches (bytes "2N") (bytes "12") (2 ∷ []) (some 17)
+    ∷ matches (bytes ".N1N") (bytes "12") (1 ∷ 2 ∷ []) (some 34)
+    ∷ matches (bytes "1N.N") (bytes "12") (1 ∷ 2 ∷ []) (some 32)
+    ∷ matches (bytes "2(1N,1A)") (bytes "a1") (2 ∷ []) (some 35)
+    ∷ matches (bytes "1(1N1A,1A1N)1N") (bytes "a12") (2 ∷ 3 ∷ []) (some 167)
+    ∷ matches (bytes "1.6N1.2N") (bytes "1234567") (6 ∷ 7 ∷ []) (some 984)
+    ∷ fails (bytes "300N") (bytes "12") (some 17)
+    ∷ []
+
 -- what an example is found to answer, its trials only where the paper says them
-unfoldable pub found : Example → ℕ × ℕ × Bytes × Option ℕ
-found e =
+unfoldable pub answered : Example → ℕ × ℕ × Bytes × Option ℕ
+answered e =
     let m : Matched = run (e .source) (e .label) (e .budget) in
     (m .answer .number, m .answer .value, m .parts, elim (e .count) [ none ↦ none | some c ↦ some (m .answer .trials) ])
 
@@ -83,7 +95,39 @@ found e =
 unfoldable pub due : Example → ℕ × ℕ × Bytes × Option ℕ
 due e = (e .number, e .value, over (part-bytes (e .ends)) (replicate 8 7), e .count)
 
--- P1 to P14 together, and the easy errors together
-pub examples-hold : (map found examples ≡ map due examples) × (map found easy-errors ≡ map due easy-errors)
-unfolding between same over bytes all-codes ranged coded in-set bit-among bit size top-size nodes any trial join made most repeated one decide longest end parts verdict tries sum stretches joins repeats own total trials kind text join-atoms fork next enter extend leave quoted grow counted move step finish low high ahead depth body-begins begins begun large falls refuse atom-fault fault scan outcome decimal-of decimal print-low print-count print-set double print pool choices kind-field a-field b-field records flat header encode high-of pattern-at tree-of compiled-to decode put-if put compiled compileOf cleared part-bytes lent-fault judged tried-if tried tried-unless matched matchOf run examples easy-errors found due
-examples-hold = (refl, refl)
+-- P1 to P14 together, the easy errors together, the counts together
+pub examples-hold : (map answered examples ≡ map due examples) × (map answered easy-errors ≡ map due easy-errors) × (map answered counts ≡ map due counts)
+unfolding between same over bytes all-codes ranged coded in-set bit-among bit size top-size nodes any trial join made most repeated one decide longest end parts verdict tries sum stretches joins repeats own total trials kind text join-atoms fork next enter extend leave quoted grow counted move step finish low high ahead depth body-begins begins begun large falls refuse atom-fault fault scan outcome decimal-of decimal print-low print-count print-set double print pool choices kind-field a-field b-field records flat header encode high-of pattern-at tree-of compiled-to decode put-if put compiled compileOf cleared part-bytes lent-fault judged tried-if tried tried-unless matched matchOf run examples easy-errors counts answered due
+examples-hold = (refl, refl, refl)
+
+-- ---- whole calls, with bare numbers: 4 atoms of which 2 stand at the top, 2 bytes of label, so 108 bytes of scratch and 4 of parts
+
+unfoldable pub table-of : Bytes → Bytes
+table-of source = let c : Output = compileOf source (replicate 128 7) in take (c .answer .value) (c .bytes)
+
+abbrev table-4 : Bytes
+table-4 = table-of (bytes "1(1N,1A)1N")
+
+abbrev left-alone : ℕ → (scratch parts : ℕ) → Matched
+left-alone number scratch parts =
+    record { answer = record { number = number; position = 0; value = 0; trials = 0 }; scratch = replicate scratch 7; parts = replicate parts 7 }
+
+-- yes, no, and the budget one short; what is lent beyond the need stays
+pub verdicts-hold : (matchOf table-4 (bytes "a1") (replicate 110 7) (replicate 5 7) 44
+    ≡ record { answer = record { number = 0; position = 0; value = 1; trials = 44 }; scratch = replicate 108 0 ++ 7 ∷ 7 ∷ []; parts = 1 ∷ 0 ∷ 2 ∷ 0 ∷ 7 ∷ [] })
+    × (matchOf table-4 (bytes "aa") (replicate 110 7) (replicate 5 7) 1000
+    ≡ record { answer = record { number = 0; position = 0; value = 0; trials = 46 }; scratch = replicate 108 0 ++ 7 ∷ 7 ∷ []; parts = replicate 5 7 })
+    × (matchOf table-4 (bytes "a1") (replicate 110 7) (replicate 5 7) 43
+    ≡ record { answer = record { number = 15; position = 0; value = 0; trials = 43 }; scratch = replicate 108 0 ++ 7 ∷ 7 ∷ []; parts = replicate 5 7 })
+unfolding between same over bytes all-codes ranged coded in-set bit-among bit size top-size nodes any trial join made most repeated one decide longest end parts verdict tries sum stretches joins repeats own total trials kind text join-atoms fork next enter extend leave quoted grow counted move step finish low high ahead depth body-begins begins begun large falls refuse atom-fault fault scan outcome decimal-of decimal print-low print-count print-set double print pool choices kind-field a-field b-field records flat header encode high-of pattern-at tree-of compiled-to decode put-if put compiled compileOf cleared part-bytes lent-fault judged tried-if tried tried-unless matched matchOf table-of
+verdicts-hold = (refl, refl, refl)
+
+-- 11 to 14, each with all that come after it; the limits themselves are taken
+pub refusals-hold : (matchOf (77 ∷ 80 ∷ 84 ∷ []) (replicate 256 65) (7 ∷ []) (7 ∷ []) 0 ≡ left-alone 11 1 1)
+    × (matchOf table-4 (replicate 256 65) (7 ∷ []) (7 ∷ []) 0 ≡ left-alone 12 1 1)
+    × (matchOf table-4 (replicate 255 65) (7 ∷ []) (7 ∷ []) 0 ≡ left-alone 13 1 1)
+    × (matchOf table-4 (bytes "a1") (replicate 107 7) (replicate 3 7) 0 ≡ left-alone 13 107 3)
+    × (matchOf table-4 (bytes "a1") (replicate 108 7) (replicate 3 7) 0 ≡ left-alone 14 108 3)
+    × (matchOf table-4 (bytes "a1") (replicate 108 7) (replicate 4 7) 44 .answer .number ≡ 0)
+unfolding between same over bytes all-codes ranged coded in-set bit-among bit size top-size nodes any trial join made most repeated one decide longest end parts verdict tries sum stretches joins repeats own total trials kind text join-atoms fork next enter extend leave quoted grow counted move step finish low high ahead depth body-begins begins begun large falls refuse atom-fault fault scan outcome decimal-of decimal print-low print-count print-set double print pool choices kind-field a-field b-field records flat header encode high-of pattern-at tree-of compiled-to decode put-if put compiled compileOf cleared part-bytes lent-fault judged tried-if tried tried-unless matched matchOf table-of
+refusals-hold = (refl, refl, refl, refl, refl, refl)

@@ -15,7 +15,7 @@ pub data Run : Type 0 where
   first pointed : (n : ℕ) → Run
   second : (n m : ℕ) → Run
 
--- a place between two bytes: before or in a count; inside a literal; after a body or a part of it, which a code letter, a quote or a bracket ended
+-- a place between two bytes: before or in a count; inside a literal; after a body or a part of it, which a code letter, a quote or a closing parenthesis ended
 pub data Place : Type 0 where
   counting : Run → Place
   inside : (low : ℕ) (high : Option ℕ) (value : Bytes) → Place

@@ -36,6 +36,13 @@ sources =
     ∷ (bytes "N", FORM, 0)
     ∷ (bytes "1\"a", FORM, 3)
     ∷ (49 ∷ 34 ∷ 127 ∷ 34 ∷ [], FORM, 2)
+    -- what is left aside: indirection, negation, bracket ranges, Y and Z codes, names
+    ∷ (bytes "@X", FORM, 0)
+    ∷ (bytes "1'N", FORM, 1)
+    ∷ (bytes "1[\"a\"]", FORM, 1)
+    ∷ (bytes "1Y", CODE, 1)
+    ∷ (bytes "1z", CODE, 1)
+    ∷ (bytes "4N(ITEM)", FORM, 2)
     -- a second number is never the open end; a first one that does not fit comes before the range
     ∷ (bytes ".65535N", NUMBER, 1)
     ∷ (bytes "10000.5N", NUMBER, 0)

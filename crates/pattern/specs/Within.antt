@@ -38,5 +38,5 @@ Good d (or p bs) = Good d p × Good d bs
 
 -- a pattern within the limits
 pub record Limited (t : Syntax pattern) : Type 0 where
-  pub parts : Good 0 t
+  pub tree : Good 0 t
   pub atoms : size t ≤ atom-limit

@@ -1,8 +1,8 @@
 -- What the walk over a whole table says of `decode`. Assumes nothing.
 use mathlib.Core.Path.{_≡_, refl, sym, ap, subst, _∙_}
 use mathlib.Core.Bool.{Bool, true, false}
-use mathlib.Core.Option.{Option, none, some}
-use Prim.Native.Nat.{ℕ, zero, suc, _+_, _*_, _-_, _<_, _≤_}
+use mathlib.Core.Option.{none, some}
+use Prim.Native.Nat.{ℕ, _+_, _*_, _-_, _<_, _≤_}
 use native.Mathlib.Omega.{arith}
 use lib.Dec.{leb, eqb}
 use lib.ListN.{length, getD, take, drop, length-drop}
@@ -16,17 +16,13 @@ use Rattle.pattern.specs.Print.{print}
 use Rattle.pattern.specs.Decode.{decode}
 use Rattle.table.specs.Opening.{pick, header-of, headed, opened-of}
 use Rattle.table.specs.Checked.{after, only-if, read-pattern, read, walk}
-use Rattle.table.specs.Walk.{Place, place, beyond, came, walked-by, Ready, tested}
-use Rattle.table.specs.declared.Summary.{Summary}
-use Rattle.table.specs.declared.Tested.{Tested}
+use Rattle.table.specs.Walk.{Place, place, came, Ready, tested}
 use Rattle.table.specs.declared.Tested.the-variants as verdict
 use Rattle.table.specs.declared.opening.Header.{Header}
-use Rattle.table.specs.declared.opening.Opened.{Opened}
 use Rattle.table.specs.declared.opening.Opened.the-variants as opened
-use Rattle.table.specs.declared.walk.Walked.{Walked}
 use Rattle.table.specs.declared.walk.Walked.the-variants as walked
 use Rattle.table.proofs.Options.{kept, dropped, going-on, stopped}
-use Rattle.table.proofs.Whole.{Opens, opens, walk-is-decode}
+use Rattle.table.proofs.Whole.{opens, walk-is-decode}
 use Rattle.table.proofs.Steps.{PatternReads, walked-some, walked-none}
 
 -- what reading the header said

@@ -1,38 +1,26 @@
 -- Trees with good counts, sets that have a code and literals of plain bytes: just those that their printed source spells. Assumes nothing.
-use mathlib.Core.Path.{_≡_, refl, sym, ap, _∙_}
-use mathlib.Core.Logic.{_⊎_, inl, inr, ⊎-elim}
+use mathlib.Core.Path.{_≡_, refl, sym}
 use mathlib.Core.Bool.{Bool, true, false, _&&_, _||_}
-use mathlib.Core.List.{List, [], _∷_, _++_}
+use mathlib.Core.List.{[], _∷_}
 use mathlib.Core.Option.{Option, none, some}
-use Prim.Native.Nat.{ℕ, zero, suc, _≤_, _<_}
+use Prim.Native.Nat.{ℕ, suc, _≤_}
 use native.Mathlib.Omega.{arith}
 use lib.Dec.{T, leb, eqb}
-use borrow.Author.Tests.{eqb-true, leb-true, ltb-true, eq-eqb, ne-eqb, le-leb, lt-ltb}
-use Rattle.pattern.specs.Numbers.{number-limit, set-limit, quote-byte, open-high}
+use borrow.Author.Tests.{eqb-true, leb-true, ne-eqb, le-leb}
+use Rattle.pattern.specs.Numbers.{number-limit, quote-byte, open-high}
 use Rattle.pattern.specs.Bytes.{Bytes, between}
-use Rattle.pattern.specs.Codes.{all-codes}
 use Rattle.pattern.specs.Syntax.{Sort, Syntax, last, then, repeat, codes, literal, group, only, or}
 use Rattle.pattern.specs.Meaning.{Cut, UpTo}
-use Rattle.pattern.specs.Spelling.{Quoted, start, Spells}
+use Rattle.pattern.specs.Spelling.{start, Spells}
 use Rattle.pattern.specs.Within.{Small, Fits, Good}
-use Rattle.pattern.specs.Print.{print-count, print-set, double, print}
+use Rattle.pattern.specs.Print.{print-count, double, print}
 use Rattle.pattern.specs.Table.{high-field}
 use Rattle.pattern.specs.Decode.{high-of}
-use Rattle.pattern.proofs.Tests.{passed, if-true, if-false}
+use Rattle.pattern.proofs.Tests.{passed}
 use Rattle.pattern.proofs.Printed.{count-printed, Printable, quoted-printed, letters-printed, letters-some, quoted-printable}
-use Rattle.table.specs.Checked.{plain, ordered, a-set}
+use Rattle.table.specs.Checked.{plain, ordered}
+use Rattle.table.specs.Standing.{Clean}
 use Rattle.table.proofs.Options.{and-true, true-and}
-
--- sets have a code, and literals plain bytes
-unfoldable pub Clean : {s : Sort} → Syntax s → Type 0
-Clean (last a) = Clean a
-Clean (then a p) = Clean a × Clean p
-Clean (repeat low high b) = Clean b
-Clean (codes set) = 0 < set
-Clean (literal value) = plain value ≡ true
-Clean (group bs) = Clean bs
-Clean (only p) = Clean p
-Clean (or p bs) = Clean p × Clean bs
 
 pub true-T : (b : Bool) → b ≡ true → T b
 true-T true h = tt
@@ -82,11 +70,6 @@ high-back h = go (eqb h open-high) refl
     go true e = sym (eqb-true h open-high e)
     go false e = refl
 
-pub high-again : (h : Option ℕ) → Small h → high-of (high-field h) ≡ h
-unfolding high-of Small
-high-again none f = refl
-high-again (some m) f = if-false _ _ _ (ne-eqb m open-high (λ e. omega arith))
-
 pub ordered-fits : (low high : ℕ) → ordered low high ≡ true → Fits low (high-of high)
 unfolding ordered high-of Small UpTo
 ordered-fits low high e = let (x, y) = and-true (leb low number-limit) _ e in go (eqb high open-high) (leb-true _ _ x) y
@@ -95,11 +78,8 @@ ordered-fits low high e = let (x, y) = and-true (leb low number-limit) _ e in go
     go true x y = (x, tt, tt)
     go false x y = let (u, v) = and-true (leb low high) (leb high number-limit) y in (x, leb-true _ _ v, leb-true _ _ u)
 
-or-true : (b : Bool) → b || true ≡ true
-or-true true = refl
-or-true false = refl
-
 pub fits-ordered : (low : ℕ) (high : Option ℕ) → Fits low high → ordered low (high-field high) ≡ true
 unfolding ordered Small UpTo
 fits-ordered low none (x, y, z) = true-and _ _ (le-leb low number-limit x) refl
-fits-ordered low (some high) (x, y, z) = true-and _ _ (le-leb low number-limit x) (rw (le-leb low high z, le-leb high number-limit y, or-true))
+fits-ordered low (some high) (x, y, z) =
+    true-and _ _ (le-leb low number-limit x) (rw (ne-eqb high open-high (λ e. omega arith), le-leb low high z, le-leb high number-limit y))

@@ -1,48 +1,35 @@
 -- A good tree whose records and literals stand in the bytes is the one that the checked reading gives. Assumes nothing.
-use mathlib.Core.Path.{_≡_, refl, sym, ap, ap₂, _∙_}
-use mathlib.Core.Bool.{Bool, true, false, _&&_}
-use mathlib.Core.Option.{Option, none, some}
-use mathlib.Core.List.{List, [], _∷_, _++_}
-use Prim.Native.Nat.{ℕ, zero, suc, _+_, _*_, _<_, _≤_, pred}
+use mathlib.Core.Path.{_≡_, refl, ap, _∙_}
+use mathlib.Core.Option.{Option, some}
+use Prim.Native.Nat.{ℕ, zero, suc, _+_, _*_, _<_}
 use native.Mathlib.Omega.{arith}
-use lib.Dec.{leb, ltb, eqb}
+use lib.Dec.{ltb, eqb}
 use borrow.Author.Tests.{lt-ltb, le-leb, eq-eqb, ne-eqb}
-use lib.ListN.{length, take, drop, length-append}
+use lib.ListN.{length, take, length-append}
 use lib.Seq.{take-append-seam}
 use Rattle.pattern.specs.Numbers.{depth-limit, set-limit, record-size}
 use Rattle.pattern.specs.Bytes.{Bytes}
-use Rattle.pattern.specs.Syntax.{Sort, pattern, atom, body, branches, Syntax, last, then, repeat, codes, literal, group, only, or, size}
-use Rattle.pattern.specs.Within.{Fits, Good}
-use Rattle.pattern.specs.Table.{pool, choices, kind-field, a-field, b-field, high-field, Rec, rec, records, flat}
-use Rattle.pattern.specs.Decode.{rec-at, Layout, high-of}
-use Rattle.pattern.proofs.Records.{Stands, Placed, head-there, tail-there, then-there, or-there}
-use Rattle.pattern.proofs.RoundTrip.{some-atom, some-pattern}
+use Rattle.pattern.specs.Syntax.{pattern, atom, body, branches, Syntax, last, then, repeat, codes, literal, group, only, or, size}
+use Rattle.pattern.specs.Within.{Good}
+use Rattle.pattern.specs.Table.{pool, choices, kind-field, a-field, b-field, Rec, rec, records}
+use Rattle.pattern.specs.Decode.{rec-at, high-of}
+use Rattle.pattern.proofs.Records.{Placed, head-there, tail-there, then-there, or-there}
+use Rattle.pattern.proofs.RoundTrip.{some-atom, some-pattern, some-choice, high-again}
 use Rattle.table.specs.Checked.{plain, ordered, a-set, after, only-if, choose, its, text, leaf, closed, read-pattern, read-atom, read-branches}
+use Rattle.table.specs.Standing.{Clean, bare, Set}
 use Rattle.table.proofs.Options.{kept, first, second, going-on, true-and}
-use Rattle.table.proofs.Clean.{Clean, high-again, fits-ordered}
-
--- where the records and the pool stand in bytes that begin with the records
-abbrev pub bare : ℕ → Layout
-bare A = record { records = 0; pool = record-size * A }
-
--- a good tree stands there, and ends within the records and the bytes
-pub record Set (s : Bytes) (A : ℕ) {o : Sort} (e : ℕ) (t : Syntax o) (i p d : ℕ) : Type 0 where
-  pub placed : Placed s (bare A) e t i p
-  pub good : Good d t
-  pub clean : Clean t
-  pub within : i + size t ≤ A
-  pub pooled : record-size * A + p + length (pool t) ≤ length s
+use Rattle.table.proofs.Clean.{fits-ordered}
 
 module _ (s : Bytes) (A : ℕ) where
-  set-last : {e : ℕ} {a : Syntax atom} {i p d : ℕ} → Set s A e (last a) i p d → Set s A 1 a i p d
+  pub set-last : {e : ℕ} {a : Syntax atom} {i p d : ℕ} → Set s A e (last a) i p d → Set s A 1 a i p d
   unfolding records size pool Good Clean
   set-last h = record { placed = h .placed; good = h .good; clean = h .clean; within = h .within; pooled = h .pooled }
 
-  set-only : {e : ℕ} {q : Syntax pattern} {i p d : ℕ} → Set s A e (only q) i p d → Set s A e q i p d
+  pub set-only : {e : ℕ} {q : Syntax pattern} {i p d : ℕ} → Set s A e (only q) i p d → Set s A e q i p d
   unfolding records size pool Good Clean
   set-only h = record { placed = h .placed; good = h .good; clean = h .clean; within = h .within; pooled = h .pooled }
 
-  set-then : (e : ℕ) (a : Syntax atom) (q : Syntax pattern) (i p d : ℕ) → Set s A e (then a q) i p d → Set s A 0 a i p d × Set s A e q (i + size a) (p + length (pool a)) d
+  pub set-then : (e : ℕ) (a : Syntax atom) (q : Syntax pattern) (i p d : ℕ) → Set s A e (then a q) i p d → Set s A 0 a i p d × Set s A e q (i + size a) (p + length (pool a)) d
   unfolding size pool Good Clean
   set-then e a q i p d h =
       let (x, y) = then-there e a q (h .placed) in
@@ -51,7 +38,7 @@ module _ (s : Bytes) (A : ℕ) where
         record { placed = y; good = h .good .1; clean = h .clean .1; within = omega (arith, h .within); pooled = omega (arith, h .pooled) },
       )
 
-  set-or : (e : ℕ) (q : Syntax pattern) (bs : Syntax branches) (i p d : ℕ) → Set s A e (or q bs) i p d → Set s A e q i p d × Set s A e bs (i + size q) (p + length (pool q)) d
+  pub set-or : (e : ℕ) (q : Syntax pattern) (bs : Syntax branches) (i p d : ℕ) → Set s A e (or q bs) i p d → Set s A e q i p d × Set s A e bs (i + size q) (p + length (pool q)) d
   unfolding size pool Good Clean
   set-or e q bs i p d h =
       let (x, y) = or-there e q bs (h .placed) in
@@ -61,19 +48,19 @@ module _ (s : Bytes) (A : ℕ) where
       )
 
   -- the branches of a group
-  set-group : (e low : ℕ) (high : Option ℕ) (bs : Syntax branches) (i p d : ℕ) → Set s A e (repeat low high (group bs)) i p d → Set s A e bs (suc i) p (suc d)
+  pub set-group : (e low : ℕ) (high : Option ℕ) (bs : Syntax branches) (i p d : ℕ) → Set s A e (repeat low high (group bs)) i p d → Set s A e bs (suc i) p (suc d)
   unfolding records size pool Good Clean
   set-group e low high bs i p d h =
       record { placed = tail-there (h .placed); good = h .good .1 .1; clean = h .clean; within = omega (arith, h .within); pooled = h .pooled }
 
   -- the record of an atom
-  its-there : (e low : ℕ) (high : Option ℕ) (b : Syntax body) (i p : ℕ) → Placed s (bare A) e (repeat low high b) i p → its s A i ≡ rec e low high b i p
+  pub its-there : (e low : ℕ) (high : Option ℕ) (b : Syntax body) (i p : ℕ) → Placed s (bare A) e (repeat low high b) i p → its s A i ≡ rec e low high b i p
   unfolding records
   its-there e low high b i p h =
       let n : record-size * i ≡ 0 + record-size * i = omega arith in
       ap (rec-at s) n ∙ head-there h
 
-  its-ends : (e : ℕ) (a : Syntax atom) (i p : ℕ) → Placed s (bare A) e a i p → its s A i .ends ≡ e
+  pub its-ends : (e : ℕ) (a : Syntax atom) (i p : ℕ) → Placed s (bare A) e a i p → its s A i .ends ≡ e
   its-ends e (repeat low high b) i p h = ap (λ (r : Rec). r .ends) (its-there e low high b i p h)
 
   -- an atom, by its record
@@ -134,11 +121,6 @@ module _ (s : Bytes) (A : ℕ) where
       ∙ second _ _ _ (ne-eqb (its s A i .ends) 1 (λ x. omega (arith, z, x)))
       ∙ kept _ _ (eq-eqb _ _ z)
       ∙ going-on _ _ (ih .patterns e q _ _ d c (omega (arith, n, some-atom a)))
-
-  some-choice : (bs : Syntax branches) → 0 < choices bs
-  unfolding choices
-  some-choice (only q) = omega arith
-  some-choice (or q bs) = omega arith
 
   complete-branches : (f : ℕ) → Complete f → (e : ℕ) (bs : Syntax branches) (i p d : ℕ) → Set s A e bs i p d → 3 * size bs + 2 < suc f → read-branches s A (suc f) (choices bs) i p d ≡ some bs
   unfolding read-pattern size choices

@@ -1,24 +1,23 @@
 -- The cases of a leaf. Assumes nothing.
 use mathlib.Core.Path.{_≡_, refl, sym, ap, ap₂, _∙_}
 use mathlib.Core.Logic.{⊎-elim}
-use mathlib.Core.Bool.{Bool, true, false, _&&_}
-use mathlib.Core.Option.{Option, none, some}
-use mathlib.Core.List.{List, [], _∷_, _++_}
-use Prim.Native.Nat.{ℕ, zero, suc, _+_, _*_, _-_, _<_, _≤_}
+use mathlib.Core.Bool.{Bool, true, false}
+use mathlib.Core.Option.{some}
+use mathlib.Core.List.{[], _∷_, _++_}
+use Prim.Native.Nat.{ℕ, suc, _+_, _*_, _<_, _≤_}
 use native.Mathlib.Omega.{arith}
-use lib.Dec.{ltb, leb, eqb}
-use lib.ListN.{length, getD, take, drop, length-take, length-drop, length-append}
+use lib.Dec.{ltb}
+use lib.ListN.{length, take, drop, length-take, length-drop, length-append}
 use borrow.Author.Tests.{le-leb, lt-leb, eq-eqb, ne-eqb, ltb-true}
 use Rattle.pattern.specs.Numbers.{record-size, set-limit, quote-byte}
 use Rattle.pattern.specs.Bytes.{Bytes}
 use Rattle.pattern.specs.Codes.{all-codes}
-use Rattle.pattern.specs.Syntax.{body, Syntax, codes, literal, size}
+use Rattle.pattern.specs.Syntax.{body, Syntax, size}
 use Rattle.pattern.specs.Table.{Rec, pool}
 use Rattle.pattern.specs.Print.{print-set, double, print}
 use Rattle.table.specs.Opening.{pick}
-use Rattle.table.specs.Checked.{plain, a-set, only-if, text, leaf as leaf-read}
+use Rattle.table.specs.Checked.{plain, a-set, leaf as leaf-read}
 use Rattle.table.specs.Leaves.{text-of, leaf-of, codes-leaf, text-leaf}
-use Rattle.table.specs.declared.lengths.Text.{Text}
 use Rattle.table.specs.declared.lengths.Text.the-variants as texts
 use Rattle.table.specs.declared.walk.Leaf.the-variants as leaf
 use Rattle.table.proofs.Options.{inside, only-some, choose-some, kept, dropped, first, second, and-true}

@@ -4,6 +4,7 @@ pub mod Clean
 pub mod Sound
 pub mod Complete
 pub mod Whole
+pub mod Sources
 pub mod Measures
 pub mod Leafing
 pub mod Steps

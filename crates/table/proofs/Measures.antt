@@ -2,25 +2,26 @@
 use mathlib.Core.Path.{_≡_, refl, sym, ap, ap₂, _∙_}
 use mathlib.Core.Bool.{Bool, true, false, _&&_}
 use mathlib.Core.List.{List, [], _∷_, _++_}
-use mathlib.Core.Option.{Option, none, some}
-use Prim.Native.Nat.{ℕ, zero, suc, _+_, _*_, _/_, _%_, _<_, _≤_}
+use Prim.Native.Nat.{ℕ, suc, _+_, _*_, _/_, _%_, _<_, _≤_}
+use native.Mathlib.Numerals.{add-one}
 use native.Mathlib.Omega.{arith}
-use lib.Dec.{T, ltb, leb, eqb, eqb→eq, leb→le}
+use lib.Dec.{T, leb, eqb, eqb→eq, leb→le}
 use lib.ListN.{length, getD, take, drop, length-append, drop-of-length-le}
 use lib.Seq.{drop-cons, getD-take, length-take-le}
 use borrow.Author.Tests.{lt-ltb, le-ltb, le-leb, lt-leb, eq-eqb, ne-eqb}
-use Rattle.pattern.specs.Numbers.{zero-byte, point-byte, quote-byte, open-high, header-size}
+use Rattle.pattern.specs.Numbers.{point-byte, quote-byte, open-high, header-size}
 use Rattle.pattern.specs.Bytes.{Bytes, between, same}
-use Rattle.pattern.specs.Codes.{Code, all-codes}
+use Rattle.pattern.specs.Codes.{all-codes}
 use Rattle.pattern.specs.Print.{decimal-of, decimal, print-low, print-count, print-set, double}
 use Rattle.pattern.specs.Decode.{high-of}
-use Rattle.pattern.proofs.Tests.{if-true, if-false, all, all-at}
+use Rattle.pattern.proofs.Tests.{and-both, if-true, if-false, all, all-at}
 use Rattle.table.specs.Opening.{pick, opening, header-of, headed, opened-of}
 use Rattle.table.specs.Checked.{plain}
 use Rattle.table.specs.Leaves.{text-of}
 use Rattle.table.specs.declared.opening.Opened.{Opened}
 use Rattle.table.specs.declared.opening.Opened.the-variants as opened
 use Rattle.table.specs.declared.lengths.Text.the-variants as texts
+use Rattle.table.proofs.Sources.{count-open, count-two, quote-here, plain-here, double-end}
 
 -- ---- numbers
 
@@ -52,73 +53,33 @@ pub digits-4 : (n : ℕ) → 1000 ≤ n → 4 ≡ length (decimal n)
 unfolding decimal
 digits-4 n h = omega (arith, more 2 n (omega arith), more 1 (n / 10) (omega arith), more 0 (n / 10 / 10) (omega arith), last-digit (n / 10 / 10 / 10))
 
-pub low-none : (n : ℕ) → n ≡ 0 → 0 ≡ length (print-low n)
-unfolding print-low
-low-none n e = sym (ap length (if-true _ _ _ (eq-eqb n 0 e)))
-
-pub low-some : (n : ℕ) → (n ≡ 0 → ⊥) → length (decimal n) ≡ length (print-low n)
-unfolding print-low
-low-some n e = sym (ap length (if-false _ _ _ (ne-eqb n 0 e)))
-
 -- ---- counts
 
-module _ (low high : ℕ) where
-  pub count-open : (a : ℕ) → high ≡ open-high → a ≡ length (print-low low) → a + 1 ≡ length (print-count low (high-of high))
-  unfolding high-of print-count
-  count-open a e f =
-      omega (arith, f, length-append (print-low low) (point-byte ∷ []))
-      ∙ sym (ap (λ (h : Option ℕ). length (print-count low h)) (if-true _ _ _ (eq-eqb high open-high e)))
+module _ (low high a : ℕ) (f : a ≡ length (print-low low)) where
+  pub open-length : high ≡ open-high → a + 1 ≡ length (print-count low (high-of high))
+  open-length e = omega (arith, f, ap length (count-open low high e), length-append (print-low low) (point-byte ∷ []))
 
-  closed : (high ≡ open-high → ⊥) → high-of high ≡ some high
-  unfolding high-of
-  closed n = if-false _ _ _ (ne-eqb high open-high n)
-
-  pub count-exact : (high ≡ open-high → ⊥) → low ≡ high → length (decimal low) ≡ length (print-count low (high-of high))
-  unfolding print-count
-  count-exact n e = sym (ap (λ (h : Option ℕ). length (print-count low h)) (closed n) ∙ ap length (if-true _ _ _ (eq-eqb low high e)))
-
-  pub count-two : (a b : ℕ) → (high ≡ open-high → ⊥) → (low ≡ high → ⊥) → a ≡ length (print-low low) → b ≡ length (decimal high) → a + 1 + b ≡ length (print-count low (high-of high))
-  unfolding print-count
-  count-two a b n e f g =
-      omega (arith, f, g, length-append (print-low low) (point-byte ∷ decimal high))
-      ∙ sym (ap (λ (h : Option ℕ). length (print-count low h)) (closed n) ∙ ap length (if-false _ _ _ (ne-eqb low high e)))
+  pub two-length : (b : ℕ) → (high ≡ open-high → ⊥) → (low ≡ high → ⊥) → b ≡ length (decimal high) → a + 1 + b ≡ length (print-count low (high-of high))
+  two-length b n e g =
+      omega (arith, f, g, ap length (count-two low high n e), length-append (print-low low ++ point-byte ∷ []) (decimal high), length-append (print-low low) (point-byte ∷ []))
 
 -- ---- sets
 
--- how many letters n sets from i on have
-unfoldable pub counts : (i n : ℕ) → List ℕ
-counts i zero = []
-counts i (suc n) = length (print-set all-codes i) ∷ counts (suc i) n
+-- how many codes four bits of a set stand for
+unfoldable pub fours : List ℕ
+fours = 0 ∷ 1 ∷ 1 ∷ 2 ∷ 1 ∷ 2 ∷ 2 ∷ 3 ∷ 1 ∷ 2 ∷ 2 ∷ 3 ∷ 2 ∷ 3 ∷ 3 ∷ 4 ∷ []
 
-counts-at : (i n k : ℕ) → k < n → getD (counts i n) k 0 ≡ length (print-set all-codes (i + k))
-unfolding counts
-counts-at i zero k h = absurd (omega arith)
-counts-at i (suc n) zero h = let e : i ≡ i + 0 = omega arith in ap (λ x. length (print-set all-codes x)) e
-counts-at i (suc n) (suc k) h =
-    let e : suc i + k ≡ i + suc k = omega arith in
-    counts-at (suc i) n k (omega arith) ∙ ap (λ x. length (print-set all-codes x)) e
+abbrev letters-of : ℕ → ℕ
+letters-of set = getD fours (set % 16) 0 + getD fours (set / 16) 0
 
-few-letters : (cs : List Code) (set : ℕ) → length (print-set cs set) ≤ length cs
-unfolding print-set
-few-letters [] set = omega arith
-few-letters (c ∷ cs) set = go (eqb (set % 2) 1) (few-letters cs (set / 2))
-  where
-    go : (b : Bool) → length (print-set cs (set / 2)) ≤ length cs
-        → length {A = ℕ} (elim b [ true ↦ c .letter ∷ print-set cs (set / 2) | false ↦ print-set cs (set / 2) ]) ≤ suc (length cs)
-    go true h = omega arith
-    go false h = omega arith
+letters-fit : T (all 128 (λ set. eqb (letters-of set) (length (print-set all-codes set)) && leb (letters-of set) 7))
+unfolding all fours all-codes print-set
+letters-fit = tt
 
-seven-letters : (set : ℕ) → length (print-set all-codes set) ≤ 7
-unfolding all-codes
-seven-letters set = few-letters all-codes set
-
-pub letters-at : (set : ℕ) → set < 128 → getD (counts 0 128) set 0 ≡ length (print-set all-codes set)
+pub letters-at : (set : ℕ) → set < 128 → (letters-of set ≡ length (print-set all-codes set)) × (letters-of set ≤ 7)
 letters-at set h =
-    let e : 0 + set ≡ set = omega arith in
-    counts-at 0 128 set h ∙ ap (λ x. length (print-set all-codes x)) e
-
-pub letters-small : (set : ℕ) → set < 128 → getD (counts 0 128) set 0 ≤ 7
-letters-small set h = omega (arith, letters-at set h, seven-letters set)
+    let (a, b) = and-both (eqb (letters-of set) (length (print-set all-codes set))) (leb (letters-of set) 7) (all-at 128 (λ x. eqb (letters-of x) (length (print-set all-codes x)) && leb (letters-of x) 7) letters-fit set h) in
+    (eqb→eq _ _ a, leb→le _ _ b)
 
 -- ---- steps along lists
 
@@ -134,32 +95,15 @@ plain-step v i j e h =
     let n : suc i ≡ j = omega (arith, e) in
     ap plain (drop-cons v i 0 h) ∙ ap (λ m. (leb 32 (getD v i 0) && leb (getD v i 0) 126) && plain (drop m v)) n
 
--- a byte has two bytes in the source if it is a quote, else one
-abbrev shown : Bool → ℕ
-shown true = 2
-shown false = 1
-
-pub double-cons : (b : ℕ) (v : Bytes) → length (double (b ∷ v)) ≡ shown (eqb b quote-byte) + length (double v)
-unfolding double
-double-cons b v = go (eqb b quote-byte)
-  where
-    go : (t : Bool) → length {A = ℕ} (elim t [ true ↦ quote-byte ∷ quote-byte ∷ double v | false ↦ b ∷ double v ]) ≡ shown t + length (double v)
-    go true = omega arith
-    go false = omega arith
-
-double-step : (v : Bytes) (i j : ℕ) → j ≡ i + 1 → i < length v → length (double (drop i v)) ≡ shown (eqb (getD v i 0) quote-byte) + length (double (drop j v))
-double-step v i j e h =
-    let n : suc i ≡ j = omega (arith, e) in
-    ap (λ x. length (double x)) (drop-cons v i 0 h) ∙ double-cons (getD v i 0) (drop (suc i) v) ∙ ap (λ m. shown (eqb (getD v i 0) quote-byte) + length (double (drop m v))) n
-
-shown-two : (t : Bool) → shown t ≤ 2
-shown-two true = omega arith
-shown-two false = omega arith
-
+-- doubled quotes at most double a value
 pub double-length : (v : Bytes) → length (double v) ≤ 2 * length v
 unfolding double
 double-length [] = omega arith
-double-length (b ∷ v) = omega (arith, double-cons b v, shown-two (eqb b quote-byte), double-length v)
+double-length (b ∷ v) = go (eqb b quote-byte) (double-length v)
+  where
+    go : (t : Bool) → length (double v) ≤ 2 * length v → length {A = ℕ} (elim t [ true ↦ quote-byte ∷ quote-byte ∷ double v | false ↦ b ∷ double v ]) ≤ 2 * suc (length v)
+    go true h = omega arith
+    go false h = omega arith
 
 -- ---- the mark, byte by byte
 
@@ -205,16 +149,16 @@ module _ (v : Bytes) (i : ℕ) where
   text-on h e m n = e ∙ plain-step v i (i + 1) refl h ∙ ap₂ (λ a b. (a && b) && plain (drop (i + 1) v)) (le-leb _ _ m) (le-leb _ _ n)
 
   pub quote-on : i < length v → getD v i 0 ≡ quote-byte → length (double (drop i v)) ≡ 2 + length (double (drop (i + 1) v))
-  quote-on h e = double-step v i (i + 1) refl h ∙ ap (λ b. shown b + length (double (drop (i + 1) v))) (eq-eqb _ _ e)
+  quote-on h e = rw add-one (omega (arith, ap length (quote-here v i h e)))
 
   pub other-on : i < length v → (getD v i 0 ≡ quote-byte → ⊥) → length (double (drop i v)) ≡ 1 + length (double (drop (i + 1) v))
-  other-on h e = double-step v i (i + 1) refl h ∙ ap (λ b. shown b + length (double (drop (i + 1) v))) (ne-eqb _ _ e)
+  other-on h e = rw add-one (omega (arith, ap length (plain-here v i h e)))
 
   pub text-end : (n : ℕ) → length v ≤ i → Plain i → length (double v) ≡ n + length (double (drop i v)) → texts.Length n ≡ text-of v
-  unfolding text-of pick plain double
+  unfolding text-of pick plain
   text-end n h e f =
       let z = drop-of-length-le v h in
-      let q : length (double (drop i v)) ≡ 0 = ap (λ x. length (double x)) z in
+      let q : length (double (drop i v)) ≡ 0 = ap length (double-end v i h) in
       let m : n ≡ length (double v) = omega (arith, f, q) in
       ap (λ x. texts.Length x) m ∙ sym (ap (λ b. pick b (texts.Length (length (double v))) texts.Bad) (e ∙ ap plain z))
 

@@ -1,6 +1,6 @@
 -- How far the walk has come, from step to step. Assumes nothing.
-use mathlib.Core.Path.{_≡_, sym, subst, _∙_}
-use Prim.Native.Nat.{ℕ, suc, _+_, _*_, _-_, _<_, _≤_}
+use mathlib.Core.Path.{_≡_, subst}
+use Prim.Native.Nat.{ℕ, _+_, _*_, _<_, _≤_}
 use native.Mathlib.Omega.{arith}
 use lib.ListN.{length}
 use Rattle.pattern.specs.Numbers.{depth-limit, record-size}
@@ -12,7 +12,6 @@ use Rattle.table.specs.declared.walk.Leaf.the-variants as leaf
 use Rattle.table.specs.declared.walk.Passed.{Passed}
 use Rattle.table.specs.declared.walk.Passed.the-variants as passed
 use Rattle.table.specs.declared.walk.Walked.{Walked}
-use Rattle.table.specs.declared.walk.Walked.the-variants as walked
 
 module _ (s : Bytes) (A : ℕ) where
   pub moved : (at next : Place) {x : Passed} → x ≡ to next → Past s A at x → Moved s A at next

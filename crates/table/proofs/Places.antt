@@ -1,11 +1,11 @@
 -- The bytes of records and of the pool, from a place of a table on. Assumes nothing.
 use mathlib.Core.Path.{_≡_, refl, sym, ap, ap₂, _∙_}
 use mathlib.Core.List.{List, [], _∷_, _++_, append-assoc}
-use Prim.Native.Nat.{ℕ, zero, suc, _+_, _*_, _/_, _%_, _<_, _≤_}
+use Prim.Native.Nat.{ℕ, suc, _+_, _*_, _/_, _%_, _<_, _≤_}
 use native.Mathlib.Nat.{add-assoc}
 use native.Mathlib.Omega.{arith}
-use lib.ListN.{length, getD, take, drop, length-append}
-use lib.Seq.{drop-cons, drop-drop}
+use lib.ListN.{length, getD, drop, length-append}
+use lib.Seq.{drop-cons}
 use Rattle.pattern.specs.Bytes.{Bytes, word}
 use Rattle.pattern.specs.Table.{Rec, flat}
 use Rattle.pattern.specs.Decode.{field, rec-at}

@@ -1,26 +1,27 @@
 -- A tree that the checked reading gives stands in the bytes: its records and its literals; and it is good. Assumes nothing.
 use mathlib.Core.Path.{_≡_, refl, sym, ap, subst, _∙_}
-use mathlib.Core.Logic.{_⊎_, inl, inr, ⊎-elim}
-use mathlib.Core.Bool.{Bool, true, false, _&&_}
-use mathlib.Core.Option.{Option, none, some}
-use mathlib.Core.List.{List, [], _∷_, _++_}
-use Prim.Native.Nat.{ℕ, zero, suc, _+_, _*_, _-_, _<_, _≤_, pred, min}
+use mathlib.Core.Logic.{⊎-elim}
+use mathlib.Core.Bool.{true}
+use mathlib.Core.Option.{some}
+use mathlib.Core.List.{[], _∷_, _++_}
+use Prim.Native.Nat.{ℕ, zero, suc, _+_, _*_, _<_, _≤_, pred}
 use native.Mathlib.Nat.{add-zero}
 use native.Mathlib.Omega.{arith}
-use lib.Dec.{leb, ltb, eqb}
+use lib.Dec.{ltb}
 use borrow.Author.Tests.{eqb-true, leb-true, ltb-true}
-use lib.ListN.{length, getD, take, drop, length-append, length-take, length-drop, take-append-drop}
+use lib.ListN.{length, getD, drop, length-append, length-take, length-drop, take-append-drop}
 use lib.Seq.{drop-drop}
 use Rattle.pattern.specs.Numbers.{depth-limit, set-limit, record-size}
 use Rattle.pattern.specs.Bytes.{Bytes}
-use Rattle.pattern.specs.Syntax.{Sort, pattern, atom, body, branches, Syntax, last, then, repeat, codes, literal, group, only, or, size}
+use Rattle.pattern.specs.Syntax.{Sort, pattern, atom, body, branches, Syntax, then, repeat, codes, literal, or, size}
 use Rattle.pattern.specs.Within.{Fits, Good}
 use Rattle.pattern.specs.Table.{pool, choices, kind-field, a-field, b-field, high-field, Rec, rec, records, flat}
 use Rattle.pattern.specs.Decode.{high-of}
-use Rattle.table.specs.Checked.{plain, ordered, a-set, after, only-if, its, text, leaf, closed, read-pattern, read-atom, read-branches}
+use Rattle.table.specs.Checked.{plain, a-set, after, only-if, its, text, leaf, closed, read-pattern, read-atom, read-branches}
+use Rattle.table.specs.Standing.{Clean}
 use Rattle.table.proofs.Options.{nothing, inside, after-some, only-some, choose-some, and-true}
 use Rattle.table.proofs.Places.{ten, then-records, then-text}
-use Rattle.table.proofs.Clean.{Clean, high-back, ordered-fits}
+use Rattle.table.proofs.Clean.{high-back, ordered-fits}
 
 -- bytes that have room for the records
 pub record Laid (s : Bytes) (A : ℕ) : Type 0 where

@@ -1,18 +1,18 @@
 -- The steps of the walk: what each answer of the code says of the checked reading. Assumes nothing.
 use mathlib.Core.Path.{_≡_, refl, sym, ap, ap₂, _∙_}
-use mathlib.Core.Bool.{Bool, true, false}
+use mathlib.Core.Bool.{true, false}
 use mathlib.Core.Option.{Option, none, some}
-use mathlib.Core.List.{List, [], _∷_, _++_}
-use Prim.Native.Nat.{ℕ, zero, suc, _+_, _*_, _-_, _<_, _≤_, pred}
+use mathlib.Core.List.{[], _∷_, _++_}
+use Prim.Native.Nat.{ℕ, zero, suc, _+_, _-_, _<_, _≤_, pred}
 use native.Mathlib.Numerals.{add-one}
 use native.Mathlib.Omega.{arith}
-use lib.Dec.{ltb, leb, eqb}
+use lib.Dec.{ltb, eqb}
 use lib.ListN.{length, length-append}
 use borrow.Author.Tests.{lt-ltb, le-ltb, eq-eqb, ne-eqb}
 use Rattle.pattern.specs.Numbers.{depth-limit, opening-byte, closing-byte, comma-byte}
 use Rattle.pattern.specs.Bytes.{Bytes}
-use Rattle.pattern.specs.Syntax.{Sort, pattern, atom, body, branches, Syntax, last, then, repeat, codes, literal, group, only, or, size, top-size}
-use Rattle.pattern.specs.Table.{pool, Rec}
+use Rattle.pattern.specs.Syntax.{Sort, pattern, atom, body, branches, Syntax, then, repeat, group, or, size, top-size}
+use Rattle.pattern.specs.Table.{pool}
 use Rattle.pattern.specs.Print.{print-count, print}
 use Rattle.pattern.specs.Decode.{high-of}
 use Rattle.table.specs.Fields.{record-of}
@@ -20,7 +20,6 @@ use Rattle.table.specs.Checked.{ordered, after, only-if, choose, its, le
 use Rattle.table.specs.Leaves.{as-rec, leaf-of}
 use Rattle.table.specs.Walk.{Place, place, beyond, to, came, passed-by, walked-by, reach}
 use Rattle.table.specs.declared.Record.{Record}
-use Rattle.table.specs.declared.walk.Leaf.{Leaf}
 use Rattle.table.specs.declared.walk.Leaf.the-variants as leaf
 use Rattle.table.specs.declared.walk.Passed.{Passed}
 use Rattle.table.specs.declared.walk.Passed.the-variants as passed

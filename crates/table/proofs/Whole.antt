@@ -1,36 +1,36 @@
 -- The checked walk with the test of the source's length reads bytes as `decode` does. Assumes nothing.
 use mathlib.Core.Path.{_≡_, refl, sym, ap, ap₂, subst, _∙_}
-use mathlib.Core.Logic.{_⊎_, inl, inr, ⊎-elim}
-use mathlib.Core.Bool.{Bool, true, false, _&&_}
+use mathlib.Core.Logic.{⊎-elim}
+use mathlib.Core.Bool.{true, _&&_}
 use mathlib.Core.Option.{Option, none, some, Option·none-ne-some}
-use mathlib.Core.List.{List, [], _∷_, _++_, append-nil}
-use Prim.Native.Nat.{ℕ, zero, suc, _+_, _*_, _/_, _%_, _<_, _≤_}
+use mathlib.Core.List.{[], _++_, append-nil}
+use Prim.Native.Nat.{ℕ, _+_, _*_, _<_, _≤_}
 use native.Mathlib.Omega.{arith}
-use lib.Dec.{T, leb, eqb}
+use lib.Dec.{leb}
 use borrow.Author.Tests.{eqb-true, leb-true, le-leb, lt-leb, eq-eqb}
 use lib.ListN.{length, getD, take, drop, take-append-drop, drop-of-length-le, length-drop}
-use lib.Seq.{drop-drop, getD-drop}
-use Rattle.pattern.specs.Numbers.{mark, version, source-limit, atom-limit, header-size, record-size}
-use Rattle.pattern.specs.Bytes.{Bytes, word, same}
+use lib.Seq.{getD-drop}
+use Rattle.pattern.specs.Numbers.{source-limit, atom-limit, header-size, record-size}
+use Rattle.pattern.specs.Bytes.{Bytes, same}
 use Rattle.pattern.specs.Syntax.{pattern, Syntax, size}
-use Rattle.pattern.specs.Scan.{accepted, outcome}
 use Rattle.pattern.specs.Within.{Good, Limited}
 use Rattle.pattern.specs.Print.{print}
 use Rattle.pattern.specs.Table.{pool, records, flat, header, encode}
-use Rattle.pattern.specs.Decode.{field, layout, tree-of, decode}
-use Rattle.pattern.proofs.Tests.{Decides, passed, le-or-lt}
+use Rattle.pattern.specs.Decode.{decode}
+use Rattle.pattern.proofs.Tests.{le-or-lt}
 use Rattle.pattern.proofs.Agree.{same-decides}
 use Rattle.pattern.proofs.Accepted.{accepted-exactly}
 use Rattle.pattern.proofs.Records.{length-flat, count-records, next-there}
-use Rattle.pattern.proofs.RoundTrip.{encode-length, tree-encode, good-exactly}
+use Rattle.pattern.proofs.RoundTrip.{encode-length, good-exactly}
 use Rattle.pattern.proofs.Calls.{print-accepted}
 use Rattle.table.specs.Opening.{opening, header-of, headed}
 use Rattle.table.specs.Checked.{after, only-if, read-pattern, read, walk}
-use Rattle.table.proofs.Options.{inside, after-some, only-some, kept, dropped, going-on, stopped, and-true, true-and}
+use Rattle.table.specs.Standing.{Clean, Set}
+use Rattle.table.proofs.Options.{inside, after-some, only-some, kept, dropped, going-on, and-true, true-and}
 use Rattle.table.proofs.Places.{step, pair}
-use Rattle.table.proofs.Clean.{Clean, true-T, clean-spells, spells-clean}
-use Rattle.table.proofs.Sound.{Laid, There, Sound, sound}
-use Rattle.table.proofs.Complete.{Set, found}
+use Rattle.table.proofs.Clean.{true-T, clean-spells, spells-clean}
+use Rattle.table.proofs.Sound.{Laid, sound}
+use Rattle.table.proofs.Complete.{found}
 
 -- ---- what a header that passes says
 
@@ -88,7 +88,7 @@ module _ (s : Bytes) (bytes : (k : ℕ) → getD s k 0 < 256) where
       subst (Whole s) (inside g4)
       (record {
         same = sym (open-table o ∙ ap (header A (header-of s .length)) all ∙ ap (λ k. header k (header-of s .length) (flat (records 1 u 0 0) (pool u))) (sym c2) ∙ ap (λ k. header (size u) k (flat (records 1 u 0 0) (pool u))) (sym m2));
-        limited = record { parts = st .good; atoms = omega (arith, c2, n2) };
+        limited = record { tree = st .good; atoms = omega (arith, c2, n2) };
         clean = st .clean;
       })
 
@@ -115,19 +115,19 @@ module _ (t : Syntax pattern) where
       (eq-eqb (length (encode t)) (header-of (encode t) .pool + header-of (encode t) .length) (omega (arith, encode-length t, length-there, atoms-there)))
 
   -- the records and the pool
-  abbrev contents : Bytes
+  abbrev pub contents : Bytes
   contents = flat (records 1 t 0 0) (pool t)
 
-  contents-there : drop header-size (encode t) ≡ contents
+  pub contents-there : drop header-size (encode t) ≡ contents
   unfolding encode header
   contents-there = refl
 
-  set-encode : Limited t → Clean t → Set contents (size t) 1 t 0 0 0
+  pub set-encode : Limited t → Clean t → Set contents (size t) 1 t 0 0 0
   set-encode g c =
       let n : record-size * size t + 0 ≡ 0 + record-size * length (records 1 t 0 0) = omega (arith, count-records 1 t 0 0) in
       record {
         placed = record { left = pool t; over = []; recs = refl; text = next-there contents 0 _ (records 1 t 0 0) (pool t) n refl ∙ sym (append-nil (pool t)) };
-        good = g .parts;
+        good = g .tree;
         clean = c;
         within = omega arith;
         pooled = omega (arith, length-flat (records 1 t 0 0) (pool t), count-records 1 t 0 0);
@@ -152,12 +152,12 @@ module _ (s : Bytes) (bytes : (k : ℕ) → getD s k 0 < 256) where
       let (source, a, m) = good-exactly s u .0 e in
       let (n, h, g) = accepted-exactly source u .0 a in
       let (k, _, _) = accepted-exactly (print u) u .0 (print-accepted s u e) in
-      (ap read (sym m) ∙ read-encode u g (spells-clean u source h), g .parts, k)
+      (ap read (sym m) ∙ read-encode u g (spells-clean u source h), g .tree, k)
 
   -- what is read is the tree of the bytes, if its source is short enough
   short-decodes : (t : Syntax pattern) → Whole s t → length (print t) ≤ source-limit → decode s ≡ some t
   short-decodes t w n =
-      good-exactly s t .1 (print t, accepted-exactly (print t) t .1 (n, clean-spells 0 t (w .limited .parts) (w .clean), w .limited), w .same)
+      good-exactly s t .1 (print t, accepted-exactly (print t) t .1 (n, clean-spells 0 t (w .limited .tree) (w .clean), w .limited), w .same)
 
   nothing-decodes : (o : Option (Syntax pattern)) → decode s ≡ o → ((u : Syntax pattern) → decode s ≡ some u → ⊥) → o ≡ none
   nothing-decodes none e f = refl

@@ -1,6 +1,6 @@
 -- The reading of a table's records with every check: the tree that the test walks. Assumes nothing.
 use mathlib.Core.Bool.{Bool, true, false, _&&_, _||_}
-use mathlib.Core.List.{List, [], _∷_}
+use mathlib.Core.List.{[], _∷_}
 use mathlib.Core.Option.{Option, none, some}
 use Prim.Native.Nat.{ℕ, zero, suc, _+_, _*_, pred}
 use lib.Dec.{leb, ltb, eqb}

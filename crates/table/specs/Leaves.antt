@@ -10,7 +10,7 @@ use Rattle.pattern.specs.Syntax.{body, Syntax, codes, literal}
 use Rattle.pattern.specs.Table.{Rec, pool}
 use Rattle.pattern.specs.Print.{double, print}
 use Rattle.table.specs.Opening.{pick}
-use Rattle.table.specs.Checked.{plain, a-set, only-if, text, leaf as leaf-read}
+use Rattle.table.specs.Checked.{plain, a-set, only-if, text}
 use Rattle.table.specs.declared.Record.{Record}
 use Rattle.table.specs.declared.lengths.Text.{Text}
 use Rattle.table.specs.declared.lengths.Text.the-variants as texts

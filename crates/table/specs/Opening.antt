@@ -1,10 +1,10 @@
 -- The header of a table, as the code has it. Assumes nothing.
 use mathlib.Core.Bool.{Bool, true, false, _&&_}
-use mathlib.Core.List.{List, [], _++_}
-use Prim.Native.Nat.{ℕ, _+_, _*_}
+use mathlib.Core.List.{[], _++_}
+use Prim.Native.Nat.{_+_}
 use lib.Dec.{leb, eqb}
 use lib.ListN.{length, getD, take}
-use Rattle.pattern.specs.Numbers.{mark, version, header-size, record-size}
+use Rattle.pattern.specs.Numbers.{mark, version, header-size}
 use Rattle.pattern.specs.Bytes.{Bytes, word, same}
 use Rattle.pattern.specs.Decode.{field, layout}
 use Rattle.table.specs.declared.opening.Header.{Header}

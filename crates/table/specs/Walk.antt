@@ -9,7 +9,6 @@ use Rattle.pattern.specs.Syntax.{Sort, pattern, Syntax, size, top-size}
 use Rattle.pattern.specs.Table.{pool}
 use Rattle.pattern.specs.Print.{print}
 use Rattle.table.specs.Checked.{read-pattern, read-atom, read-branches}
-use Rattle.table.specs.declared.Summary.{Summary}
 use Rattle.table.specs.declared.Tested.{Tested}
 use Rattle.table.specs.declared.Tested.the-variants as verdict
 use Rattle.table.specs.declared.walk.Passed.{Passed}

@@ -1,6 +1,6 @@
 // Tables: the fields of a record, the header, and the test whether bytes are a good table.
 mod lengths;
-mod opening;
+pub mod opening;
 mod walk;
 
 use opening::Opened;

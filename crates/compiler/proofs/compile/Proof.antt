@@ -1,5 +1,4 @@
 -- `compile` meets its contract: the reader's answer is the scan's. Assumes nothing.
-use mathlib.Core.Path.{refl, _∙_}
 use native.Mathlib.Omega.{arith}
 use Rattle.compiler.proofs.Readers.{pattern-is}
 use Rattle.compiler.proofs.Emits.{compile-long, compile-fault, compile-form, emits-all, compile-table}

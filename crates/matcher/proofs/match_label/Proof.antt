@@ -1,5 +1,5 @@
 -- `matcher::match_label` meets its contract: the refusals in order, and then the match. Assumes nothing.
-use mathlib.Core.Path.{_≡_, refl, sym, _∙_}
+use mathlib.Core.Path.{sym, _∙_}
 use native.Mathlib.Omega.{arith}
 use borrow.Author.Needs.{needs}
 use Rattle.matcher.proofs.Refusals.{bad-table, few-atoms, few-tops, rows-few, bytes-few, long-label, little-work, few-parts, all-lent, no-fault}

@@ -1,5 +1,5 @@
 -- `matcher::run` meets its contract. Assumes nothing.
-use mathlib.Core.Path.{_≡_, refl, sym, ap, _∙_}
+use mathlib.Core.Path.{sym, _∙_}
 use native.Mathlib.Omega.{arith}
 use Rattle.matcher.proofs.Runs.{run-room, run-rows, run-few, run-work, run-clear, run-cell, run-top, run-stop, run-parting, run-yes, run-no}
 use Rattle.matcher.proofs.run.Statement.{statement}

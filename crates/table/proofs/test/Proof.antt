@@ -1,9 +1,8 @@
 -- `table::test` meets its contract: each answer is what the walk says of `decode`. Assumes nothing.
-use Rattle.table.proofs.Checks.{ready-start, body-in, bad-head, bad-atoms, bad-walk, bad-count, bad-pool, bad-length, good-table}
-use Rattle.table.specs.Walk.{place}
-use native.Mathlib.Omega.{arith}
 use mathlib.Core.Path.{sym, _∙_}
 use borrow.Author.Needs.{needs}
+use Rattle.table.specs.Walk.{place}
+use Rattle.table.proofs.Checks.{ready-start, body-in, bad-head, bad-atoms, bad-walk, bad-count, bad-pool, bad-length, good-table}
 use Rattle.table.proofs.test.Statement.{statement}
 use Rattle.table.proofs.test.Tie as tie
 

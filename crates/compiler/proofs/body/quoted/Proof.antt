@@ -1,8 +1,8 @@
 -- `body::quoted` meets its contract: each turn takes a byte of the value. What is left of the source falls. Assumes nothing.
-use mathlib.Core.Path.{_≡_, ap, _∙_}
+use mathlib.Core.Path.{ap, _∙_}
 use Prim.Native.Nat.{_-_}
 use native.Mathlib.Omega.{arith}
-use lib.ListN.{length, length-set}
+use lib.ListN.{length}
 use Rattle.compiler.proofs.Bodies.{Quoting, quoting-start, quoting-past, quoting-more, quoting-ends, quoting-broken}
 use Rattle.compiler.proofs.Puts.{length-stored}
 use borrow.Author.Needs.{needs}

@@ -1,5 +1,4 @@
 -- `count::count` meets its contract. Assumes nothing.
-use mathlib.Core.Path.{_≡_}
 use Rattle.compiler.proofs.Counts.{count-form, count-exact, point-within, count-open, count-closed}
 use borrow.Author.Needs.{needs}
 use Rattle.compiler.proofs.count.count.Statement.{statement}

@@ -1,5 +1,4 @@
 -- `cursor::is_digit` meets its contract. Assumes nothing.
-use mathlib.Core.Path.{_≡_, sym, _∙_}
 use native.Mathlib.Omega.{arith}
 use borrow.Author.Tests.{le-leb, lt-leb}
 use Rattle.compiler.proofs.Places.{digit-test}

@@ -1,12 +1,12 @@
 -- `reader::read_pattern`, `read_atom` and `read_group` meet their contracts. A pattern reads an atom at the same place, a group a pattern at the same place, an atom a group
 -- further on: the measure is three times what is left of the source, with 1 more for a pattern and 2 for a group. Assumes nothing.
-use mathlib.Core.Path.{_≡_, _∙_}
+use mathlib.Core.Path.{_∙_}
 use Prim.Native.Nat.{_+_}
 use native.Mathlib.Omega.{arith}
 use borrow.Author.Needs.{needs}
 use Rattle.compiler.specs.Counts.{CountIs}
 use Rattle.compiler.specs.Readers.{Ready, Room}
-use Rattle.compiler.proofs.Readers.{reach, count-is, quote-is, atom-fault, atom-coded, atom-worded, atom-other, opening-is, atom-deep, group-ready, atom-group-fault, atom-group, group-is, atom-is, pattern-is, pattern-fault, pattern-last, pattern-more, group-fault, group-other, group-close, comma-is, group-comma-fault, group-comma, count-few}
+use Rattle.compiler.proofs.Readers.{reach, count-is, quote-is, atom-fault, atom-coded, atom-worded, atom-other, opening-is, atom-deep, group-ready, atom-group-fault, atom-group, group-is, atom-is, pattern-is, Going, going-start, going-fault, going-last, going-more, comma-is, Branching, branching-start, branching-fault, branching-other, branching-close, branching-more, count-few}
 use Prim.Native.Nat.{ℕ, _<_}
 use borrow.Fn.Kinds.{In}
 use borrow.Fn.PlainCycle.{Measures, is, falls, and}
@@ -69,10 +69,10 @@ abbrev read-atom-claims : ℕ → read-atom-lts.Claims
 read-atom-claims t = (count-reads.Asked, count-reads.Learnt, class-reads.Asked, class-reads.Learnt, coded-reads.Asked, coded-reads.Learnt, worded-reads.Asked, worded-reads.Learnt, read-group-below t, read-group.Post, last-reads.Asked, last-reads.Learnt, put-record-reads.Asked, put-record-reads.Learnt)
 
 abbrev read-group-claims : ℕ → read-group-lts.Claims
-read-group-claims t = (read-pattern-below t, read-pattern.Post, separator-reads.Asked, separator-reads.Learnt, read-group-below t, read-group.Post)
+read-group-claims t = (read-pattern-below t, read-pattern.Post, separator-reads.Asked, separator-reads.Learnt)
 
 abbrev read-pattern-claims : ℕ → read-pattern-lts.Claims
-read-pattern-claims t = (read-atom-below t, read-atom.Post, last-reads.Asked, last-reads.Learnt, read-pattern-below t, read-pattern.Post)
+read-pattern-claims t = (read-atom-below t, read-atom.Post, last-reads.Asked, last-reads.Learnt)
 
 -- what is known where a count was read: the count, and that the reader was ready
 read-atom-counted : (t : ℕ) (c : read-atom-lts.After-known-told (read-atom-claims t) (read-atom-at t) read-atom.Post)
@@ -184,125 +184,119 @@ read-atom-returns-6 t c = atom-other _ _ _ _ _ (read-atom-ready t (c .before .be
 read-atom-returns-7 : (t : ℕ) → read-atom-lts.Need-returns-7 (read-atom-claims t) (read-atom-at t) read-atom.Post
 read-atom-returns-7 t c = atom-fault _ _ _ _ _ _ _ _ _ _ (c .before .no2 .given .1) (c .before .before .before .count .ensures)
 
-read-group-read-pattern-requires : (t : ℕ) → read-group-lts.Need-read-pattern-requires (read-group-claims t) (read-group-at t) read-group.Post
-read-group-read-pattern-requires t c κs = (omega (arith, c .before .before .before .before .before .pre .0), c .before .before .before .before .before .pre .1)
+abbrev read-group-Inv-loop : read-group-lts.InvT-loop
+read-group-Inv-loop s depth recs₀ pool₀ from₀ before₀ recs pool from before = Branching s depth from₀ from recs₀ recs pool₀ pool before
 
-read-group-enum-known-next : (t : ℕ) → read-group-lts.Need-enum-known-next (read-group-claims t) (read-group-at t) read-group.Post
+abbrev read-group-μ-loop : read-group-lts.MeasureT-loop
+read-group-μ-loop s depth recs₀ pool₀ from₀ before₀ recs pool from before = reach s from
+
+read-group-loop-holds : (t : ℕ) → read-group-lts.Need-loop-holds (read-group-claims t) (read-group-at t) read-group.Post read-group-Inv-loop read-group-μ-loop
+read-group-loop-holds t c = branching-start _ _ _ _ _ (c .before .before .before .pre .1 .0)
+
+read-group-read-pattern-requires : (t : ℕ) → read-group-lts.Need-read-pattern-requires (read-group-claims t) (read-group-at t) read-group.Post read-group-Inv-loop read-group-μ-loop
+read-group-read-pattern-requires t c κs = let g = c .before .before .loop .inv in let o = g .gone in let v = c .before .before .before .before .before .before .pre .1 .1 in (omega (arith, o .on, c .before .before .before .before .before .before .pre .0), (o .ready, record { source = v .source; recs-fit = omega (arith, v .recs-fit, o .recs-size); text-fits = omega (arith, v .text-fits, o .text-size) }))
+
+read-group-enum-known-next : (t : ℕ) → read-group-lts.Need-enum-known-next (read-group-claims t) (read-group-at t) read-group.Post read-group-Inv-loop read-group-μ-loop
 read-group-enum-known-next t c = search needs
 
-read-group-separator-requires : (t : ℕ) → read-group-lts.Need-separator-requires (read-group-claims t) (read-group-at t) read-group.Post
+read-group-separator-requires : (t : ℕ) → read-group-lts.Need-separator-requires (read-group-claims t) (read-group-at t) read-group.Post read-group-Inv-loop read-group-μ-loop
 read-group-separator-requires t c κs = search needs
 
-read-group-enum-known-after : (t : ℕ) → read-group-lts.Need-enum-known-after (read-group-claims t) (read-group-at t) read-group.Post
+read-group-enum-known-after : (t : ℕ) → read-group-lts.Need-enum-known-after (read-group-claims t) (read-group-at t) read-group.Post read-group-Inv-loop read-group-μ-loop
 read-group-enum-known-after t c = search needs
 
-read-group-read-group-requires : (t : ℕ) → read-group-lts.Need-read-group-requires (read-group-claims t) (read-group-at t) read-group.Post
-read-group-read-group-requires t c κs = let h = (pattern-is _ _ _ _ _ _ _ _ _ (c .before .before .before .before .before .before .before .before .next .given .1) (c .before .before .before .before .before .before .before .before .before .before .before .before .before .before .read-pattern .ensures)) in let m = h .moved in let r = c .before .before .before .before .before .before .before .before .before .before .before .before .before .before .before .before .before .before .before .before .pre .1 .0 in let v = c .before .before .before .before .before .before .before .before .before .before .before .before .before .before .before .before .before .before .before .before .pre .1 .1 in let o = comma-is _ _ _ _ _ _ _ _ h _ (c .before .before .before .before .before .separator .ensures) _ (c .before .before .before .after .given .1) in (omega (arith, m .on, o .past, o .within, c .before .before .before .before .before .before .before .before .before .before .before .before .before .before .before .before .before .before .before .before .pre .0), (record { within = omega (arith, o .past, o .within); atoms = m .atoms; pool = omega (arith, m .pool, o .past); shallow = r .shallow }, record { source = v .source; recs-fit = omega (arith, v .recs-fit, c .before .before .before .before .before .before .before .before .before .before .before .before .before .before .read-pattern .kept .1 .1 .1 .0); text-fits = omega (arith, v .text-fits, c .before .before .before .before .before .before .before .before .before .before .before .before .before .before .read-pattern .kept .1 .1 .1 .1 .0) }))
+read-group-add-before : (t : ℕ) → read-group-lts.Need-add-before (read-group-claims t) (read-group-at t) read-group.Post read-group-Inv-loop read-group-μ-loop
+read-group-add-before t c = let g = c .before .before .before .before .before .before .before .before .before .before .before .before .before .before .before .loop .inv in let r = g .gone .ready in omega (arith, g .few, r .atoms)
 
-read-group-enum-known-end : (t : ℕ) → read-group-lts.Need-enum-known-end (read-group-claims t) (read-group-at t) read-group.Post
-read-group-enum-known-end t c = search needs
+read-group-loop-less : (t : ℕ) → read-group-lts.Need-loop-less (read-group-claims t) (read-group-at t) read-group.Post read-group-Inv-loop read-group-μ-loop
+read-group-loop-less t c = let h = (pattern-is _ _ _ _ _ _ _ _ _ (c .before .before .before .before .before .before .next .given .1) (c .before .before .before .before .before .before .before .before .before .before .before .before .read-pattern .ensures)) in let m = h .moved in let o = comma-is _ _ _ _ _ _ _ _ h _ (c .before .before .before .separator .ensures) _ (c .before .after .given .1) in omega (arith, m .on, o .past, o .within)
 
-read-group-add-t32 : (t : ℕ) → read-group-lts.Need-add-t32 (read-group-claims t) (read-group-at t) read-group.Post
-read-group-add-t32 t c = omega (arith, count-few _ _ _ _ _ _ _ _ _ (group-is _ _ _ _ _ _ _ _ _ _ (c .before .end .given .1) (c .before .before .before .before .before .before .before .read-group .ensures)))
+read-group-loop-again : (t : ℕ) → read-group-lts.Need-loop-again (read-group-claims t) (read-group-at t) read-group.Post read-group-Inv-loop read-group-μ-loop
+read-group-loop-again t c = branching-more _ _ _ _ _ _ _ _ _ (c .before .before .before .before .before .before .before .before .before .before .before .before .before .before .before .loop .inv) _ _ _ (pattern-is _ _ _ _ _ _ _ _ _ (c .before .before .before .before .before .before .next .given .1) (c .before .before .before .before .before .before .before .before .before .before .before .before .read-pattern .ensures)) _ (c .before .before .before .separator .ensures) _ (c .before .after .given .1) (c .before .before .before .before .before .before .before .before .before .before .before .before .read-pattern .kept .1 .1 .1 .0) (c .before .before .before .before .before .before .before .before .before .before .before .before .read-pattern .kept .1 .1 .1 .1 .0)
 
-read-group-enum-known-no : (t : ℕ) → read-group-lts.Need-enum-known-no (read-group-claims t) (read-group-at t) read-group.Post
-read-group-enum-known-no t c = search needs
-
-read-group-enum-known-after-2 : (t : ℕ) → read-group-lts.Need-enum-known-after-2 (read-group-claims t) (read-group-at t) read-group.Post
+read-group-enum-known-after-2 : (t : ℕ) → read-group-lts.Need-enum-known-after-2 (read-group-claims t) (read-group-at t) read-group.Post read-group-Inv-loop read-group-μ-loop
 read-group-enum-known-after-2 t c = search needs
 
-read-group-enum-told : (t : ℕ) → read-group-lts.Need-enum-told (read-group-claims t) (read-group-at t) read-group.Post
+read-group-add-t21 : (t : ℕ) → read-group-lts.Need-add-t21 (read-group-claims t) (read-group-at t) read-group.Post read-group-Inv-loop read-group-μ-loop
+read-group-add-t21 t c = let g = c .before .before .before .before .before .before .before .before .before .before .before .before .before .before .before .loop .inv in let r = g .gone .ready in omega (arith, g .few, r .atoms)
+
+read-group-same-length : (t : ℕ) → read-group-lts.Need-same-length (read-group-claims t) (read-group-at t) read-group.Post read-group-Inv-loop read-group-μ-loop
+read-group-same-length t c = c .before .before .before .before .before .before .before .before .before .before .before .before .read-pattern .kept .1 .1 .1 .0 ∙ c .before .before .before .before .before .before .before .before .before .before .before .before .before .before .before .loop .inv .gone .recs-size
+
+read-group-same-length-2 : (t : ℕ) → read-group-lts.Need-same-length-2 (read-group-claims t) (read-group-at t) read-group.Post read-group-Inv-loop read-group-μ-loop
+read-group-same-length-2 t c = c .before .before .before .before .before .before .before .before .before .before .before .before .read-pattern .kept .1 .1 .1 .1 .0 ∙ c .before .before .before .before .before .before .before .before .before .before .before .before .before .before .before .loop .inv .gone .text-size
+
+read-group-returns : (t : ℕ) → read-group-lts.Need-returns (read-group-claims t) (read-group-at t) read-group.Post read-group-Inv-loop read-group-μ-loop
+read-group-returns t c = branching-close _ _ _ _ _ _ _ _ _ (c .before .before .before .before .before .before .before .before .before .before .before .before .before .before .before .loop .inv) _ _ _ (pattern-is _ _ _ _ _ _ _ _ _ (c .before .before .before .before .before .before .next .given .1) (c .before .before .before .before .before .before .before .before .before .before .before .before .read-pattern .ensures)) _ (c .before .before .before .separator .ensures) _ (c .before .after2 .given .1)
+
+read-group-enum-told : (t : ℕ) → read-group-lts.Need-enum-told (read-group-claims t) (read-group-at t) read-group.Post read-group-Inv-loop read-group-μ-loop
 read-group-enum-told t c = search needs
 
-read-group-enum-known-no-2 : (t : ℕ) → read-group-lts.Need-enum-known-no-2 (read-group-claims t) (read-group-at t) read-group.Post
-read-group-enum-known-no-2 t c = search needs
+read-group-same-length-3 : (t : ℕ) → read-group-lts.Need-same-length-3 (read-group-claims t) (read-group-at t) read-group.Post read-group-Inv-loop read-group-μ-loop
+read-group-same-length-3 t c = c .before .before .before .before .before .before .before .before .before .before .before .read-pattern .kept .1 .1 .1 .0 ∙ c .before .before .before .before .before .before .before .before .before .before .before .before .before .before .loop .inv .gone .recs-size
 
-read-group-same-length : (t : ℕ) → read-group-lts.Need-same-length (read-group-claims t) (read-group-at t) read-group.Post
-read-group-same-length t c = c .before .before .before .before .before .before .before .read-group .kept .1 .1 .1 .0 ∙ c .before .before .before .before .before .before .before .before .before .before .before .before .before .before .before .before .before .before .before .before .before .before .read-pattern .kept .1 .1 .1 .0
+read-group-same-length-4 : (t : ℕ) → read-group-lts.Need-same-length-4 (read-group-claims t) (read-group-at t) read-group.Post read-group-Inv-loop read-group-μ-loop
+read-group-same-length-4 t c = c .before .before .before .before .before .before .before .before .before .before .before .read-pattern .kept .1 .1 .1 .1 .0 ∙ c .before .before .before .before .before .before .before .before .before .before .before .before .before .before .loop .inv .gone .text-size
 
-read-group-same-length-2 : (t : ℕ) → read-group-lts.Need-same-length-2 (read-group-claims t) (read-group-at t) read-group.Post
-read-group-same-length-2 t c = c .before .before .before .before .before .before .before .read-group .kept .1 .1 .1 .1 .0 ∙ c .before .before .before .before .before .before .before .before .before .before .before .before .before .before .before .before .before .before .before .before .before .before .read-pattern .kept .1 .1 .1 .1 .0
+read-group-returns-2 : (t : ℕ) → read-group-lts.Need-returns-2 (read-group-claims t) (read-group-at t) read-group.Post read-group-Inv-loop read-group-μ-loop
+read-group-returns-2 t c = branching-other _ _ _ _ _ _ _ _ _ (c .before .before .before .before .before .before .before .before .before .before .before .before .before .before .loop .inv) _ _ _ (pattern-is _ _ _ _ _ _ _ _ _ (c .before .before .before .before .before .next .given .1) (c .before .before .before .before .before .before .before .before .before .before .before .read-pattern .ensures)) _ (c .before .before .separator .ensures) (c .enum-told .given .1)
 
-read-group-returns : (t : ℕ) → read-group-lts.Need-returns (read-group-claims t) (read-group-at t) read-group.Post
-read-group-returns t c = group-comma _ _ _ _ _ _ _ _ (pattern-is _ _ _ _ _ _ _ _ _ (c .before .before .before .before .before .before .before .before .before .before .before .before .before .before .before .before .next .given .1) (c .before .before .before .before .before .before .before .before .before .before .before .before .before .before .before .before .before .before .before .before .before .before .read-pattern .ensures)) _ (c .before .before .before .before .before .before .before .before .before .before .before .before .before .separator .ensures) _ (c .before .before .before .before .before .before .before .before .before .before .before .after .given .1) _ _ _ _ (group-is _ _ _ _ _ _ _ _ _ _ (c .before .end .given .1) (c .before .before .before .before .before .before .before .read-group .ensures))
+read-group-enum-known-no : (t : ℕ) → read-group-lts.Need-enum-known-no (read-group-claims t) (read-group-at t) read-group.Post read-group-Inv-loop read-group-μ-loop
+read-group-enum-known-no t c = search needs
 
-read-group-same-length-3 : (t : ℕ) → read-group-lts.Need-same-length-3 (read-group-claims t) (read-group-at t) read-group.Post
-read-group-same-length-3 t c = c .before .before .before .before .before .before .before .read-group .kept .1 .1 .1 .0 ∙ c .before .before .before .before .before .before .before .before .before .before .before .before .before .before .before .before .before .before .before .before .before .before .read-pattern .kept .1 .1 .1 .0
+read-group-same-length-5 : (t : ℕ) → read-group-lts.Need-same-length-5 (read-group-claims t) (read-group-at t) read-group.Post read-group-Inv-loop read-group-μ-loop
+read-group-same-length-5 t c = c .before .before .before .before .before .before .before .read-pattern .kept .1 .1 .1 .0 ∙ c .before .before .before .before .before .before .before .before .before .before .loop .inv .gone .recs-size
 
-read-group-same-length-4 : (t : ℕ) → read-group-lts.Need-same-length-4 (read-group-claims t) (read-group-at t) read-group.Post
-read-group-same-length-4 t c = c .before .before .before .before .before .before .before .read-group .kept .1 .1 .1 .1 .0 ∙ c .before .before .before .before .before .before .before .before .before .before .before .before .before .before .before .before .before .before .before .before .before .before .read-pattern .kept .1 .1 .1 .1 .0
+read-group-same-length-6 : (t : ℕ) → read-group-lts.Need-same-length-6 (read-group-claims t) (read-group-at t) read-group.Post read-group-Inv-loop read-group-μ-loop
+read-group-same-length-6 t c = c .before .before .before .before .before .before .before .read-pattern .kept .1 .1 .1 .1 .0 ∙ c .before .before .before .before .before .before .before .before .before .before .loop .inv .gone .text-size
 
-read-group-returns-2 : (t : ℕ) → read-group-lts.Need-returns-2 (read-group-claims t) (read-group-at t) read-group.Post
-read-group-returns-2 t c = group-comma-fault _ _ _ _ _ _ _ _ (pattern-is _ _ _ _ _ _ _ _ _ (c .before .before .before .before .before .before .before .before .before .before .before .before .before .before .before .before .next .given .1) (c .before .before .before .before .before .before .before .before .before .before .before .before .before .before .before .before .before .before .before .before .before .before .read-pattern .ensures)) _ (c .before .before .before .before .before .before .before .before .before .before .before .before .before .separator .ensures) _ (c .before .before .before .before .before .before .before .before .before .before .before .after .given .1) _ _ _ _ _ (c .before .no .given .1) (c .before .before .before .before .before .before .before .read-group .ensures)
+read-group-returns-3 : (t : ℕ) → read-group-lts.Need-returns-3 (read-group-claims t) (read-group-at t) read-group.Post read-group-Inv-loop read-group-μ-loop
+read-group-returns-3 t c = branching-fault _ _ _ _ _ _ _ _ _ (c .before .before .before .before .before .before .before .before .before .before .loop .inv) _ _ _ _ _ (c .before .no .given .1) (c .before .before .before .before .before .before .before .read-pattern .ensures)
 
-read-group-same-length-5 : (t : ℕ) → read-group-lts.Need-same-length-5 (read-group-claims t) (read-group-at t) read-group.Post
-read-group-same-length-5 t c = search needs
+abbrev read-pattern-Inv-loop : read-pattern-lts.InvT-loop
+read-pattern-Inv-loop s depth recs₀ pool₀ from₀ recs pool from = Going s depth from₀ from recs₀ recs pool₀ pool
 
-read-group-same-length-6 : (t : ℕ) → read-group-lts.Need-same-length-6 (read-group-claims t) (read-group-at t) read-group.Post
-read-group-same-length-6 t c = search needs
+abbrev read-pattern-μ-loop : read-pattern-lts.MeasureT-loop
+read-pattern-μ-loop s depth recs₀ pool₀ from₀ recs pool from = reach s from
 
-read-group-returns-3 : (t : ℕ) → read-group-lts.Need-returns-3 (read-group-claims t) (read-group-at t) read-group.Post
-read-group-returns-3 t c = group-close _ _ _ _ _ _ _ _ (pattern-is _ _ _ _ _ _ _ _ _ (c .before .before .before .before .before .before .next .given .1) (c .before .before .before .before .before .before .before .before .before .before .before .before .read-pattern .ensures)) _ (c .before .before .before .separator .ensures) _ (c .before .after2 .given .1)
+read-pattern-loop-holds : (t : ℕ) → read-pattern-lts.Need-loop-holds (read-pattern-claims t) (read-pattern-at t) read-pattern.Post read-pattern-Inv-loop read-pattern-μ-loop
+read-pattern-loop-holds t c = going-start _ _ _ _ _ (c .before .before .before .pre .1 .0)
 
-read-group-same-length-7 : (t : ℕ) → read-group-lts.Need-same-length-7 (read-group-claims t) (read-group-at t) read-group.Post
-read-group-same-length-7 t c = search needs
+read-pattern-read-atom-requires : (t : ℕ) → read-pattern-lts.Need-read-atom-requires (read-pattern-claims t) (read-pattern-at t) read-pattern.Post read-pattern-Inv-loop read-pattern-μ-loop
+read-pattern-read-atom-requires t c κs = let g = c .before .before .loop .inv in let v = c .before .before .before .before .before .before .pre .1 .1 in (omega (arith, g .gone .on, c .before .before .before .before .before .before .pre .0), (g .gone .ready, record { source = v .source; recs-fit = omega (arith, v .recs-fit, g .gone .recs-size); text-fits = omega (arith, v .text-fits, g .gone .text-size) }))
 
-read-group-same-length-8 : (t : ℕ) → read-group-lts.Need-same-length-8 (read-group-claims t) (read-group-at t) read-group.Post
-read-group-same-length-8 t c = search needs
-
-read-group-returns-4 : (t : ℕ) → read-group-lts.Need-returns-4 (read-group-claims t) (read-group-at t) read-group.Post
-read-group-returns-4 t c = group-other _ _ _ _ _ _ _ _ (pattern-is _ _ _ _ _ _ _ _ _ (c .before .before .before .before .before .next .given .1) (c .before .before .before .before .before .before .before .before .before .before .before .read-pattern .ensures)) _ (c .before .before .separator .ensures) (c .enum-told .given .1)
-
-read-group-same-length-9 : (t : ℕ) → read-group-lts.Need-same-length-9 (read-group-claims t) (read-group-at t) read-group.Post
-read-group-same-length-9 t c = search needs
-
-read-group-same-length-10 : (t : ℕ) → read-group-lts.Need-same-length-10 (read-group-claims t) (read-group-at t) read-group.Post
-read-group-same-length-10 t c = search needs
-
-read-group-returns-5 : (t : ℕ) → read-group-lts.Need-returns-5 (read-group-claims t) (read-group-at t) read-group.Post
-read-group-returns-5 t c = group-fault _ _ _ _ _ _ _ _ _ _ (c .before .no2 .given .1) (c .before .before .before .before .before .before .before .read-pattern .ensures)
-
-read-pattern-read-atom-requires : (t : ℕ) → read-pattern-lts.Need-read-atom-requires (read-pattern-claims t) (read-pattern-at t) read-pattern.Post
-read-pattern-read-atom-requires t c κs = (omega (arith, c .before .before .before .before .before .pre .0), c .before .before .before .before .before .pre .1)
-
-read-pattern-enum-known-next : (t : ℕ) → read-pattern-lts.Need-enum-known-next (read-pattern-claims t) (read-pattern-at t) read-pattern.Post
+read-pattern-enum-known-next : (t : ℕ) → read-pattern-lts.Need-enum-known-next (read-pattern-claims t) (read-pattern-at t) read-pattern.Post read-pattern-Inv-loop read-pattern-μ-loop
 read-pattern-enum-known-next t c = search needs
 
-read-pattern-last-requires : (t : ℕ) → read-pattern-lts.Need-last-requires (read-pattern-claims t) (read-pattern-at t) read-pattern.Post
+read-pattern-last-requires : (t : ℕ) → read-pattern-lts.Need-last-requires (read-pattern-claims t) (read-pattern-at t) read-pattern.Post read-pattern-Inv-loop read-pattern-μ-loop
 read-pattern-last-requires t c κs = search needs
 
-read-pattern-read-pattern-requires : (t : ℕ) → read-pattern-lts.Need-read-pattern-requires (read-pattern-claims t) (read-pattern-at t) read-pattern.Post
-read-pattern-read-pattern-requires t c κs = let h = (atom-is _ _ _ _ _ _ _ _ _ (c .before .before .before .before .before .before .next .given .1) (c .before .before .before .before .before .before .before .before .before .before .before .before .read-atom .ensures)) in let m = h .moved in let r = c .before .before .before .before .before .before .before .before .before .before .before .before .before .before .before .before .before .before .pre .1 .0 in let v = c .before .before .before .before .before .before .before .before .before .before .before .before .before .before .before .before .before .before .pre .1 .1 in (omega (arith, m .on, m .within, c .before .before .before .before .before .before .before .before .before .before .before .before .before .before .before .before .before .before .pre .0), (record { within = m .within; atoms = m .atoms; pool = m .pool; shallow = r .shallow }, record { source = v .source; recs-fit = omega (arith, v .recs-fit, c .before .before .before .before .before .before .before .before .before .before .before .before .read-atom .kept .1 .1 .1 .0); text-fits = omega (arith, v .text-fits, c .before .before .before .before .before .before .before .before .before .before .before .before .read-atom .kept .1 .1 .1 .1 .0) }))
+read-pattern-same-length : (t : ℕ) → read-pattern-lts.Need-same-length (read-pattern-claims t) (read-pattern-at t) read-pattern.Post read-pattern-Inv-loop read-pattern-μ-loop
+read-pattern-same-length t c = c .before .before .before .before .before .before .before .before .before .before .read-atom .kept .1 .1 .1 .0 ∙ c .before .before .before .before .before .before .before .before .before .before .before .before .before .loop .inv .gone .recs-size
 
-read-pattern-enum-known-no : (t : ℕ) → read-pattern-lts.Need-enum-known-no (read-pattern-claims t) (read-pattern-at t) read-pattern.Post
+read-pattern-same-length-2 : (t : ℕ) → read-pattern-lts.Need-same-length-2 (read-pattern-claims t) (read-pattern-at t) read-pattern.Post read-pattern-Inv-loop read-pattern-μ-loop
+read-pattern-same-length-2 t c = c .before .before .before .before .before .before .before .before .before .before .read-atom .kept .1 .1 .1 .1 .0 ∙ c .before .before .before .before .before .before .before .before .before .before .before .before .before .loop .inv .gone .text-size
+
+read-pattern-returns : (t : ℕ) → read-pattern-lts.Need-returns (read-pattern-claims t) (read-pattern-at t) read-pattern.Post read-pattern-Inv-loop read-pattern-μ-loop
+read-pattern-returns t c = going-last _ _ _ _ _ _ _ _ (c .before .before .before .before .before .before .before .before .before .before .before .before .before .loop .inv) _ _ _ (atom-is _ _ _ _ _ _ _ _ _ (c .before .before .before .before .next .given .1) (c .before .before .before .before .before .before .before .before .before .before .read-atom .ensures)) _ (c .before .last .ensures) (c .if1 .taken)
+
+read-pattern-loop-less : (t : ℕ) → read-pattern-lts.Need-loop-less (read-pattern-claims t) (read-pattern-at t) read-pattern.Post read-pattern-Inv-loop read-pattern-μ-loop
+read-pattern-loop-less t c = let h = (atom-is _ _ _ _ _ _ _ _ _ (c .before .before .before .before .next .given .1) (c .before .before .before .before .before .before .before .before .before .before .read-atom .ensures)) in let m = h .moved in omega (arith, m .on, m .within)
+
+read-pattern-loop-again : (t : ℕ) → read-pattern-lts.Need-loop-again (read-pattern-claims t) (read-pattern-at t) read-pattern.Post read-pattern-Inv-loop read-pattern-μ-loop
+read-pattern-loop-again t c = going-more _ _ _ _ _ _ _ _ (c .before .before .before .before .before .before .before .before .before .before .before .before .before .loop .inv) _ _ _ (atom-is _ _ _ _ _ _ _ _ _ (c .before .before .before .before .next .given .1) (c .before .before .before .before .before .before .before .before .before .before .read-atom .ensures)) _ (c .before .last .ensures) (c .if1 .left) (c .before .before .before .before .before .before .before .before .before .before .read-atom .kept .1 .1 .1 .0) (c .before .before .before .before .before .before .before .before .before .before .read-atom .kept .1 .1 .1 .1 .0)
+
+read-pattern-enum-known-no : (t : ℕ) → read-pattern-lts.Need-enum-known-no (read-pattern-claims t) (read-pattern-at t) read-pattern.Post read-pattern-Inv-loop read-pattern-μ-loop
 read-pattern-enum-known-no t c = search needs
 
-read-pattern-same-length : (t : ℕ) → read-pattern-lts.Need-same-length (read-pattern-claims t) (read-pattern-at t) read-pattern.Post
-read-pattern-same-length t c = c .before .before .before .before .read-pattern .kept .1 .1 .1 .0 ∙ c .before .before .before .before .before .before .before .before .before .before .before .before .before .before .before .before .before .read-atom .kept .1 .1 .1 .0
+read-pattern-same-length-3 : (t : ℕ) → read-pattern-lts.Need-same-length-3 (read-pattern-claims t) (read-pattern-at t) read-pattern.Post read-pattern-Inv-loop read-pattern-μ-loop
+read-pattern-same-length-3 t c = c .before .before .before .before .before .before .before .read-atom .kept .1 .1 .1 .0 ∙ c .before .before .before .before .before .before .before .before .before .before .loop .inv .gone .recs-size
 
-read-pattern-same-length-2 : (t : ℕ) → read-pattern-lts.Need-same-length-2 (read-pattern-claims t) (read-pattern-at t) read-pattern.Post
-read-pattern-same-length-2 t c = c .before .before .before .before .read-pattern .kept .1 .1 .1 .1 .0 ∙ c .before .before .before .before .before .before .before .before .before .before .before .before .before .before .before .before .before .read-atom .kept .1 .1 .1 .1 .0
+read-pattern-same-length-4 : (t : ℕ) → read-pattern-lts.Need-same-length-4 (read-pattern-claims t) (read-pattern-at t) read-pattern.Post read-pattern-Inv-loop read-pattern-μ-loop
+read-pattern-same-length-4 t c = c .before .before .before .before .before .before .before .read-atom .kept .1 .1 .1 .1 .0 ∙ c .before .before .before .before .before .before .before .before .before .before .loop .inv .gone .text-size
 
-read-pattern-returns : (t : ℕ) → read-pattern-lts.Need-returns (read-pattern-claims t) (read-pattern-at t) read-pattern.Post
-read-pattern-returns t c = pattern-more _ _ _ _ _ _ _ _ (atom-is _ _ _ _ _ _ _ _ _ (c .before .before .before .before .before .before .before .before .before .before .before .next .given .1) (c .before .before .before .before .before .before .before .before .before .before .before .before .before .before .before .before .before .read-atom .ensures)) _ (c .before .before .before .before .before .before .before .before .last .ensures) _ _ _ (c .before .before .before .before .before .before .before .if1 .taken) (c .before .before .before .before .read-pattern .ensures)
-
-read-pattern-same-length-3 : (t : ℕ) → read-pattern-lts.Need-same-length-3 (read-pattern-claims t) (read-pattern-at t) read-pattern.Post
-read-pattern-same-length-3 t c = search needs
-
-read-pattern-same-length-4 : (t : ℕ) → read-pattern-lts.Need-same-length-4 (read-pattern-claims t) (read-pattern-at t) read-pattern.Post
-read-pattern-same-length-4 t c = search needs
-
-read-pattern-returns-2 : (t : ℕ) → read-pattern-lts.Need-returns-2 (read-pattern-claims t) (read-pattern-at t) read-pattern.Post
-read-pattern-returns-2 t c = pattern-last _ _ _ _ _ _ _ _ (atom-is _ _ _ _ _ _ _ _ _ (c .before .before .before .before .next .given .1) (c .before .before .before .before .before .before .before .before .before .before .read-atom .ensures)) _ (c .before .last .ensures) (c .if1 .left)
-
-read-pattern-same-length-5 : (t : ℕ) → read-pattern-lts.Need-same-length-5 (read-pattern-claims t) (read-pattern-at t) read-pattern.Post
-read-pattern-same-length-5 t c = search needs
-
-read-pattern-same-length-6 : (t : ℕ) → read-pattern-lts.Need-same-length-6 (read-pattern-claims t) (read-pattern-at t) read-pattern.Post
-read-pattern-same-length-6 t c = search needs
-
-read-pattern-returns-3 : (t : ℕ) → read-pattern-lts.Need-returns-3 (read-pattern-claims t) (read-pattern-at t) read-pattern.Post
-read-pattern-returns-3 t c = pattern-fault _ _ _ _ _ _ _ _ _ _ (c .before .no .given .1) (c .before .before .before .before .before .before .before .read-atom .ensures)
+read-pattern-returns-2 : (t : ℕ) → read-pattern-lts.Need-returns-2 (read-pattern-claims t) (read-pattern-at t) read-pattern.Post read-pattern-Inv-loop read-pattern-μ-loop
+read-pattern-returns-2 t c = going-fault _ _ _ _ _ _ _ _ (c .before .before .before .before .before .before .before .before .before .before .loop .inv) _ _ _ _ _ (c .before .no .given .1) (c .before .before .before .before .before .before .before .read-atom .ensures)
 
 pub +read-atom+read-group+read-pattern-spec : {M : Type 1} → statement M
 +read-atom+read-group+read-pattern-spec =
@@ -341,44 +335,45 @@ pub +read-atom+read-group+read-pattern-spec : {M : Type 1} → statement M
     (read-atom-returns-6 t)
     (read-atom-returns-7 t))
     (λ t. read-group-lts.spec (read-group-claims t) (read-group-at t) read-group.Post
+    read-group-Inv-loop
+    read-group-μ-loop
+    (read-group-loop-holds t)
     (read-group-read-pattern-requires t)
     (read-group-enum-known-next t)
     (read-group-separator-requires t)
     (read-group-enum-known-after t)
-    (read-group-read-group-requires t)
-    (read-group-enum-known-end t)
-    (read-group-add-t32 t)
-    (read-group-enum-known-no t)
+    (read-group-add-before t)
+    (read-group-loop-less t)
+    (read-group-loop-again t)
     (read-group-enum-known-after-2 t)
-    (read-group-enum-told t)
-    (read-group-enum-known-no-2 t)
+    (read-group-add-t21 t)
     (read-group-same-length t)
     (read-group-same-length-2 t)
     (read-group-returns t)
+    (read-group-enum-told t)
     (read-group-same-length-3 t)
     (read-group-same-length-4 t)
     (read-group-returns-2 t)
+    (read-group-enum-known-no t)
     (read-group-same-length-5 t)
     (read-group-same-length-6 t)
-    (read-group-returns-3 t)
-    (read-group-same-length-7 t)
-    (read-group-same-length-8 t)
-    (read-group-returns-4 t)
-    (read-group-same-length-9 t)
-    (read-group-same-length-10 t)
-    (read-group-returns-5 t))
-    λ t. read-pattern-lts.spec (read-pattern-claims t) (read-pattern-at t) read-pattern.Post
+    (read-group-returns-3 t))
+    λ t. read-pattern-lts.spec
+    (read-atom-below t, read-atom.Post, last-reads.Asked, last-reads.Learnt)
+    (read-pattern-at t)
+    read-pattern.Post
+    read-pattern-Inv-loop
+    read-pattern-μ-loop
+    (read-pattern-loop-holds t)
     (read-pattern-read-atom-requires t)
     (read-pattern-enum-known-next t)
     (read-pattern-last-requires t)
-    (read-pattern-read-pattern-requires t)
-    (read-pattern-enum-known-no t)
     (read-pattern-same-length t)
     (read-pattern-same-length-2 t)
     (read-pattern-returns t)
+    (read-pattern-loop-less t)
+    (read-pattern-loop-again t)
+    (read-pattern-enum-known-no t)
     (read-pattern-same-length-3 t)
     (read-pattern-same-length-4 t)
     (read-pattern-returns-2 t)
-    (read-pattern-same-length-5 t)
-    (read-pattern-same-length-6 t)
-    (read-pattern-returns-3 t)

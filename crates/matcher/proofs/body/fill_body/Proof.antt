@@ -1,11 +1,10 @@
 -- `matcher::body::fill_body` meets its contract: codes, an empty literal, another literal, a group. Assumes nothing.
-use mathlib.Core.Path.{_≡_, sym, ap, _∙_}
-use Prim.Native.Nat.{ℕ, _+_, _≤_}
+use mathlib.Core.Path.{ap, _∙_}
+use Prim.Native.Nat.{_+_, _≤_}
 use native.Mathlib.Omega.{arith}
 use borrow.Author.Needs.{needs}
 use lib.ListN.{length}
 use denote.Ref.{now}
-use Rattle.pattern.specs.Decode.{layout}
 use Rattle.table.specs.declared.Record.{Record}
 use Rattle.matcher.specs.Filled.{Fit, Aside}
 use Rattle.matcher.proofs.Views.{told-literal}

@@ -1,6 +1,6 @@
 -- `matcher::cells::place` meets its contract: the index is below the end of its plane, and each number on the way to it is no more than the index.
 -- Assumes nothing.
-use Prim.Native.Nat.{ℕ, _+_, _*_, _≤_, _<_, _^_}
+use Prim.Native.Nat.{_+_, _*_, _≤_, _<_}
 use native.Mathlib.Omega.{arith}
 use borrow.Author.Needs.{needs}
 use Rattle.matcher.specs.Cells.{at}

@@ -1,12 +1,11 @@
 -- `matcher::clear::clear` meets its contract. The invariant of its loop: the first k bytes are 0 and the rest are as they were.
 -- Assumes nothing.
-use mathlib.Core.Path.{_≡_, refl, sym, ap, _∙_}
+use mathlib.Core.Path.{_≡_, refl, ap, _∙_}
 use mathlib.Core.List.{List, _++_}
 use Prim.Native.Nat.{ℕ, _-_, _≤_}
 use native.Mathlib.Omega.{arith}
 use borrow.Author.Fill.{fill-none, fill-more}
 use lib.ListN.{length, set, replicate, drop, length-set}
-use denote.Ref.{now}
 use Rattle.matcher.proofs.clear.clear.Statement.{statement}
 use Rattle.matcher.proofs.clear.clear.Tie as tie
 

@@ -1,7 +1,6 @@
 -- `matcher::fill::fill_column` meets its contract: the invariant is `FillAt`. Assumes nothing.
 use Prim.Native.Nat.{suc, _-_}
 use native.Mathlib.Omega.{arith}
-use borrow.Author.Needs.{needs}
 use Rattle.matcher.proofs.Filling.{FillAt, fill-start, fill-ready, fill-end, fill-step}
 use Rattle.matcher.proofs.fill.fill_column.Statement.{statement}
 use Rattle.matcher.proofs.fill.fill_column.Tie as tie

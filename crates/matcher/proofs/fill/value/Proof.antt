@@ -1,7 +1,5 @@
 -- `matcher::fill::value` meets its contract: in each arm the source is the one of the pattern. Assumes nothing.
-use mathlib.Core.Path.{_≡_, refl, sym, ap, _∙_}
-use mathlib.Core.Bool.{true, false, _&&_, _||_}
-use native.Mathlib.Omega.{arith}
+use mathlib.Core.Path.{sym, _∙_}
 use borrow.Author.Needs.{needs}
 use Rattle.matcher.specs.Filled.{held-in}
 use Rattle.matcher.proofs.Filling.{fit-literal, fit-copy, fit-either, fit-gate}

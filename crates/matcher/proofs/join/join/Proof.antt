@@ -3,7 +3,6 @@
 use mathlib.Core.Path.{_∙_}
 use Prim.Native.Nat.{_-_}
 use native.Mathlib.Omega.{arith}
-use borrow.Author.Needs.{needs}
 use Rattle.matcher.proofs.Joining.{PlaneAt, plane-start, plane-ready, plane-end, plane-stop, plane-step}
 use Rattle.matcher.proofs.join.join.Statement.{statement}
 use Rattle.matcher.proofs.join.join.Tie as tie

@@ -4,7 +4,6 @@ use mathlib.Core.Path.{sym, _∙_}
 use Prim.Native.Nat.{suc, _-_}
 use native.Mathlib.Omega.{arith}
 use borrow.Author.Needs.{needs}
-use denote.Ref.{now}
 use Rattle.matcher.proofs.Joining.{ColumnAt, column-start, column-ready, column-end, column-stop, column-step}
 use Rattle.matcher.proofs.join.join_column.Statement.{statement}
 use Rattle.matcher.proofs.join.join_column.Tie as tie

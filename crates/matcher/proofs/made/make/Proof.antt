@@ -1,6 +1,6 @@
 -- `matcher::made::make` meets its contract: the invariant is `MakeAt`. Assumes nothing.
 use mathlib.Core.Path.{_≡_, _∙_}
-use Prim.Native.Nat.{ℕ, _-_}
+use Prim.Native.Nat.{_-_}
 use native.Mathlib.Omega.{arith}
 use Rattle.matcher.proofs.Bodies.{MakeAt, make-few, make-start, make-gather, make-gathered, make-ready, make-end, make-stop, make-step}
 use Rattle.matcher.proofs.made.make.Statement.{statement}

@@ -1,6 +1,6 @@
 -- `matcher::parts::write_parts` meets its contract: the invariant is `PartsAt`. Assumes nothing.
-use mathlib.Core.Path.{_≡_, _∙_}
-use Prim.Native.Nat.{ℕ, _-_}
+use mathlib.Core.Path.{_∙_}
+use Prim.Native.Nat.{_-_}
 use native.Mathlib.Omega.{arith}
 use Rattle.pattern.proofs.RoundTrip.{some-atom}
 use denote.Ref.{now}

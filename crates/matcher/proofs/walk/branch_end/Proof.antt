@@ -1,9 +1,9 @@
 -- `matcher::walk::branch_end` meets its contract: what goes on at y ends where the branch at x does. Assumes nothing.
-use mathlib.Core.Path.{_≡_, refl, ap, sym, _∙_}
-use Prim.Native.Nat.{ℕ, _+_, _-_, _<_}
+use mathlib.Core.Path.{_≡_, refl}
+use Prim.Native.Nat.{_+_, _-_, _<_}
 use native.Mathlib.Omega.{arith}
 use Rattle.pattern.specs.Syntax.{size}
-use Rattle.pattern.proofs.RoundTrip.{some-pattern, some-atom}
+use Rattle.pattern.proofs.RoundTrip.{some-atom}
 use denote.Ref.{now}
 use Rattle.matcher.specs.Atoms.{atoms, node, head}
 use Rattle.matcher.proofs.Views.{ends-then, branch-last, branch-then}

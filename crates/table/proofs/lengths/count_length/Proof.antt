@@ -1,8 +1,10 @@
 -- `lengths::count_length` meets its contract: open, one number, two numbers. Assumes nothing.
-use Rattle.table.proofs.Measures.{count-open, count-exact, count-two}
-use mathlib.Core.Path.{_∙_}
+use mathlib.Core.Path.{sym, ap, _∙_}
 use native.Mathlib.Omega.{arith}
+use lib.ListN.{length}
 use borrow.Author.Needs.{needs}
+use Rattle.table.proofs.Sources.{count-exact}
+use Rattle.table.proofs.Measures.{open-length, two-length}
 use Rattle.table.proofs.lengths.count_length.Statement.{statement}
 use Rattle.table.proofs.lengths.count_length.Tie as tie
 
@@ -13,13 +15,13 @@ add-result : tie.Need-add-result
 add-result c = search needs
 
 returns : tie.Need-returns
-returns c = (count-open (c .before .before .args .low) (c .before .before .args .high) (c .low-length .result) (c .before .if1 .taken) (c .low-length .ensures .0), omega arith)
+returns c = (open-length (c .before .before .args .low) (c .before .before .args .high) (c .low-length .result) (c .low-length .ensures .0) (c .before .if1 .taken), omega arith)
 
 digits-requires : tie.Need-digits-requires
 digits-requires c κs = search needs
 
 returns-2 : tie.Need-returns-2
-returns-2 c = (c .digits .ensures .0 ∙ count-exact (c .before .before .before .args .low) (c .before .before .before .args .high) (c .before .before .if1 .left) (c .before .if2 .taken), omega arith)
+returns-2 c = (c .digits .ensures .0 ∙ sym (ap length (count-exact (c .before .before .before .args .low) (c .before .before .before .args .high) (c .before .before .if1 .left) (c .before .if2 .taken))), omega arith)
 
 low-length-requires-2 : tie.Need-low-length-requires-2
 low-length-requires-2 c κs = search needs
@@ -34,7 +36,7 @@ add-result-3 : tie.Need-add-result-3
 add-result-3 c = search needs
 
 returns-3 : tie.Need-returns-3
-returns-3 c = (count-two (c .before .before .before .before .args .low) (c .before .before .before .before .args .high) (c .before .low-length2 .result) (c .digits2 .result) (c .before .before .before .if1 .left) (c .before .before .if2 .left) (c .before .low-length2 .ensures .0) (c .digits2 .ensures .0), omega arith)
+returns-3 c = (two-length (c .before .before .before .before .args .low) (c .before .before .before .before .args .high) (c .before .low-length2 .result) (c .before .low-length2 .ensures .0) (c .digits2 .result) (c .before .before .before .if1 .left) (c .before .before .if2 .left) (c .digits2 .ensures .0), omega arith)
 
 pub count-length-spec : {M : Type 1} → statement M
 count-length-spec =

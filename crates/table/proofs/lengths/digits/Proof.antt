@@ -1,6 +1,6 @@
 -- `lengths::digits` meets its contract, range by range. Assumes nothing.
-use Rattle.table.proofs.Measures.{digits-1, digits-2, digits-3, digits-4}
 use native.Mathlib.Omega.{arith}
+use Rattle.table.proofs.Measures.{digits-1, digits-2, digits-3, digits-4}
 use Rattle.table.proofs.lengths.digits.Statement.{statement}
 use Rattle.table.proofs.lengths.digits.Tie as tie
 

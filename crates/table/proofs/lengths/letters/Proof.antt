@@ -1,22 +1,42 @@
--- `lengths::letters` meets its contract: the table is the one that printing every set gives. Assumes nothing.
-use Rattle.pattern.specs.Print.{print-set}
-use Rattle.pattern.specs.Codes.{all-codes}
-use Rattle.table.proofs.Measures.{counts, letters-at, letters-small}
+-- `lengths::letters` meets its contract: the rule of the list is a test at every set. Assumes nothing.
 use native.Mathlib.Omega.{arith}
 use borrow.Author.Needs.{needs}
+use Rattle.table.proofs.Measures.{fours, letters-at}
 use Rattle.table.proofs.lengths.letters.Statement.{statement}
 use Rattle.table.proofs.lengths.letters.Tie as tie
+
+cast-few : tie.Need-cast-few
+cast-few c = search needs
+
+cast-more : tie.Need-cast-more
+cast-more c = search needs
 
 array-read-result : tie.Need-array-read-result
 array-read-result c = search needs
 
+array-read-result-2 : tie.Need-array-read-result-2
+array-read-result-2 c = search needs
+
+add-result : tie.Need-add-result
+unfolding fours
+add-result c = omega (arith, letters-at (c .args .set) (c .pre) .1)
+
 cast-result : tie.Need-cast-result
-unfolding counts all-codes print-set
-cast-result c = omega (arith, letters-small (c .args .set) (c .pre))
+unfolding fours
+cast-result c = omega (arith, letters-at (c .args .set) (c .pre) .1)
 
 returns : tie.Need-returns
-unfolding counts all-codes print-set
-returns c = (letters-at (c .args .set) (c .pre), letters-small (c .args .set) (c .pre))
+unfolding fours
+returns c = letters-at (c .args .set) (c .pre)
 
 pub letters-spec : {M : Type 1} → statement M
-letters-spec = tie.close (tie.spec array-read-result cast-result returns)
+letters-spec =
+    tie.close
+    (tie.spec
+    cast-few
+    cast-more
+    array-read-result
+    array-read-result-2
+    add-result
+    cast-result
+    returns)

@@ -1,12 +1,12 @@
 -- `lengths::text_length` meets its contract: the bytes passed are plain, and the count is that of their doubled bytes. Assumes nothing.
-use Rattle.table.proofs.Measures.{text-low, text-high, text-on, text-end, quote-on, other-on}
-use Rattle.table.specs.Checked.{plain}
-use Rattle.pattern.specs.Print.{double}
-use lib.ListN.{length, drop}
-use Prim.Native.Nat.{_+_, _*_, _-_, _≤_}
 use mathlib.Core.Path.{_≡_, refl}
-use native.Mathlib.Omega.{arith}
 use mathlib.Core.Logic.{⊎-elim}
+use Prim.Native.Nat.{_+_, _*_, _-_, _≤_}
+use native.Mathlib.Omega.{arith}
+use lib.ListN.{length, drop}
+use Rattle.pattern.specs.Print.{double}
+use Rattle.table.specs.Checked.{plain}
+use Rattle.table.proofs.Measures.{text-low, text-high, text-on, text-end, quote-on, other-on}
 use Rattle.table.proofs.lengths.text_length.Statement.{statement}
 use Rattle.table.proofs.lengths.text_length.Tie as tie
 

@@ -1,12 +1,12 @@
 -- `opening::head_of` meets its contract, test by test. Assumes nothing.
-use Rattle.table.specs.declared.opening.Opened.the-variants as opened
-use Rattle.pattern.specs.Decode.{field}
-use lib.ListN.{getD}
-use Prim.Native.Nat.{ℕ, _+_, _*_}
 use mathlib.Core.Path.{_≡_, _∙_, sym}
-use Rattle.table.proofs.Measures.{head-short, head-off, head-wrong, head-right}
+use Prim.Native.Nat.{_+_, _*_}
 use native.Mathlib.Omega.{arith}
+use lib.ListN.{getD}
 use borrow.Author.Needs.{needs}
+use Rattle.pattern.specs.Decode.{field}
+use Rattle.table.specs.declared.opening.Opened.the-variants as opened
+use Rattle.table.proofs.Measures.{head-short, head-off, head-wrong, head-right}
 use Rattle.table.proofs.opening.head_of.Statement.{statement}
 use Rattle.table.proofs.opening.head_of.Tie as tie
 

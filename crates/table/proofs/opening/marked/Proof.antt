@@ -1,11 +1,11 @@
 -- `opening::marked` meets its contract: the bytes passed are those of the mark. Assumes nothing.
-use Rattle.table.proofs.Measures.{mark-off, mark-on, mark-end}
-use Rattle.table.specs.Opening.{opening}
-use Rattle.pattern.specs.Bytes.{same}
-use lib.ListN.{take, drop}
-use Prim.Native.Nat.{_-_, _≤_}
 use mathlib.Core.Path.{_≡_, refl}
+use Prim.Native.Nat.{_-_, _≤_}
 use native.Mathlib.Omega.{arith}
+use lib.ListN.{take, drop}
+use Rattle.pattern.specs.Bytes.{same}
+use Rattle.table.specs.Opening.{opening}
+use Rattle.table.proofs.Measures.{mark-off, mark-on, mark-end}
 use Rattle.table.proofs.opening.marked.Statement.{statement}
 use Rattle.table.proofs.opening.marked.Tie as tie
 

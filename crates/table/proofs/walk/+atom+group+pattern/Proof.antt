@@ -1,14 +1,14 @@
 -- The proof of the cycle of calls {atom, group, pattern}. The atoms left fall: an atom calls the branches from the next atom on, a group its first branch at the same place, a pattern its first atom at the same place.
 -- Assumes nothing.
-use mathlib.Core.Path.{_≡_, refl, sym, ap, _∙_}
+use mathlib.Core.Path.{sym, _∙_}
 use Prim.Native.Nat.{ℕ, _+_, _*_, _-_, _<_}
 use native.Mathlib.Omega.{arith}
 use borrow.Author.Needs.{needs}
+use borrow.Fn.Kinds.{In}
+use borrow.Fn.PlainCycle.{Measures, is, falls, and}
 use Rattle.table.specs.Walk.{place}
 use Rattle.table.proofs.Moves.{moved, movedW, shortened, fewer, ready-leaf, ready-on, ready-again, ready-inside, short-source, record-in, moved-then, past-again, moved-group, moved-leaf}
 use Rattle.table.proofs.Steps.{pattern-none, pattern-last, pattern-other, then-none, then-more, atom-over, atom-unordered, atom-leafless, atom-leaf, atom-deep, group-none, group-apart, group-closed, branches-none, branch-none, branch-only, branches-on}
-use borrow.Fn.Kinds.{In}
-use borrow.Fn.PlainCycle.{Measures, is, falls, and}
 use Rattle.table.proofs.walk.atom.Reads as atom
 use Rattle.table.proofs.walk.atom.Kinds as atom-kinds
 use Rattle.table.proofs.walk.+atom+group+pattern.Lts-atom as atom-lts

@@ -1,8 +1,8 @@
 -- `walk::codes_leaf` meets its contract, case by case. Assumes nothing.
-use Rattle.table.proofs.Leafing.{small-set, codes-on, codes-more, codes-off}
 use mathlib.Core.Path.{_∙_, sym}
 use native.Mathlib.Omega.{arith}
 use borrow.Author.Needs.{needs}
+use Rattle.table.proofs.Leafing.{small-set, codes-on, codes-more, codes-off}
 use Rattle.table.proofs.walk.codes_leaf.Statement.{statement}
 use Rattle.table.proofs.walk.codes_leaf.Tie as tie
 

@@ -1,6 +1,6 @@
 -- `walk::is_ordered` meets its contract, test by test. Assumes nothing.
-use Rattle.table.specs.Checked.{ordered}
 use borrow.Author.Tests.{le-leb, lt-leb, eq-eqb, ne-eqb}
+use Rattle.table.specs.Checked.{ordered}
 use Rattle.table.proofs.walk.is_ordered.Statement.{statement}
 use Rattle.table.proofs.walk.is_ordered.Tie as tie
 

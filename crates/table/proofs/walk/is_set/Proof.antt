@@ -1,7 +1,7 @@
 -- `walk::is_set` meets its contract, test by test. Assumes nothing.
-use Rattle.table.specs.Checked.{a-set}
 use native.Mathlib.Omega.{arith}
 use borrow.Author.Tests.{lt-ltb, le-ltb}
+use Rattle.table.specs.Checked.{a-set}
 use Rattle.table.proofs.walk.is_set.Statement.{statement}
 use Rattle.table.proofs.walk.is_set.Tie as tie
 

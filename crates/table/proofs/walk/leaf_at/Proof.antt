@@ -1,8 +1,8 @@
 -- `walk::leaf_at` meets its contract, kind by kind. Assumes nothing.
-use Rattle.table.proofs.Leafing.{leaf-one, leaf-two, leaf-other}
-use Rattle.table.specs.Leaves.{as-rec}
 use mathlib.Core.Path.{_∙_}
 use borrow.Author.Needs.{needs}
+use Rattle.table.specs.Leaves.{as-rec}
+use Rattle.table.proofs.Leafing.{leaf-one, leaf-two, leaf-other}
 use Rattle.table.proofs.walk.leaf_at.Statement.{statement}
 use Rattle.table.proofs.walk.leaf_at.Tie as tie
 

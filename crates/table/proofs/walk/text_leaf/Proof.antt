@@ -1,9 +1,9 @@
 -- `walk::text_leaf` meets its contract, case by case. Assumes nothing.
-use Prim.Native.Nat.{_+_, _*_, _-_}
-use Rattle.table.proofs.Leafing.{text-apart, text-past, text-bad, text-good}
 use mathlib.Core.Path.{_∙_, sym}
+use Prim.Native.Nat.{_+_, _*_, _-_}
 use native.Mathlib.Omega.{arith}
 use borrow.Author.Needs.{needs}
+use Rattle.table.proofs.Leafing.{text-apart, text-past, text-bad, text-good}
 use Rattle.table.proofs.walk.text_leaf.Statement.{statement}
 use Rattle.table.proofs.walk.text_leaf.Tie as tie
 

@@ -1,5 +1,5 @@
 -- `Cursor::class` meets its contract. Assumes nothing.
-use mathlib.Core.Path.{_≡_, sym, ap, _∙_}
+use mathlib.Core.Path.{sym, ap, _∙_}
 use Rattle.pattern.specs.Bytes.{between}
 use Rattle.pattern.specs.Spelling.{letter, quote, opening, starts, kind}
 use Rattle.compiler.specs.Places.{ClassRead}

@@ -1,5 +1,5 @@
 -- `Cursor::last` meets its contract. Assumes nothing.
-use mathlib.Core.Path.{_≡_, refl, sym, ap, _∙_}
+use mathlib.Core.Path.{sym, ap, _∙_}
 use Rattle.pattern.specs.Bytes.{between}
 use Rattle.pattern.specs.Spelling.{kind}
 use Rattle.compiler.specs.Places.{count-flag}

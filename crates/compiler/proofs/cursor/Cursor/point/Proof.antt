@@ -1,5 +1,5 @@
 -- `Cursor::point` meets its contract. Assumes nothing.
-use mathlib.Core.Path.{_≡_, refl, ap}
+use mathlib.Core.Path.{ap}
 use Rattle.pattern.specs.Bytes.{between}
 use Rattle.pattern.specs.Spelling.{point, counts, kind}
 use Rattle.compiler.specs.Places.{PointRead}

@@ -1,5 +1,5 @@
 -- `Cursor::separator` meets its contract. Assumes nothing.
-use mathlib.Core.Path.{sym, _∙_}
+use mathlib.Core.Path.{_∙_}
 use native.Mathlib.Omega.{arith}
 use Rattle.compiler.specs.Places.{SeparatorRead}
 use Rattle.compiler.proofs.Places.{byte-is, byte-end, of-byte}

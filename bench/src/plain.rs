@@ -1,0 +1,705 @@
+//! The work of the library in plain Rust, written for speed.
+
+/// Refusal number and position.
+pub type Refusal = (u32, usize);
+
+const OPEN: u16 = 65_535;
+
+/// The bit of each code letter, 0 for any other byte.
+const LETTER_BITS: [u8; 256] = {
+    let mut bits = [0; 256];
+    let letters = b"ACELNPU";
+    let mut bit = 0;
+    while bit < 7 {
+        bits[letters[bit] as usize] = 1 << bit;
+        bits[letters[bit].to_ascii_lowercase() as usize] = 1 << bit;
+        bit += 1;
+    }
+    bits
+};
+
+/// The codes that each byte satisfies, a bit each.
+const CLASSES: [u8; 256] = {
+    let mut classes = [0; 256];
+    let mut byte = 0;
+    while byte < 128 {
+        classes[byte] = match byte as u8 {
+            b'A'..=b'Z' => 0b1000101,
+            b'a'..=b'z' => 0b0001101,
+            b'0'..=b'9' => 0b0010100,
+            b' '..=b'~' => 0b0100100,
+            _ => 0b0000110,
+        };
+        byte += 1;
+    }
+    classes
+};
+
+// ---- compiling ----
+
+/// The digits at `at`: whether there are any, and their value, at most 10,000.
+fn number(source: &[u8], at: &mut usize) -> (bool, u32) {
+    let start = *at;
+    let mut value = 0;
+    while let Some(digit @ b'0'..=b'9') = source.get(*at) {
+        value = (value * 10 + u32::from(digit - b'0')).min(10_000);
+        *at += 1;
+    }
+    (*at > start, value)
+}
+
+struct Builder {
+    records: [[u8; 10]; 64],
+    atoms: usize,
+    pool: [u8; 512],
+    pool_len: usize,
+}
+
+impl Builder {
+    fn put(&mut self, kind: u8, low: u16, high: u16, a: u16, b: u16) {
+        let record = &mut self.records[self.atoms];
+        record[0] = kind;
+        record[2..4].copy_from_slice(&low.to_le_bytes());
+        record[4..6].copy_from_slice(&high.to_le_bytes());
+        record[6..8].copy_from_slice(&a.to_le_bytes());
+        record[8..10].copy_from_slice(&b.to_le_bytes());
+        self.atoms += 1;
+    }
+
+    fn write(&self, source_len: usize, table: &mut [u8]) -> Result<usize, Refusal> {
+        let records_end = 8 + 10 * self.atoms;
+        let len = records_end + self.pool_len;
+        if table.len() < len {
+            return Err((8, source_len));
+        }
+        table[..5].copy_from_slice(b"MPT\x01\x00");
+        table[5] = self.atoms as u8;
+        table[6..8].copy_from_slice(&(self.pool_len as u16).to_le_bytes());
+        table[8..records_end].copy_from_slice(self.records[..self.atoms].as_flattened());
+        table[records_end..len].copy_from_slice(&self.pool[..self.pool_len]);
+        Ok(len)
+    }
+}
+
+/// Compiles in one pass; the length of the table.
+pub fn compile(source: &[u8], table: &mut [u8]) -> Result<usize, Refusal> {
+    if source.len() > 512 {
+        return Err((1, 512));
+    }
+    let mut builder = Builder {
+        records: [[0; 10]; 64],
+        atoms: 0,
+        pool: [0; 512],
+        pool_len: 0,
+    };
+    let mut open = [0; 8];
+    let mut depth = 0;
+    let mut at = 0;
+    // Past the end stands a byte that no pattern continues with.
+    let byte = |at: usize| source.get(at).copied().unwrap_or(0);
+    loop {
+        let start = at;
+        let (some_low, low) = number(source, &mut at);
+        if low > 9_999 {
+            return Err((4, start));
+        }
+        let mut high = low as u16;
+        let mut over = None;
+        if byte(at) == b'.' {
+            at += 1;
+            let second = at;
+            let (some_high, value) = number(source, &mut at);
+            if some_high && value < low {
+                return Err((5, start));
+            }
+            over = (value > 9_999).then_some((4, second));
+            high = if some_high { value as u16 } else { OPEN };
+        } else if !some_low {
+            return Err((2, at));
+        }
+        if builder.atoms == 64 {
+            return Err((6, start));
+        }
+        if let Some(refusal) = over {
+            return Err(refusal);
+        }
+        let low = low as u16;
+        let mut ended = builder.atoms;
+        match byte(at) {
+            b'A'..=b'Z' | b'a'..=b'z' => {
+                let mut set = 0;
+                while byte(at).is_ascii_alphabetic() {
+                    let bit = LETTER_BITS[usize::from(byte(at))];
+                    if bit == 0 {
+                        return Err((3, at));
+                    }
+                    set |= bit;
+                    at += 1;
+                }
+                builder.put(1, low, high, u16::from(set), 0);
+            }
+            b'"' => {
+                let offset = builder.pool_len;
+                loop {
+                    at += 1;
+                    match byte(at) {
+                        b'"' => {
+                            at += 1;
+                            if byte(at) != b'"' {
+                                break;
+                            }
+                        }
+                        b' '..=b'~' => (),
+                        _ => return Err((2, at)),
+                    }
+                    builder.pool[builder.pool_len] = byte(at);
+                    builder.pool_len += 1;
+                }
+                builder.put(
+                    2,
+                    low,
+                    high,
+                    offset as u16,
+                    (builder.pool_len - offset) as u16,
+                );
+            }
+            b'(' => {
+                if depth == 8 {
+                    return Err((7, at));
+                }
+                open[depth] = builder.atoms;
+                depth += 1;
+                at += 1;
+                builder.put(3, low, high, 1, 0);
+                continue;
+            }
+            _ => return Err((2, at)),
+        }
+        loop {
+            match byte(at) {
+                b'0'..=b'9' | b'.' => break,
+                b',' if depth > 0 => {
+                    builder.records[ended][1] = 1;
+                    let group = &mut builder.records[open[depth - 1]];
+                    group[6] += 1;
+                    at += 1;
+                    break;
+                }
+                b')' if depth > 0 => {
+                    builder.records[ended][1] = 1;
+                    depth -= 1;
+                    ended = open[depth];
+                    builder.records[ended][8] = builder.atoms as u8;
+                    at += 1;
+                }
+                _ if at == source.len() && depth == 0 => {
+                    builder.records[ended][1] = 1;
+                    return builder.write(source.len(), table);
+                }
+                _ => return Err((2, at)),
+            }
+        }
+    }
+}
+
+// ---- testing and writing back ----
+
+#[derive(Clone, Copy)]
+struct Record {
+    kind: u8,
+    last: bool,
+    low: u16,
+    high: u16,
+    a: usize,
+    b: usize,
+}
+
+/// A table by its atom count, records and pool.
+struct Table<'a> {
+    atoms: usize,
+    records: &'a [[u8; 10]],
+    pool: &'a [u8],
+}
+
+impl Table<'_> {
+    fn record(&self, r: usize) -> Record {
+        let bytes = &self.records[r];
+        let field = |at: usize| u16::from_le_bytes([bytes[at], bytes[at + 1]]);
+        Record {
+            kind: bytes[0],
+            last: bytes[1] == 1,
+            low: field(2),
+            high: field(4),
+            a: usize::from(field(6)),
+            b: usize::from(field(8)),
+        }
+    }
+
+    /// The index of the first atom after atom `r`.
+    fn after(&self, r: usize) -> usize {
+        let record = self.record(r);
+        if record.kind == 3 {
+            record.b
+        } else {
+            r + 1
+        }
+    }
+}
+
+fn digits(number: u16) -> usize {
+    match number {
+        0..=9 => 1,
+        10..=99 => 2,
+        100..=999 => 3,
+        _ => 4,
+    }
+}
+
+fn count_len(low: u16, high: u16) -> usize {
+    if low == high {
+        return digits(low);
+    }
+    1 + if low == 0 { 0 } else { digits(low) } + if high == OPEN { 0 } else { digits(high) }
+}
+
+/// A good table with the length of its shortest source, or None.
+fn test(bytes: &[u8]) -> Option<(Table<'_>, usize)> {
+    let (header, rest) = bytes.split_first_chunk::<8>()?;
+    let atoms = usize::from(header[5]);
+    let pool_len = usize::from(u16::from_le_bytes([header[6], header[7]]));
+    if header[..5] != *b"MPT\x01\x00"
+        || atoms == 0
+        || atoms > 64
+        || rest.len() != 10 * atoms + pool_len
+    {
+        return None;
+    }
+    let (records, pool) = rest.split_at(10 * atoms);
+    let table = Table {
+        atoms,
+        records: records.as_chunks().0,
+        pool,
+    };
+    let mut open = [(0, 0); 8];
+    let mut depth = 0;
+    let mut pool_at = 0;
+    let mut len = 0;
+    for r in 0..atoms {
+        let record = table.record(r);
+        let Record {
+            low, high, a, b, ..
+        } = record;
+        if table.records[r][1] > 1 || low > 9_999 || (high != OPEN && (high > 9_999 || high < low))
+        {
+            return None;
+        }
+        len += count_len(low, high);
+        match record.kind {
+            1 if (1..128).contains(&a) && b == 0 => len += a.count_ones() as usize,
+            2 if a == pool_at => {
+                let value = pool.get(a..a + b)?;
+                pool_at += b;
+                len += 2 + b;
+                for &byte in value {
+                    if !(32..=126).contains(&byte) {
+                        return None;
+                    }
+                    len += usize::from(byte == b'"');
+                }
+            }
+            3 if depth < 8 && a > 0 => {
+                open[depth] = (r, a);
+                depth += 1;
+                len += 1 + a;
+                continue;
+            }
+            _ => return None,
+        }
+        let mut last = record.last;
+        while last && depth > 0 {
+            let (group, branches) = &mut open[depth - 1];
+            *branches -= 1;
+            if *branches > 0 {
+                last = false;
+                break;
+            }
+            let closed = table.record(*group);
+            if closed.b != r + 1 {
+                return None;
+            }
+            last = closed.last;
+            depth -= 1;
+        }
+        // The pattern ends with the last record, and no earlier.
+        if (last && depth == 0) != (r + 1 == atoms) {
+            return None;
+        }
+    }
+    (depth == 0 && pool_at == pool_len && len <= 512).then_some((table, len))
+}
+
+/// Whether the table is good.
+pub fn good(table: &[u8]) -> bool {
+    test(table).is_some()
+}
+
+struct Writer<'a> {
+    out: &'a mut [u8],
+    at: usize,
+}
+
+impl Writer<'_> {
+    fn byte(&mut self, byte: u8) {
+        self.out[self.at] = byte;
+        self.at += 1;
+    }
+
+    fn number(&mut self, number: u16) {
+        let len = digits(number);
+        let mut rest = number;
+        for place in self.out[self.at..self.at + len].iter_mut().rev() {
+            *place = b'0' + (rest % 10) as u8;
+            rest /= 10;
+        }
+        self.at += len;
+    }
+}
+
+/// Writes the shortest source; its length.
+pub fn write_back(bytes: &[u8], source: &mut [u8]) -> Result<usize, Refusal> {
+    let (table, len) = test(bytes).ok_or((11, 0))?;
+    if source.len() < len {
+        return Err((8, 0));
+    }
+    let mut writer = Writer { out: source, at: 0 };
+    let mut open = [(0, false); 8];
+    let mut depth = 0;
+    for r in 0..table.atoms {
+        let Record {
+            kind,
+            last,
+            low,
+            high,
+            a,
+            b,
+        } = table.record(r);
+        if low == high {
+            writer.number(low);
+        } else {
+            if low > 0 {
+                writer.number(low);
+            }
+            writer.byte(b'.');
+            if high != OPEN {
+                writer.number(high);
+            }
+        }
+        match kind {
+            1 => (0..7)
+                .filter(|bit| a >> bit & 1 == 1)
+                .for_each(|bit| writer.byte(b"ACELNPU"[bit])),
+            2 => {
+                writer.byte(b'"');
+                for &byte in &table.pool[a..a + b] {
+                    if byte == b'"' {
+                        writer.byte(byte);
+                    }
+                    writer.byte(byte);
+                }
+                writer.byte(b'"');
+            }
+            _ => {
+                writer.byte(b'(');
+                open[depth] = (a, last);
+                depth += 1;
+                continue;
+            }
+        }
+        let mut last = last;
+        while last && depth > 0 {
+            let (branches, group_last) = &mut open[depth - 1];
+            *branches -= 1;
+            if *branches > 0 {
+                writer.byte(b',');
+                break;
+            }
+            writer.byte(b')');
+            last = *group_last;
+            depth -= 1;
+        }
+    }
+    Ok(len)
+}
+
+// ---- matching ----
+
+/// Verdict and trials.
+pub type Verdict = (bool, u64);
+
+/// The trials of one question on all stretches: `left` holds i to m in row i, `right` holds
+/// m to j in row j. Each trial adds one; None when the budget has none left for the next.
+trait Trials {
+    fn join(
+        left: &[u8],
+        right: &[u8],
+        w: usize,
+        trials: u64,
+        budget: u64,
+        put: impl FnMut(usize, usize, u8),
+    ) -> Option<u64>;
+}
+
+pub struct Safe;
+
+impl Trials for Safe {
+    #[inline]
+    fn join(
+        left: &[u8],
+        right: &[u8],
+        w: usize,
+        mut trials: u64,
+        budget: u64,
+        mut put: impl FnMut(usize, usize, u8),
+    ) -> Option<u64> {
+        for (i, left) in left.chunks_exact(w).enumerate() {
+            for (j, right) in right.chunks_exact(w).enumerate().skip(i) {
+                let mut found = 0;
+                for (&first, &second) in left[i..=j].iter().zip(&right[i..=j]).rev() {
+                    if trials == budget {
+                        return None;
+                    }
+                    trials += 1;
+                    if first & second != 0 {
+                        found = 1;
+                        break;
+                    }
+                }
+                put(i, j, found);
+            }
+        }
+        Some(trials)
+    }
+}
+
+pub struct Unchecked;
+
+impl Trials for Unchecked {
+    #[inline]
+    fn join(
+        left: &[u8],
+        right: &[u8],
+        w: usize,
+        mut trials: u64,
+        budget: u64,
+        mut put: impl FnMut(usize, usize, u8),
+    ) -> Option<u64> {
+        assert!(left.len() >= w * w && right.len() >= w * w);
+        for i in 0..w {
+            for j in i..w {
+                let mut found = 0;
+                // The rows i and j lie in the planes, and m stays in both of them.
+                unsafe {
+                    let start = left.as_ptr().add(i * w + i);
+                    let mut first = left.as_ptr().add(i * w + j + 1);
+                    let mut second = right.as_ptr().add(j * w + j + 1);
+                    while first != start {
+                        if trials == budget {
+                            return None;
+                        }
+                        trials += 1;
+                        first = first.sub(1);
+                        second = second.sub(1);
+                        if *first & *second != 0 {
+                            found = 1;
+                            break;
+                        }
+                    }
+                }
+                put(i, j, found);
+            }
+        }
+        Some(trials)
+    }
+}
+
+/// Matches on byte planes, making every trial; the scratch used is zero afterwards.
+pub fn match_label(
+    table: &[u8],
+    label: &[u8],
+    scratch: &mut [u8],
+    parts: &mut [u8],
+    budget: u64,
+) -> Result<Verdict, Refusal> {
+    match_with::<Safe>(table, label, scratch, parts, budget)
+}
+
+/// The same with a trial loop without bounds checks.
+pub fn match_label_unchecked(
+    table: &[u8],
+    label: &[u8],
+    scratch: &mut [u8],
+    parts: &mut [u8],
+    budget: u64,
+) -> Result<Verdict, Refusal> {
+    match_with::<Unchecked>(table, label, scratch, parts, budget)
+}
+
+fn match_with<T: Trials>(
+    table: &[u8],
+    label: &[u8],
+    scratch: &mut [u8],
+    parts: &mut [u8],
+    budget: u64,
+) -> Result<Verdict, Refusal> {
+    let (table, _) = test(table).ok_or((11, 0))?;
+    if label.len() > 255 {
+        return Err((12, 0));
+    }
+    let w = label.len() + 1;
+    let work = (2 * table.atoms + 4) * w * w;
+    if scratch.len() < work {
+        return Err((13, 0));
+    }
+    let mut tops = 1;
+    let mut top = 0;
+    while !table.record(top).last {
+        top = table.after(top);
+        tops += 1;
+    }
+    if parts.len() < 2 * tops {
+        return Err((14, 0));
+    }
+    let scratch = &mut scratch[..work];
+    let trials = fill_planes::<T>(&table, label, scratch, budget);
+    let verdict = trials.map(|trials| {
+        let atoms = &scratch[4 * w * w..];
+        let yes = atoms[w * w + (w - 1) * w] != 0;
+        if yes {
+            put_parts(&table, atoms, w, parts);
+        }
+        (yes, trials)
+    });
+    scratch.fill(0);
+    verdict.ok_or((15, 0))
+}
+
+/// Fills two planes for each atom: "satisfies the atom" with row i and column j, and
+/// "the atom and its followers" with row j and column i. Gives the trials made.
+fn fill_planes<T: Trials>(
+    table: &Table,
+    label: &[u8],
+    scratch: &mut [u8],
+    budget: u64,
+) -> Option<u64> {
+    let n = label.len();
+    let w = n + 1;
+    let size = w * w;
+    let (work, atoms) = scratch.split_at_mut(4 * size);
+    let (body, work) = work.split_at_mut(size);
+    let (mut made, work) = work.split_at_mut(size);
+    let mut next = &mut work[..size];
+    let mut trials = 0;
+    for r in (0..table.atoms).rev() {
+        let record = table.record(r);
+        let (here, later) = atoms.split_at_mut(2 * (r + 1) * size);
+        let (satisfies, followed) = here[2 * r * size..].split_at_mut(size);
+        let followed_by = |atom: usize| &later[(2 * (atom - r - 1) + 1) * size..][..size];
+
+        body.fill(0);
+        match record.kind {
+            1 => {
+                for (i, &byte) in label.iter().enumerate() {
+                    body[i * w + i + 1] =
+                        u8::from(CLASSES[usize::from(byte)] & record.a as u8 != 0);
+                }
+            }
+            2 => {
+                let value = &table.pool[record.a..record.a + record.b];
+                for i in 0..w {
+                    if label[i..].starts_with(value) {
+                        body[i * w + i + value.len()] = 1;
+                    }
+                }
+            }
+            _ => {
+                let mut at = r + 1;
+                let mut begins = true;
+                while at < record.b {
+                    if begins {
+                        let branch = followed_by(at);
+                        for i in 0..w {
+                            for j in i..w {
+                                body[i * w + j] |= branch[j * w + i];
+                            }
+                        }
+                    }
+                    begins = table.record(at).last;
+                    at = table.after(at);
+                }
+            }
+        }
+
+        let low = usize::from(record.low);
+        let most = if record.high == OPEN {
+            n
+        } else {
+            n.min(usize::from(record.high))
+        };
+        // Past n bodies only empty ones can be added.
+        let from = if low > n && body[0] != 0 { n } else { low };
+        satisfies.fill(0);
+        made.fill(0);
+        for i in 0..w {
+            made[i * w + i] = 1;
+            satisfies[i * w + i] = u8::from(from == 0);
+        }
+        for k in 1..=most {
+            let within = u8::from(k >= from);
+            trials = T::join(body, made, w, trials, budget, |i, j, found| {
+                next[j * w + i] = found;
+                satisfies[i * w + j] |= found & within;
+            })?;
+            std::mem::swap(&mut made, &mut next);
+        }
+
+        if record.last {
+            for i in 0..w {
+                for j in i..w {
+                    followed[j * w + i] = satisfies[i * w + j];
+                }
+            }
+        } else {
+            let followers = followed_by(table.after(r));
+            trials = T::join(satisfies, followers, w, trials, budget, |i, j, found| {
+                followed[j * w + i] = found
+            })?;
+        }
+    }
+    Some(trials)
+}
+
+/// Writes the longest-first partition of a label that satisfies the pattern.
+fn put_parts(table: &Table, atoms: &[u8], w: usize, parts: &mut [u8]) {
+    let size = w * w;
+    let n = w - 1;
+    let mut start = 0;
+    let mut r = 0;
+    for part in parts.chunks_exact_mut(2) {
+        let last = table.record(r).last;
+        if last {
+            start = n;
+        } else {
+            let satisfies = &atoms[2 * r * size + start * w..][..w];
+            r = table.after(r);
+            let followed = &atoms[(2 * r + 1) * size + n * w..][..w];
+            start = (start..=n)
+                .rev()
+                .find(|&m| satisfies[m] & followed[m] != 0)
+                .unwrap_or(start);
+        }
+        part.copy_from_slice(&(start as u16).to_le_bytes());
+        if last {
+            return;
+        }
+    }
+}

@@ -1,0 +1,44 @@
+-- `area::put_answer` meets its contract: four numbers, one after the other. Assumes nothing.
+use mathlib.Core.Path.{ap, _∙_}
+use lib.Seq.{sets}
+use Rattle.mpt.specs.Area.{little, area}
+use Rattle.mpt.proofs.Stores.{four-over}
+use borrow.Author.Needs.{needs}
+use Rattle.mpt.proofs.area.put_answer.Statement.{statement}
+use Rattle.mpt.proofs.area.put_answer.Tie as tie
+
+put-number-requires : tie.Need-put-number-requires
+put-number-requires c κs = search needs
+
+put-number-requires-2 : tie.Need-put-number-requires-2
+put-number-requires-2 c κs = search needs
+
+put-number-requires-3 : tie.Need-put-number-requires-3
+put-number-requires-3 c κs = search needs
+
+put-number-requires-4 : tie.Need-put-number-requires-4
+put-number-requires-4 c κs = search needs
+
+same-length : tie.Need-same-length
+same-length c = search needs
+
+returns : tie.Need-returns
+unfolding area
+returns c =
+    let args = c .before .before .before .before .before .before .before .before .before .before .before .before .before .before .before .before .before .args in
+    c .before .before .put-number4 .ensures
+    ∙ ap (λ u. sets u 24 (little 8 0)) (c .before .before .before .before .before .before .put-number3 .ensures
+    ∙ ap (λ u. sets u 16 (little 8 (args .trials))) (c .before .before .before .before .before .before .before .before .before .before .put-number2 .ensures
+    ∙ ap (λ u. sets u 8 (little 8 (args .value))) (c .before .before .before .before .before .before .before .before .before .before .before .before .before .before .put-number .ensures)))
+    ∙ four-over _ (args .position) (args .value) (args .trials) 0 (c .before .before .before .before .before .before .before .before .before .before .before .before .before .before .before .before .before .pre)
+
+pub put-answer-spec : {M : Type 1} → statement M
+put-answer-spec =
+    tie.close
+    (tie.spec
+    put-number-requires
+    put-number-requires-2
+    put-number-requires-3
+    put-number-requires-4
+    same-length
+    returns)

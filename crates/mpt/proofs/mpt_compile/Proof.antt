@@ -1,0 +1,73 @@
+-- `mpt_compile` meets its contract. Assumes nothing.
+use mathlib.Core.Path.{ap}
+use Rattle.pattern.specs.Answers.{refusal, result}
+use Rattle.compiler.specs.Compiling.{answer-of}
+use Rattle.mpt.specs.Area.{area}
+use Rattle.mpt.specs.Calls.{compile-call}
+use Rattle.mpt.proofs.Returns.{short-area, long-area}
+use borrow.Author.Needs.{needs}
+use Rattle.mpt.proofs.mpt_compile.Statement.{statement}
+use Rattle.mpt.proofs.mpt_compile.Tie as tie
+
+returns : tie.Need-returns
+unfolding compile-call
+returns c = short-area _ _ _ (c .if1 .taken)
+
+compile-requires : tie.Need-compile-requires
+compile-requires c κs = search needs
+
+enum-known-length : tie.Need-enum-known-length
+enum-known-length c = search needs
+
+put-answer-requires : tie.Need-put-answer-requires
+put-answer-requires c κs = search needs
+
+enum-known-number : tie.Need-enum-known-number
+enum-known-number c = search needs
+
+put-answer-requires-2 : tie.Need-put-answer-requires-2
+put-answer-requires-2 c κs = search needs
+
+cast-result : tie.Need-cast-result
+cast-result c = search needs
+
+same-length : tie.Need-same-length
+same-length c = search needs
+
+same-length-2 : tie.Need-same-length-2
+same-length-2 c = search needs
+
+returns-2 : tie.Need-returns-2
+unfolding compile-call
+returns-2 c =
+    long-area _ _ (result (c .before .before .before .before .before .length .given .0 .0) 0) (c .before .before .before .before .before .before .before .before .before .before .before .if1 .left) (c .before .before .before .before .before .before .before .before .before .compile .ensures) (ap answer-of (c .before .before .before .before .before .length .given .1)) (c .before .before .put-answer .ensures)
+
+same-length-3 : tie.Need-same-length-3
+same-length-3 c = search needs
+
+same-length-4 : tie.Need-same-length-4
+same-length-4 c = search needs
+
+returns-3 : tie.Need-returns-3
+unfolding compile-call area
+returns-3 c =
+    let x = c .before .before .before .before .before .number .given .0 in
+    long-area _ _ (refusal (x .0) (x .1 .0)) (c .before .before .before .before .before .before .before .before .before .before .before .if1 .left) (c .before .before .before .before .before .before .before .before .before .compile .ensures) (ap answer-of (c .before .before .before .before .before .number .given .1)) (c .before .before .put-answer2 .ensures)
+
+pub mpt-compile-spec : {M : Type 1} → statement M
+mpt-compile-spec =
+    tie.close
+    (tie.spec
+    returns
+    compile-requires
+    enum-known-length
+    put-answer-requires
+    enum-known-number
+    put-answer-requires-2
+    cast-result
+    same-length
+    same-length-2
+    returns-2
+    same-length-3
+    same-length-4
+    returns-3)

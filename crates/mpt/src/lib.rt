@@ -1,0 +1,89 @@
+// The calls from C. Each returns the refusal number, 0 for none; the numbers of its answer go to the answer area.
+pub mod area;
+
+use crate::area::AREA_SIZE;
+use crate::area::put_answer;
+use compiler::Compiled;
+use compiler::compile;
+use matcher::Matched;
+use matcher::match_label;
+use printer::Written;
+use printer::write_back;
+ghost use mathlib.Core.Path.{_≡_};
+ghost use Rattle.mpt.specs.Calls.{compile-call, write-call, match-call};
+
+#[no_mangle]
+pub extern "C" fn mpt_compile(source: &[u8], table: &mut [u8], answer: &mut [u8]) -> u32
+    ensures { λ r. ⌜ record { number = r; bytes = now (table .exit); answer = now (answer .exit) } ≡ compile-call (now (source .entry)) (now (table .entry)) (now (answer .entry)) ⌝ }
+{
+    if answer.len() < AREA_SIZE {
+        return 9;
+    }
+    match compile(source, table) {
+        Compiled::Table(length) => {
+            put_answer(answer, 0, length as u64, 0);
+            0
+        }
+        Compiled::Refused(number, position) => {
+            put_answer(answer, position as u64, 0, 0);
+            number as u32
+        }
+    }
+}
+
+#[no_mangle]
+pub extern "C" fn mpt_write_back(table: &[u8], source: &mut [u8], answer: &mut [u8]) -> u32
+    ensures { λ r. ⌜ record { number = r; bytes = now (source .exit); answer = now (answer .exit) } ≡ write-call (now (table .entry)) (now (source .entry)) (now (answer .entry)) ⌝ }
+{
+    if answer.len() < AREA_SIZE {
+        return 9;
+    }
+    match write_back(table, source) {
+        Written::Length(length) => {
+            put_answer(answer, 0, length as u64, 0);
+            0
+        }
+        Written::Room => {
+            put_answer(answer, 0, 0, 0);
+            8
+        }
+        Written::Table => {
+            put_answer(answer, 0, 0, 0);
+            11
+        }
+    }
+}
+
+#[no_mangle]
+pub extern "C" fn mpt_match(
+    table: &[u8],
+    label: &[u8],
+    scratch: &mut [u8],
+    parts: &mut [u8],
+    budget: u64,
+    answer: &mut [u8],
+) -> u32
+    ensures { λ r. ⌜ record { number = r; scratch = now (scratch .exit); parts = now (parts .exit); answer = now (answer .exit) } ≡ match-call (now (table .entry)) (now (label .entry)) (now (scratch .entry)) (now (parts .entry)) budget (now (answer .entry)) ⌝ }
+{
+    if answer.len() < AREA_SIZE {
+        return 9;
+    }
+    match match_label(table, label, scratch, parts, budget) {
+        Matched::Yes(trials) => {
+            put_answer(answer, 0, 1, trials);
+            0
+        }
+        Matched::No(trials) => {
+            put_answer(answer, 0, 0, trials);
+            0
+        }
+        Matched::Exhausted => {
+            put_answer(answer, 0, 0, budget);
+            15
+        }
+        Matched::Refused(number) => {
+            put_answer(answer, 0, 0, 0);
+            number as u32
+        }
+    }
+}

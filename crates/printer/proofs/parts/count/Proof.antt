@@ -1,0 +1,73 @@
+-- `parts::count` meets its contract: one number, an open count, two numbers. Assumes nothing.
+use mathlib.Core.Path.{sym, ap, _∙_}
+use native.Mathlib.Omega.{arith}
+use lib.ListN.{length}
+use borrow.Author.Needs.{needs}
+use Rattle.pattern.specs.Print.{decimal}
+use Rattle.table.proofs.Sources.{count-open, count-two}
+use Rattle.printer.proofs.Parting.{exact-given, count-begins, high-small}
+use Rattle.printer.proofs.Storing.{puts-then, puts-more, puts-as, puts-length, puts-room}
+use Rattle.printer.proofs.parts.count.Statement.{statement}
+use Rattle.printer.proofs.parts.count.Tie as tie
+
+number-requires : tie.Need-number-requires
+number-requires c κs = (c .before .before .before .pre .0 .0, omega (arith, c .before .before .before .pre .1, ap length (exact-given (c .before .before .before .args .low) (c .before .before .before .args .high) (c .before .before .before .pre .0 .0) (c .before .if1 .taken))))
+
+same-length : tie.Need-same-length
+same-length c = search needs
+
+returns : tie.Need-returns
+returns c = puts-as (c .before .before .number .ensures) (sym (exact-given (c .before .before .before .before .before .before .args .low) (c .before .before .before .before .before .before .args .high) (c .before .before .before .before .before .before .pre .0 .0) (c .before .before .before .before .if1 .taken)))
+
+low-number-requires : tie.Need-low-number-requires
+low-number-requires c κs = (c .before .before .before .pre .0 .0, omega (arith, c .before .before .before .pre .1, count-begins (c .before .before .before .args .low) (c .before .before .before .args .high) (c .before .if1 .left)))
+
+slice-write-out : tie.Need-slice-write-out
+slice-write-out c =
+    let p = c .before .before .low-number .ensures in
+    omega (arith, p .next, puts-length p, c .before .before .before .before .before .before .pre .1, count-begins (c .before .before .before .before .before .before .args .low) (c .before .before .before .before .before .before .args .high) (c .before .before .before .before .if1 .left))
+
+add-result : tie.Need-add-result
+add-result c =
+    let p = c .before .before .before .low-number .ensures in
+    omega (arith, p .next, puts-length p, c .before .before .before .before .before .before .before .pre .1, count-begins (c .before .before .before .before .before .before .before .args .low) (c .before .before .before .before .before .before .before .args .high) (c .before .before .before .before .before .if1 .left))
+
+same-length-2 : tie.Need-same-length-2
+same-length-2 c = search needs
+
+returns-2 : tie.Need-returns-2
+returns-2 c = puts-as (puts-more (c .before .before .before .low-number .ensures) 46) (sym (count-open (c .before .before .before .before .before .before .before .args .low) (c .before .before .before .before .before .before .before .args .high) (c .if2 .taken)))
+
+add-number : tie.Need-add-number
+add-number c =
+    let p = c .before .before .before .before .low-number .ensures in
+    omega (arith, p .next, puts-length p, c .before .before .before .before .before .before .before .before .pre .1, count-begins (c .before .before .before .before .before .before .before .before .args .low) (c .before .before .before .before .before .before .before .before .args .high) (c .before .before .before .before .before .before .if1 .left))
+
+number-requires-2 : tie.Need-number-requires-2
+number-requires-2 c κs =
+    let a = c .before .before .before .before .before .before .before .before .args in
+    let e = count-two (a .low) (a .high) (c .before .if2 .left) (c .before .before .before .before .before .before .if1 .left) in
+    (high-small (a .low) (a .high) (c .before .if2 .left) (c .before .before .before .before .before .before .before .before .pre .0), puts-room (puts-more (c .before .before .before .before .low-number .ensures) 46) (decimal (a .high)) (omega (arith, c .before .before .before .before .before .before .before .before .pre .1, ap length e)))
+
+same-length-3 : tie.Need-same-length-3
+same-length-3 c = puts-length (c .before .before .number2 .ensures) ∙ puts-length (puts-more (c .before .before .before .before .before .before .before .low-number .ensures) 46)
+
+returns-3 : tie.Need-returns-3
+returns-3 c = puts-as (puts-then (puts-more (c .before .before .before .before .before .before .before .low-number .ensures) 46) (c .before .before .number2 .ensures)) (sym (count-two (c .before .before .before .before .before .before .before .before .before .before .before .args .low) (c .before .before .before .before .before .before .before .before .before .before .before .args .high) (c .before .before .before .before .if2 .left) (c .before .before .before .before .before .before .before .before .before .if1 .left)))
+
+pub count-spec : {M : Type 1} → statement M
+count-spec =
+    tie.close
+    (tie.spec
+    number-requires
+    same-length
+    returns
+    low-number-requires
+    slice-write-out
+    add-result
+    same-length-2
+    returns-2
+    add-number
+    number-requires-2
+    same-length-3
+    returns-3)

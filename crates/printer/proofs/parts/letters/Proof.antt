@@ -1,0 +1,72 @@
+-- `parts::letters` meets its contract: the codes passed have their letters written. Assumes nothing.
+use mathlib.Core.Path.{_≡_}
+use mathlib.Core.Logic.{⊎-elim}
+use Prim.Native.Nat.{_-_, _≤_}
+use native.Mathlib.Omega.{arith}
+use lib.ListN.{drop}
+use Rattle.pattern.specs.Print.{print-set}
+use Rattle.pattern.specs.Codes.{all-codes}
+use Rattle.printer.proofs.Parting.{letters-on, letters-off, letter-room, letters-end}
+use Rattle.printer.proofs.Storing.{Partly, partly-start, partly-as, partly-end, partly-length}
+use Rattle.printer.proofs.parts.letters.Statement.{statement}
+use Rattle.printer.proofs.parts.letters.Tie as tie
+
+abbrev Inv-loop : tie.InvT-loop
+Inv-loop out₀ n set m₀ left₀ k₀ out m left k = (k ≤ 7) × Partly out₀ n (print-set all-codes set) out m (print-set (drop k all-codes) left)
+
+abbrev μ-loop : tie.MeasureT-loop
+μ-loop out₀ n set m₀ left₀ k₀ out m left k = 7 - k
+
+loop-holds : tie.Need-loop-holds Inv-loop μ-loop
+loop-holds c = (omega arith, partly-start _ _ _)
+
+letter-requires : tie.Need-letter-requires Inv-loop μ-loop
+letter-requires c κs = tt
+
+slice-write-out : tie.Need-slice-write-out Inv-loop μ-loop
+slice-write-out c = letter-room (c .before .before .before .loop .k) (c .before .before .before .before .before .args .set) (c .before .before .before .loop .left) (c .before .before .loop-test .taken) (c .before .if1 .taken) (c .before .before .before .before .before .pre) (c .before .before .before .loop .inv .1)
+
+add-m : tie.Need-add-m Inv-loop μ-loop
+add-m c = omega (arith, partly-length (c .before .before .before .loop .inv .1), letter-room (c .before .before .before .loop .k) (c .before .before .before .before .before .args .set) (c .before .before .before .loop .left) (c .before .before .loop-test .taken) (c .before .if1 .taken) (c .before .before .before .before .before .pre) (c .before .before .before .loop .inv .1))
+
+add-k : tie.Need-add-k Inv-loop μ-loop
+add-k c = omega arith
+
+loop-less : tie.Need-loop-less Inv-loop μ-loop
+loop-less c = omega arith
+
+loop-again : tie.Need-loop-again Inv-loop μ-loop
+loop-again c =
+    let l = c .before .before .loop in
+    let set = c .before .before .before .before .args .set in (
+      omega arith,
+      ⊎-elim
+          (λ w. letters-on (l .k) set (l .left) (c .before .loop-test .taken) (w .1 .ensures) (w .0 .taken) (w .2) (w .3) (l .inv .1))
+          (λ w. letters-off (l .k) set (l .left) (c .before .loop-test .taken) (w .0 .left) (w .1) (w .2) (l .inv .1))
+          (c .if1 .came),
+    )
+
+same-length : tie.Need-same-length Inv-loop μ-loop
+same-length c = partly-length (c .before .loop .inv .1)
+
+returns : tie.Need-returns Inv-loop μ-loop
+returns c =
+    let l = c .before .loop in
+    let e : l .k ≡ 7 = omega arith in
+    partly-end (partly-as (letters-end (l .k) (l .left) e) (l .inv .1))
+
+pub letters-spec : {M : Type 1} → statement M
+letters-spec =
+    tie.close
+    (tie.spec
+    Inv-loop
+    μ-loop
+    loop-holds
+    letter-requires
+    slice-write-out
+    add-m
+    add-k
+    loop-less
+    loop-again
+    same-length
+    returns)

@@ -1,0 +1,24 @@
+-- `parts::low_number` meets its contract: 0 is left out. Assumes nothing.
+use mathlib.Core.Path.{sym, ap}
+use native.Mathlib.Omega.{arith}
+use lib.ListN.{length}
+use borrow.Author.Needs.{needs}
+use Rattle.table.proofs.Sources.{low-zero, low-other}
+use Rattle.printer.proofs.Storing.{puts-none, puts-as}
+use Rattle.printer.proofs.parts.low_number.Statement.{statement}
+use Rattle.printer.proofs.parts.low_number.Tie as tie
+
+returns : tie.Need-returns
+returns c = puts-as (puts-none (c .before .before .args .out .now) (c .before .before .args .n)) (sym (low-zero (c .before .before .args .low) (c .if1 .taken)))
+
+number-requires : tie.Need-number-requires
+number-requires c κs = (c .before .before .before .pre .0, omega (arith, c .before .before .before .pre .1, ap length (low-other (c .before .before .before .args .low) (c .before .if1 .left))))
+
+same-length : tie.Need-same-length
+same-length c = search needs
+
+returns-2 : tie.Need-returns-2
+returns-2 c = puts-as (c .before .before .number .ensures) (sym (low-other (c .before .before .before .before .before .before .args .low) (c .before .before .before .before .if1 .left)))
+
+pub low-number-spec : {M : Type 1} → statement M
+low-number-spec = tie.close (tie.spec returns number-requires same-length returns-2)

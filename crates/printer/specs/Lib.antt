@@ -1,0 +1,3 @@
+pub mod Stores
+pub mod Trees
+pub mod Outputs

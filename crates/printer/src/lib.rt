@@ -1,0 +1,34 @@
+// Writing a table back as its shortest source.
+mod parts;
+mod walk;
+
+use pattern::limits::HEADER_SIZE;
+use table::Tested;
+ghost use mathlib.Core.Path.{_≡_};
+ghost use Rattle.pattern.specs.Answers.{writeOf};
+ghost use Rattle.printer.specs.Outputs.{output-of};
+
+// Refusal 11, refusal 8, or the length of the source.
+pub enum Written {
+    Table,
+    Room,
+    Length(usize),
+}
+
+// Writes the shortest source of a good table to the start of source; a refusal writes nothing.
+pub fn write_back(table: &[u8], source: &mut [u8]) -> Written
+    ensures { λ r. ⌜ output-of r (now (source .exit)) ≡ writeOf (now (table .entry)) (now (source .entry)) ⌝ }
+{
+    match table::test(table) {
+        Tested::Good(s) => {
+            let n = s.source;
+            let atoms = s.atoms;
+            if source.len() < n {
+                return Written::Room;
+            }
+            walk::pattern(&table[HEADER_SIZE..], atoms, source, 0, 0);
+            Written::Length(n)
+        }
+        Tested::Bad => Written::Table,
+    }
+}

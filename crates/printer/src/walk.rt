@@ -1,0 +1,72 @@
+// The walk that writes: a cycle of three functions for patterns, atoms and groups.
+use super::parts;
+use pattern::limits::RECORD_SIZE;
+ghost use mathlib.Core.Path.{_≡_};
+ghost use Prim.Native.Nat.{_+_, _*_, _≤_, _<_};
+ghost use lib.ListN.{length};
+ghost use Rattle.pattern.specs.Syntax.{pattern as pattern-sort, atom as atom-sort};
+ghost use Rattle.printer.specs.Trees.{Room, Printed, RoomFor, Branched};
+
+// The next atom, and the place after what is written.
+pub struct Next {
+    pub atom: usize,
+    pub at: usize,
+}
+
+// The pattern from atom i on, written from n on.
+pub fn pattern(body: &[u8], atoms: usize, out: &mut [u8], i: usize, n: usize) -> Next
+    requires { ⌜ Room pattern-sort (now body) atoms (now out) i n ⌝ }
+    ensures { λ r. ⌜ Printed pattern-sort (now (body .entry)) atoms (now (out .entry)) i n r (now (out .exit)) ⌝ }
+{
+    let next = atom(body, atoms, out, i, n);
+    let r = table::fields(body, RECORD_SIZE * i);
+    if r.ends == 1 {
+        return next;
+    }
+    pattern(body, atoms, out, next.atom, next.at)
+}
+
+// Atom i.
+fn atom(body: &[u8], atoms: usize, out: &mut [u8], i: usize, n: usize) -> Next
+    requires { ⌜ Room atom-sort (now body) atoms (now out) i n ⌝ }
+    ensures { λ r. ⌜ Printed atom-sort (now (body .entry)) atoms (now (out .entry)) i n r (now (out .exit)) ⌝ }
+{
+    let r = table::fields(body, RECORD_SIZE * i);
+    let m = parts::count(out, n, r.low, r.high);
+    if r.kind == 3 {
+        out[m] = b'(';
+        let next = group(body, atoms, out, i + 1, m + 1, r.a as usize);
+        let z = next.at;
+        out[z] = b')';
+        return Next {
+            atom: next.atom,
+            at: z + 1,
+        };
+    }
+    if r.kind == 1 {
+        return Next {
+            atom: i + 1,
+            at: parts::letters(out, m, r.a),
+        };
+    }
+    let from = RECORD_SIZE * atoms + r.a as usize;
+    let to = from + r.b as usize;
+    Next {
+        atom: i + 1,
+        at: parts::literal(out, m, &body[from..to]),
+    }
+}
+
+// k branches from atom i on.
+fn group(body: &[u8], atoms: usize, out: &mut [u8], i: usize, n: usize, k: usize) -> Next
+    requires { ⌜ RoomFor k (now body) atoms (now out) i n ⌝ }
+    ensures { λ r. ⌜ Branched k (now (body .entry)) atoms (now (out .entry)) i n r (now (out .exit)) ⌝ }
+{
+    let next = pattern(body, atoms, out, i, n);
+    if k == 1 {
+        return next;
+    }
+    let m = next.at;
+    out[m] = b',';
+    group(body, atoms, out, next.atom, m + 1, k - 1)
+}

@@ -1,0 +1,36 @@
+-- A good tree stands in the records and the pool of a table. Assumes nothing.
+use mathlib.Core.Path.{_≡_}
+use mathlib.Core.Bool.{true}
+use Prim.Native.Nat.{ℕ, _+_, _*_, _≤_, _<_}
+use lib.ListN.{length}
+use Rattle.pattern.specs.Numbers.{record-size}
+use Rattle.pattern.specs.Bytes.{Bytes}
+use Rattle.pattern.specs.Syntax.{Sort, Syntax, last, then, repeat, codes, literal, group, only, or, size}
+use Rattle.pattern.specs.Within.{Good}
+use Rattle.pattern.specs.Table.{pool}
+use Rattle.pattern.specs.Decode.{Layout}
+use Rattle.pattern.proofs.Records.{Placed}
+use Rattle.table.specs.Checked.{plain}
+
+-- sets have a code, and literals plain bytes
+unfoldable pub Clean : {s : Sort} → Syntax s → Type 0
+Clean (last a) = Clean a
+Clean (then a p) = Clean a × Clean p
+Clean (repeat low high b) = Clean b
+Clean (codes set) = 0 < set
+Clean (literal value) = plain value ≡ true
+Clean (group bs) = Clean bs
+Clean (only p) = Clean p
+Clean (or p bs) = Clean p × Clean bs
+
+-- where the records of A atoms and the pool stand in bytes that begin with the records
+abbrev pub bare : ℕ → Layout
+bare A = record { records = 0; pool = record-size * A }
+
+-- the tree stands at atom i with p bytes of the pool before it, inside d groups, and ends within the records and the bytes; e is for an atom alone
+pub record Set (s : Bytes) (A : ℕ) {o : Sort} (e : ℕ) (t : Syntax o) (i p d : ℕ) : Type 0 where
+  pub placed : Placed s (bare A) e t i p
+  pub good : Good d t
+  pub clean : Clean t
+  pub within : i + size t ≤ A
+  pub pooled : record-size * A + p + length (pool t) ≤ length s

@@ -1,0 +1,137 @@
+//! Compares libmpt.a with the second program, call by call.
+//!
+//! compare [COUNT] [--quick] [--seed N] [--dearest TRIALS] [--margin BYTES] [--lines] [--generated]
+//! compare --replay LINE
+
+mod call;
+mod generate;
+mod random;
+
+use call::{compare, Call, Case};
+use random::Random;
+use std::collections::BTreeMap;
+use std::process::exit;
+
+struct Options {
+    count: u64,
+    seed: u64,
+    /// The most trials of one match.
+    dearest: u64,
+    /// Bytes kept on both sides of every lent slice; 0 for a run under valgrind.
+    margin: usize,
+    /// The longest source of the list of all short ones; none leaves the fixed lists out.
+    short: Option<usize>,
+    /// Print each call before it is made.
+    lines: bool,
+}
+
+fn options() -> Options {
+    let mut options = Options {
+        count: 1_000_000,
+        seed: 1,
+        dearest: 40_000_000,
+        margin: 64,
+        short: Some(5),
+        lines: false,
+    };
+    let mut words = std::env::args().skip(1);
+    while let Some(word) = words.next() {
+        let mut number = || -> u64 {
+            let value = words.next().and_then(|value| value.parse().ok());
+            value.unwrap_or_else(|| fail(&format!("{word} takes a number")))
+        };
+        match word.as_str() {
+            "--quick" => {
+                (options.count, options.dearest, options.short) = (100_000, 2_000_000, Some(4))
+            }
+            "--seed" => options.seed = number(),
+            "--dearest" => options.dearest = number(),
+            "--margin" => options.margin = number() as usize,
+            "--lines" => options.lines = true,
+            "--generated" => options.short = None,
+            "--replay" => replay(&words.collect::<Vec<_>>().join(" ")),
+            _ => {
+                options.count = word
+                    .parse()
+                    .unwrap_or_else(|_| fail(&format!("{word} isn't known")))
+            }
+        }
+    }
+    options
+}
+
+fn fail(message: &str) -> ! {
+    eprintln!("{message}");
+    exit(2)
+}
+
+fn replay(line: &str) -> ! {
+    let case = Case::parse(line).unwrap_or_else(|| fail("not a line of a call"));
+    match compare(&case, 64) {
+        Ok((number, result)) => println!("same: number {number}, result {result}"),
+        Err(difference) => {
+            println!("{difference}");
+            exit(1)
+        }
+    }
+    exit(0)
+}
+
+/// How often each kind of call gave each number; a match without refusal counts by its verdict.
+#[derive(Default)]
+struct Tally(BTreeMap<(&'static str, u32), u64>);
+
+impl Tally {
+    fn make(&mut self, case: &Case, options: &Options) {
+        if options.lines {
+            println!("{case}");
+        }
+        match compare(case, options.margin) {
+            Ok((number, result)) => {
+                let kind = match case.call {
+                    Call::Compile { .. } => "compile",
+                    Call::WriteBack { .. } => "write back",
+                    Call::Match { .. } if number > 0 => "match refused",
+                    Call::Match { .. } if result == 1 => "match yes",
+                    Call::Match { .. } => "match no",
+                };
+                *self.0.entry((kind, number)).or_default() += 1;
+            }
+            Err(difference) => {
+                println!("difference: {difference}\n{case}");
+                exit(1)
+            }
+        }
+    }
+
+    fn print(&self) {
+        for kind in [
+            "compile",
+            "write back",
+            "match yes",
+            "match no",
+            "match refused",
+        ] {
+            let counts = self.0.iter().filter(|((of, _), _)| *of == kind);
+            let text: Vec<String> = counts
+                .map(|((_, number), count)| format!("{number}: {count}"))
+                .collect();
+            println!("{kind}: {}", text.join(", "));
+        }
+        println!("{} calls, no difference", self.0.values().sum::<u64>());
+    }
+}
+
+fn main() {
+    let options = options();
+    let mut tally = Tally::default();
+    for case in options.short.map_or(Vec::new(), generate::fixed) {
+        tally.make(&case, &options);
+    }
+    for index in 0..options.count {
+        let mut random = Random::new(options.seed << 40 ^ index << 2);
+        let case = generate::case(&mut random, options.dearest);
+        tally.make(&case, &options);
+    }
+    tally.print();
+}

@@ -1,0 +1,107 @@
+//! The C functions of libmpt.a, called on slices.
+
+extern "C" {
+    fn mpt_compile(
+        source: *const u8,
+        source_len: usize,
+        table: *mut u8,
+        table_len: usize,
+        answer: *mut u8,
+        answer_len: usize,
+    ) -> u32;
+    fn mpt_write_back(
+        table: *const u8,
+        table_len: usize,
+        source: *mut u8,
+        source_len: usize,
+        answer: *mut u8,
+        answer_len: usize,
+    ) -> u32;
+    fn mpt_match(
+        table: *const u8,
+        table_len: usize,
+        label: *const u8,
+        label_len: usize,
+        scratch: *mut u8,
+        scratch_len: usize,
+        parts: *mut u8,
+        parts_len: usize,
+        budget: u64,
+        answer: *mut u8,
+        answer_len: usize,
+    ) -> u32;
+}
+
+/// An empty slice is lent as null, as C callers do.
+fn start(bytes: &[u8]) -> *const u8 {
+    if bytes.is_empty() {
+        std::ptr::null()
+    } else {
+        bytes.as_ptr()
+    }
+}
+
+fn start_mut(bytes: &mut [u8]) -> *mut u8 {
+    if bytes.is_empty() {
+        std::ptr::null_mut()
+    } else {
+        bytes.as_mut_ptr()
+    }
+}
+
+/// Compiles through C; gives the refusal number.
+pub fn compile(source: &[u8], table: &mut [u8], answer: &mut [u8]) -> u32 {
+    let (table_len, answer_len) = (table.len(), answer.len());
+    unsafe {
+        mpt_compile(
+            start(source),
+            source.len(),
+            start_mut(table),
+            table_len,
+            start_mut(answer),
+            answer_len,
+        )
+    }
+}
+
+/// Writes back through C; gives the refusal number.
+pub fn write_back(table: &[u8], source: &mut [u8], answer: &mut [u8]) -> u32 {
+    let (source_len, answer_len) = (source.len(), answer.len());
+    unsafe {
+        mpt_write_back(
+            start(table),
+            table.len(),
+            start_mut(source),
+            source_len,
+            start_mut(answer),
+            answer_len,
+        )
+    }
+}
+
+/// Matches through C; gives the refusal number.
+pub fn match_label(
+    table: &[u8],
+    label: &[u8],
+    scratch: &mut [u8],
+    parts: &mut [u8],
+    budget: u64,
+    answer: &mut [u8],
+) -> u32 {
+    let (scratch_len, parts_len, answer_len) = (scratch.len(), parts.len(), answer.len());
+    unsafe {
+        mpt_match(
+            start(table),
+            table.len(),
+            start(label),
+            label.len(),
+            start_mut(scratch),
+            scratch_len,
+            start_mut(parts),
+            parts_len,
+            budget,
+            start_mut(answer),
+            answer_len,
+        )
+    }
+}

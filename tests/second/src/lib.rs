@@ -1,0 +1,44 @@
+//! The second program: M patterns compiled, written back and matched,
+//! written from the papers alone to be compared with the main one.
+
+mod matching;
+mod source;
+mod table;
+
+pub use matching::{match_label, Matched};
+pub use source::compile;
+pub use table::{good, write_back};
+
+/// A refusal by its number and position, as the table of refusals gives them.
+#[derive(Clone, Copy, Debug, PartialEq, Eq)]
+pub struct Refusal {
+    pub number: u32,
+    pub position: usize,
+}
+
+pub const LONG: u32 = 1;
+pub const FORM: u32 = 2;
+pub const CODE: u32 = 3;
+pub const NUMBER: u32 = 4;
+pub const RANGE: u32 = 5;
+pub const ATOMS: u32 = 6;
+pub const DEPTH: u32 = 7;
+pub const ROOM: u32 = 8;
+pub const ANSWER: u32 = 9;
+pub const TABLE: u32 = 11;
+pub const LABEL: u32 = 12;
+pub const WORK: u32 = 13;
+pub const PARTS: u32 = 14;
+pub const BUDGET: u32 = 15;
+
+pub const SOURCE_MOST: usize = 512;
+pub const ATOMS_MOST: usize = 64;
+pub const DEPTH_MOST: usize = 8;
+pub const NUMBER_MOST: u32 = 9_999;
+pub const LABEL_MOST: usize = 255;
+
+/// The code letters in the order of their bits.
+const CODES: &[u8; 7] = b"ACELNPU";
+
+/// The second repeat number that stands for no upper end.
+const OPEN: u16 = 65_535;

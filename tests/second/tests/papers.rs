@@ -1,0 +1,254 @@
+//! The examples of the papers.
+
+use second::*;
+
+fn table(source: &[u8]) -> Vec<u8> {
+    compile(source, usize::MAX).unwrap()
+}
+
+fn refusal(source: &[u8]) -> (u32, usize) {
+    let refusal = compile(source, usize::MAX).unwrap_err();
+    (refusal.number, refusal.position)
+}
+
+fn ends(parts: &[u8]) -> Vec<u16> {
+    parts
+        .chunks(2)
+        .map(|pair| u16::from_le_bytes([pair[0], pair[1]]))
+        .collect()
+}
+
+/// The parts for yes, None for no.
+fn parts(source: &[u8], label: &[u8]) -> Option<Vec<u16>> {
+    let matched = match_label(&table(source), label, usize::MAX, usize::MAX, u64::MAX);
+    assert_eq!((matched.number, matched.position), (0, 0));
+    assert_eq!(matched.verdict, matched.parts.is_some());
+    matched.parts.map(|parts| ends(&parts))
+}
+
+fn trials(source: &[u8], label: &[u8]) -> u64 {
+    match_label(&table(source), label, usize::MAX, usize::MAX, u64::MAX).trials
+}
+
+#[test]
+fn proved_examples() {
+    let yes = |ends: &[u16]| Some(ends.to_vec());
+    assert_eq!(parts(b"3N1\".\"2N.U", b"123.45"), yes(&[3, 4, 6, 6]));
+    assert_eq!(parts(b"3N1\".\"2N.U", b"123.45a"), None);
+    assert_eq!(parts(b"1.6N1.2N", b"1234567"), yes(&[6, 7]));
+    assert_eq!(parts(b".N.N", b"12"), yes(&[2, 2]));
+    assert_eq!(parts(b"2(1N,1A)", b"a1"), yes(&[2]));
+    assert_eq!(parts(b"9000(.N)", b"12"), yes(&[2]));
+    assert_eq!(parts(b"300\"\"", b""), yes(&[0]));
+    assert_eq!(parts(b"300N", b"12"), None);
+    assert_eq!(parts(b"1N", b"7"), yes(&[1]));
+    assert_eq!(parts(b"1N", b"x"), None);
+    assert_eq!(parts(b"1N1A", b""), None);
+    assert_eq!(parts(b"0N", b""), yes(&[0]));
+    assert_eq!(parts(b"1E", &[200]), None);
+    assert_eq!(parts(b"1\"a\"\"b\"", b"a\"b"), yes(&[3]));
+    assert_eq!(trials(b"300\"\"", b""), 0);
+    assert_eq!(trials(b"1N", b"7"), 3);
+    assert_eq!(trials(b"1N", b"x"), 4);
+    assert_eq!(trials(b"1N1A", b""), 1);
+    assert_eq!(trials(b"0N", b""), 0);
+}
+
+#[test]
+fn budgets() {
+    let at =
+        |source: &[u8], label: &[u8], budget| match_label(&table(source), label, 999, 99, budget);
+    assert_eq!(at(b"300\"\"", b"", 0).number, 0);
+    assert_eq!(at(b"1N", b"7", 3).number, 0);
+    let refused = Matched {
+        number: 15,
+        position: 0,
+        verdict: false,
+        trials: 2,
+        parts: None,
+        clears: 24,
+    };
+    assert_eq!(at(b"1N", b"7", 2), refused);
+}
+
+#[test]
+fn examples_of_refusals() {
+    assert_eq!(refusal(b""), (FORM, 0));
+    assert_eq!(refusal(b"2N,"), (FORM, 2));
+    assert_eq!(refusal(b"1()"), (FORM, 2));
+    assert_eq!(refusal(b"1(2N"), (FORM, 4));
+    assert_eq!(refusal(b"5.3"), (RANGE, 0));
+    assert_eq!(refusal(b"5.."), (FORM, 2));
+    assert_eq!(refusal(b"3Q"), (CODE, 1));
+    assert_eq!(refusal(b"3.10000N"), (NUMBER, 2));
+    assert!(compile(b"9999N", 18).is_ok());
+}
+
+#[test]
+fn order_of_refusals() {
+    assert_eq!(refusal(&[b'N'; 513]), (LONG, 512));
+    assert_eq!(refusal(b"1.10000Q,"), (NUMBER, 2));
+    assert_eq!(refusal(b"10000.3Q"), (NUMBER, 0));
+    assert_eq!(refusal(b"1Q10000N"), (CODE, 1));
+    assert_eq!(refusal(b"1N\""), (FORM, 2));
+    assert_eq!(refusal(b"1\"\x1f"), (FORM, 2));
+    assert_eq!(refusal(b"1\"a\"\""), (FORM, 5));
+    let atoms = |count| b"1N".repeat(count);
+    assert!(compile(&atoms(64), usize::MAX).is_ok());
+    assert_eq!(refusal(&atoms(65)), (ATOMS, 128));
+    assert_eq!(
+        refusal(&[atoms(64), b"5.3N".to_vec()].concat()),
+        (RANGE, 128)
+    );
+    assert_eq!(
+        refusal(&[atoms(64), b".10000N".to_vec()].concat()),
+        (ATOMS, 128)
+    );
+    assert_eq!(refusal(&[atoms(64), b",".to_vec()].concat()), (FORM, 128));
+    let nested = |depth| [b"1(".repeat(depth), b"1N".to_vec(), b")".repeat(depth)].concat();
+    assert!(compile(&nested(8), usize::MAX).is_ok());
+    assert_eq!(refusal(&nested(9)), (DEPTH, 17));
+    assert_eq!(
+        compile(b"2N", 17),
+        Err(Refusal {
+            number: ROOM,
+            position: 2
+        })
+    );
+}
+
+#[test]
+fn bytes_of_tables() {
+    let two_digits = [
+        0x4D, 0x50, 0x54, 0x01, 0x00, 0x01, 0x00, 0x00, 0x01, 0x01, 0x02, 0x00, 0x02, 0x00, 0x10,
+        0x00, 0x00, 0x00,
+    ];
+    assert_eq!(table(b"2N"), two_digits);
+    assert_eq!(table(b"002n"), two_digits);
+    let grouped = table(b".(1\"a\"\"\",2.UA)3.\"\"");
+    let records: [u8; 40] = [
+        3, 0, 0, 0, 255, 255, 2, 0, 3, 0, //
+        2, 1, 1, 0, 1, 0, 0, 0, 2, 0, //
+        1, 1, 2, 0, 255, 255, 65, 0, 0, 0, //
+        2, 1, 3, 0, 255, 255, 2, 0, 0, 0,
+    ];
+    assert_eq!(
+        grouped,
+        [&b"MPT\x01\x00\x04\x02\x00"[..], &records, b"a\""].concat()
+    );
+}
+
+#[test]
+fn written_back() {
+    let back = |source: &[u8]| String::from_utf8(write_back(&table(source), 512).unwrap()).unwrap();
+    assert_eq!(back(b"002n"), "2N");
+    assert_eq!(back(b"0.0nNa"), "0AN");
+    assert_eq!(back(b"0.7upnleca"), ".7ACELNPU");
+    assert_eq!(
+        back(b".(1\"a\"\"\",02.04UA.(.(0.N,.A)1N))3.\"\""),
+        ".(1\"a\"\"\",2.4AU.(.(.N,.A)1N))3.\"\""
+    );
+    assert_eq!(
+        write_back(&table(b"2N"), 1),
+        Err(Refusal {
+            number: ROOM,
+            position: 0
+        })
+    );
+    assert_eq!(
+        write_back(b"MPT", 9),
+        Err(Refusal {
+            number: TABLE,
+            position: 0
+        })
+    );
+}
+
+#[test]
+fn damaged_tables() {
+    // Other repeat numbers, codes and literal bytes are another good table, not a fault.
+    let table = table(b"2N");
+    assert!(good(&table));
+    for at in 0..table.len() {
+        for byte in 0..=255 {
+            let mut damaged = table.clone();
+            damaged[at] = byte;
+            let number = |at: usize| u16::from_le_bytes([damaged[at], damaged[at + 1]]);
+            let (low, high) = (number(10), number(12));
+            let fits = low <= 9_999 && low <= high && (high <= 9_999 || high == 65_535);
+            let expected = match at {
+                10..=13 => fits,
+                14 => (1..128).contains(&byte),
+                _ => byte == table[at],
+            };
+            assert_eq!(good(&damaged), expected, "byte {at} is {byte}");
+        }
+    }
+    for length in 0..table.len() {
+        assert!(!good(&table[..length]));
+    }
+    assert!(!good(&[&table[..], &[0]].concat()));
+    // Four literals of 63 quotes print to 516 bytes, more than any source may have.
+    let long = [b"1\"".to_vec(), b"\"\"".repeat(63), b"\"".to_vec()].concat();
+    assert_eq!(long.len(), 129);
+    let mut over = compile(&long.repeat(3), 999).unwrap();
+    assert!(good(&over));
+    over[5] = 4;
+    over[6] = 252;
+    over[29] = 0;
+    let last = over.len() - 189;
+    over.splice(last..last, [2, 1, 1, 0, 1, 0, 189, 0, 63, 0]);
+    over.extend([b'"'; 63]);
+    assert!(!good(&over));
+}
+
+#[test]
+fn refusals_of_matching() {
+    let table = table(b"1N1N");
+    let number = |table: &[u8], label: &[u8], scratch, parts, budget| {
+        match_label(table, label, scratch, parts, budget).number
+    };
+    assert_eq!(number(b"MPT", &[b'1'; 256], 0, 0, 0), TABLE);
+    assert_eq!(number(&table, &[b'1'; 256], 0, 0, 0), LABEL);
+    assert_eq!(number(&table, b"12", 71, 0, 0), WORK);
+    assert_eq!(number(&table, b"12", 72, 3, 0), PARTS);
+    assert_eq!(number(&table, b"12", 72, 4, 0), BUDGET);
+    assert_eq!(number(&table, b"12", 72, 4, 999), 0);
+}
+
+#[test]
+fn easy_errors() {
+    assert_eq!(parts(b".N1N", b"12"), Some(vec![1, 2]));
+    assert_eq!(parts(b".5N", b"12"), Some(vec![2]));
+    assert_eq!(parts(b".5N", b"123456"), None);
+    assert_eq!(parts(b".(.N,1A)", b"a"), Some(vec![1]));
+    assert_eq!(parts(b".(.N)", b"12"), Some(vec![2]));
+    assert_eq!(parts(b"9000.(.N)1A", b"a"), Some(vec![0, 1]));
+    assert_eq!(parts(b"3.9999(2N)", b"1234"), None);
+    assert_eq!(
+        parts(b"2N1\"-\"1(3N1\"-\"1N,1N1\":\"4N)", b"12-3:4567"),
+        Some(vec![2, 3, 9])
+    );
+    assert_eq!(parts(b"2N1(3P2A,2P3A).E", b"12!!abc"), Some(vec![2, 7, 7]));
+}
+
+#[test]
+fn classes_of_codes() {
+    let in_class = |code: &str, byte| parts(format!("1{code}").as_bytes(), &[byte]).is_some();
+    for byte in 0..=255u8 {
+        assert_eq!(in_class("A", byte), byte.is_ascii_alphabetic());
+        assert_eq!(in_class("C", byte), byte.is_ascii_control());
+        assert_eq!(in_class("E", byte), byte.is_ascii());
+        assert_eq!(in_class("L", byte), byte.is_ascii_lowercase());
+        assert_eq!(in_class("N", byte), byte.is_ascii_digit());
+        assert_eq!(
+            in_class("P", byte),
+            byte.is_ascii_punctuation() || byte == b' '
+        );
+        assert_eq!(in_class("U", byte), byte.is_ascii_uppercase());
+        assert_eq!(
+            in_class("nU", byte),
+            byte.is_ascii_digit() || byte.is_ascii_uppercase()
+        );
+    }
+}
