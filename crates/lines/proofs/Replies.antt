@@ -10,7 +10,7 @@ use borrow.Author.Tests.{ne-eqb, lt-ltb, le-ltb}
 use Rattle.pattern.specs.Bytes.{Bytes, bytes}
 use Rattle.pattern.specs.Answers.{Answer, refusal, result, Output, compileOf, Matched, matchOf}
 use Rattle.pattern.proofs.Tests.{if-true, if-false}
-use Rattle.pattern.proofs.Calls.{shown, scratch-blind}
+use Rattle.pattern.proofs.Calls.{shown, scratch-ignored}
 use Rattle.lines.specs.Sizes.{line-limit, scratch-size, budget, table-room, parts-room, unset, tab-byte}
 use Rattle.lines.specs.Text.{decimal, coded-text, refused-text, unmatched-text, matched-text}
 use Rattle.lines.specs.Reply.{first, cut-at, cut, verdict-text, match-text, label-reply, table-reply, source-reply, cut-reply, reply}
@@ -18,8 +18,8 @@ use Rattle.lines.specs.Stores.{Stored, Within}
 use Rattle.matcher.specs.declared.Matched as call
 use Rattle.matcher.specs.declared.Matched.the-variants as variant
 use Rattle.matcher.specs.Answered.{outcome-of}
-use Rattle.compiler.specs.declared.emit.Compiled as compiler
-use Rattle.compiler.specs.declared.emit.Compiled.the-variants as outcome
+use Rattle.compiler.specs.declared.Compiled as compiler
+use Rattle.compiler.specs.declared.Compiled.the-variants as outcome
 use Rattle.compiler.specs.Compiling.{answer-of}
 use Rattle.lines.proofs.Decimals.{decimal-short}
 use Rattle.lines.proofs.Refusals.{compile-fits, compile-refuses}
@@ -60,7 +60,7 @@ pub label-replied : (table label scratch : Bytes) → length scratch ≡ scratch
 unfolding label-reply
 label-replied table label scratch h m e =
     ap match-text e ∙ shows (matchOf table label scratch (replicate parts-room unset) budget)
-    ∙ ap shown-text (scratch-blind table label scratch (replicate scratch-size 0) (replicate parts-room unset) budget (h ∙ sym (length-replicate {A = ℕ} scratch-size 0)))
+    ∙ ap shown-text (scratch-ignored table label scratch (replicate scratch-size 0) (replicate parts-room unset) budget (h ∙ sym (length-replicate {A = ℕ} scratch-size 0)))
     ∙ sym (shows (matchOf table label (replicate scratch-size 0) (replicate parts-room unset) budget))
 
 -- the four answers

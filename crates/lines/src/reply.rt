@@ -8,7 +8,7 @@ ghost use Rattle.lines.specs.Reply.{label-reply, source-reply, reply};
 ghost use Rattle.lines.specs.Stores.{Within};
 use crate::line::tab_at;
 use crate::text;
-use compiler::emit::Compiled;
+use compiler::Compiled;
 use matcher::Matched;
 
 // "lines of at most 1,024 bytes, newline not counted"
