@@ -34,11 +34,11 @@ module _ (table label scratch parts : Bytes) (t : Syntax pattern) (good : decode
     pub call-bound : trial-bound (size t) (length label) ≤ budget → outcome-of budget r scratch′ parts′ ≡ judged (verdict label t) t label scratch parts
     call-bound h = call ∙ bound-enough table label scratch parts t good lent budget h
 
-    -- the call never makes more trials than the bound
-    pub count-bound : trials label t ≤ trial-bound (size t) (length label)
-    count-bound = bound label t
-
   -- "Every other budget that the count is within gives the same verdict, the same parts written and the same number reported"
   pub calls-agree : (b c : ℕ) (r q : Matched) (s p s′ p′ : Bytes) → Promised table label scratch parts b r s p → Promised table label scratch parts c q s′ p′
       → trials label t ≤ b → trials label t ≤ c → outcome-of b r s p ≡ outcome-of c q s′ p′
   calls-agree b c r q s p s′ p′ x y h k = x ∙ budgets-agree table label scratch parts t good lent b c h k ∙ sym y
+
+-- "the match makes at most A x (n+1) x (n+1) x (n+2) x (n+3) / 6 trials": the count that a verdict reports is within the bound
+pub count-bound : (label : Bytes) (t : Syntax pattern) → trials label t ≤ trial-bound (size t) (length label)
+count-bound label t = bound label t

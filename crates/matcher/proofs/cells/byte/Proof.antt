@@ -1,5 +1,4 @@
--- `matcher::cells::byte` meets its contract: the index is a cell's of a plane in the list.
--- Assumes nothing.
+-- `matcher::cells::byte` meets its contract: the index is a cell's of a plane in the list. Assumes nothing.
 use mathlib.Core.Path.{ap}
 use Prim.Native.Nat.{ℕ}
 use native.Mathlib.Omega.{arith}

@@ -1,5 +1,4 @@
--- `matcher::cells::mark` meets its contract: the index is a cell's of a plane in the list.
--- Assumes nothing.
+-- `matcher::cells::mark` meets its contract: the index is a cell's of a plane in the list. Assumes nothing.
 use native.Mathlib.Omega.{arith}
 use borrow.Author.Needs.{needs}
 use Rattle.matcher.proofs.Planes.{at-in}

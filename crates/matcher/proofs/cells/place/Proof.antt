@@ -1,5 +1,4 @@
--- `matcher::cells::place` meets its contract: the index is below the end of its plane, and each number on the way to it is no more than the index.
--- Assumes nothing.
+-- `matcher::cells::place` meets its contract: the index is below the end of its plane, and each number on the way to it is no more than the index. Assumes nothing.
 use Prim.Native.Nat.{_+_, _*_, _≤_, _<_}
 use native.Mathlib.Omega.{arith}
 use borrow.Author.Needs.{needs}

@@ -1,5 +1,4 @@
--- `matcher::clear::clear` meets its contract. The invariant of its loop: the first k bytes are 0 and the rest are as they were.
--- Assumes nothing.
+-- `matcher::clear::clear` meets its contract. The invariant of its loop: the first k bytes are 0 and the rest are as they were. Assumes nothing.
 use mathlib.Core.Path.{_≡_, refl, ap, _∙_}
 use mathlib.Core.List.{List, _++_}
 use Prim.Native.Nat.{ℕ, _-_, _≤_}

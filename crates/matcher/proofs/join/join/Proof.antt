@@ -1,5 +1,4 @@
--- `matcher::join::join` meets its contract. The invariant of its loop is `PlaneAt`, and the steps are laws of ``Joining``.
--- Assumes nothing.
+-- `matcher::join::join` meets its contract. The invariant of its loop is `PlaneAt`, and the steps are laws of ``Joining``. Assumes nothing.
 use mathlib.Core.Path.{_∙_}
 use Prim.Native.Nat.{_-_}
 use native.Mathlib.Omega.{arith}

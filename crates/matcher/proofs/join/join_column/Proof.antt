@@ -1,5 +1,4 @@
--- `matcher::join::join_column` meets its contract. The invariant of its loop is `ColumnAt`, and the steps are laws of ``Joining``.
--- Assumes nothing.
+-- `matcher::join::join_column` meets its contract. The invariant of its loop is `ColumnAt`, and the steps are laws of ``Joining``. Assumes nothing.
 use mathlib.Core.Path.{sym, _∙_}
 use Prim.Native.Nat.{suc, _-_}
 use native.Mathlib.Omega.{arith}
