@@ -21,10 +21,10 @@ use Rattle.compiler.specs.declared.cursor.Text.the-variants as texts
 use Rattle.compiler.specs.declared.body.Letters.the-variants as sets
 use Rattle.compiler.specs.declared.body.Literal.the-variants as literals
 use Rattle.compiler.specs.Places.{Onward, kind-at, LetterRead}
-use Rattle.compiler.specs.Buffers.{stored}
+use Rattle.pattern.specs.Stores.{stored}
 use Rattle.compiler.specs.Bodies.{Passes, Refuses, in-codes, in-literal, TextRead, CodesRead, LiteralRead}
 use Rattle.compiler.proofs.Steps.{onward, faulty}
-use Rattle.compiler.proofs.Puts.{stored-none, stored-more}
+use Rattle.pattern.proofs.Stores.{stored-none, stored-more}
 
 module _ (s : Bytes) (i : ℕ) (w : i < length s) (e : kind-at s i ≡ starts letter) where
   codes-next : (set : ℕ) → bit (getD s i 0) < set-limit → Passes s (in-codes set) i (in-codes (bitOr set (bit (getD s i 0)))) (suc i)

@@ -21,10 +21,10 @@ use Rattle.compiler.specs.declared.reader.State.{State}
 use Rattle.compiler.specs.declared.reader.Parsed.{Parsed}
 use Rattle.compiler.specs.declared.reader.Parsed.the-variants as parsed
 use Rattle.compiler.specs.Scans.{scanned}
-use Rattle.compiler.specs.Buffers.{stored}
+use Rattle.pattern.specs.Stores.{stored}
 use Rattle.compiler.specs.Readers.{Refused, PatternIs, PatternRead}
 use Rattle.compiler.specs.Compiling.{Emits, emitted}
-use Rattle.compiler.proofs.Puts.{stored-then, stored-more}
+use Rattle.pattern.proofs.Stores.{stored-then, stored-more}
 use Rattle.compiler.proofs.Descent.{whole-form, whole-accepted}
 use Rattle.compiler.proofs.Written.{flat-over}
 use Rattle.compiler.proofs.Leaves.{state}

@@ -17,7 +17,8 @@ use Rattle.compiler.specs.declared.body.Literal.the-variants as literals
 use Rattle.compiler.specs.declared.reader.State.{State}
 use Rattle.compiler.specs.declared.reader.Parsed.the-variants as parsed
 use Rattle.compiler.specs.Places.{flag}
-use Rattle.compiler.specs.Buffers.{stored, rec-of}
+use Rattle.pattern.specs.Stores.{stored}
+use Rattle.compiler.specs.Records.{rec-of}
 use Rattle.compiler.specs.Bodies.{CodesRead, LiteralIs, LiteralRead}
 use Rattle.compiler.specs.Readers.{Settled, LeafRead, CodedRead, WordedRead}
 

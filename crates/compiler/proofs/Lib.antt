@@ -2,7 +2,7 @@ pub mod Places
 pub mod Pass
 pub mod Steps
 pub mod Texts
-pub mod Puts
+pub mod Records
 pub mod Bodies
 pub mod Numbers
 pub mod Runs

@@ -30,12 +30,13 @@ use Rattle.compiler.specs.declared.reader.Grouped.{Grouped}
 use Rattle.compiler.specs.declared.reader.Grouped.the-variants as grouped
 use Rattle.compiler.specs.Places.{flag, kind-at, ByteIs, KindIs, ClassRead, SeparatorRead}
 use Rattle.compiler.specs.Scans.{scanned}
-use Rattle.compiler.specs.Buffers.{stored, rec-of}
+use Rattle.pattern.specs.Stores.{stored}
+use Rattle.compiler.specs.Records.{rec-of}
 use Rattle.compiler.specs.Bodies.{Inside, in-codes, in-literal}
 use Rattle.compiler.specs.Counts.{CountIs, CountRefused, CountRead}
 use Rattle.compiler.specs.Readers.{Ready, Settled, tail, LeafRead, CodedRead, WordedRead, Refused, AtomIs, AtomRead, PatternIs, PatternRead, GroupIs, GroupRefused, GroupRead}
 use Rattle.compiler.proofs.Leaves.{state}
-use Rattle.compiler.proofs.Puts.{stored-none}
+use Rattle.pattern.proofs.Stores.{stored-none}
 use Rattle.compiler.proofs.Descent.{codes-enter, literal-enter, group-enter, group-deep, body-form, atom-next, depth-next, flag-count, flag-one, closes, parts, branch-form}
 use Rattle.compiler.proofs.Written.{wrote-leaf, wrote-group, wrote-last, wrote-then, wrote-only, wrote-or}
 

@@ -13,9 +13,10 @@ use Rattle.pattern.specs.Table.{pool, choices, Rec, kind-field, a-field, b-fiel
 use Rattle.pattern.specs.Repeats.{repeat-of}
 use Rattle.pattern.specs.declared.repeat.Repeat.{Repeat}
 use Rattle.pattern.proofs.Records.{flat-append, length-flat, count-records}
-use Rattle.compiler.specs.Buffers.{stored, rec-of}
+use Rattle.pattern.specs.Stores.{stored}
+use Rattle.compiler.specs.Records.{rec-of}
 use Rattle.compiler.specs.Readers.{Wrote}
-use Rattle.compiler.proofs.Puts.{stored-then, stored-before}
+use Rattle.pattern.proofs.Stores.{stored-then, stored-before}
 
 -- records before other bytes
 pub flat-over : (xs : List Rec) (s : Bytes) → flat xs s ≡ flat xs [] ++ s

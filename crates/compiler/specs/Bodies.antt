@@ -19,7 +19,7 @@ use Rattle.compiler.specs.declared.body.Literal.{Literal}
 use Rattle.compiler.specs.declared.body.Literal.the-variants as literals
 use Rattle.compiler.specs.Places.{Onward, Kind-not}
 use Rattle.compiler.specs.Scans.{scanned}
-use Rattle.compiler.specs.Buffers.{stored}
+use Rattle.pattern.specs.Stores.{stored}
 
 -- a place in a body, after a count and inside groups
 abbrev pub Inside : Type 0

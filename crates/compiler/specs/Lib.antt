@@ -1,6 +1,6 @@
 pub mod Places
 pub mod Scans
-pub mod Buffers
+pub mod Records
 pub mod Bodies
 pub mod Counts
 pub mod Readers

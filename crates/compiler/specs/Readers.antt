@@ -20,7 +20,8 @@ use Rattle.compiler.specs.declared.reader.Grouped.{Grouped}
 use Rattle.compiler.specs.declared.reader.Grouped.the-variants as grouped
 use Rattle.compiler.specs.Places.{flag, Kind-not}
 use Rattle.compiler.specs.Scans.{scanned}
-use Rattle.compiler.specs.Buffers.{stored, rec-of}
+use Rattle.pattern.specs.Stores.{stored}
+use Rattle.compiler.specs.Records.{rec-of}
 use Rattle.compiler.specs.Bodies.{Inside, in-codes, in-literal, Refuses}
 
 -- where a reader may start, in d groups

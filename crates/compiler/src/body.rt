@@ -5,7 +5,6 @@ ghost use Rattle.compiler.specs.Bodies.{CodesRead, LiteralRead};
 use crate::cursor::Cursor;
 use crate::cursor::Letter;
 use crate::cursor::Text;
-use pattern::codes;
 
 // The bit of every letter other than the seven.
 const OTHER: u8 = 128;

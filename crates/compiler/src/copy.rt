@@ -5,7 +5,8 @@ ghost use Prim.Native.Nat.{_+_, _*_, _≤_};
 ghost use lib.ListN.{length, take};
 ghost use Rattle.pattern.specs.Bytes.{word};
 ghost use Rattle.pattern.specs.Table.{flat};
-ghost use Rattle.compiler.specs.Buffers.{stored, rec-of};
+ghost use Rattle.pattern.specs.Stores.{stored};
+ghost use Rattle.compiler.specs.Records.{rec-of};
 use pattern::limits;
 use pattern::repeat::Repeat;
 

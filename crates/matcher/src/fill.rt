@@ -36,7 +36,7 @@ fn is_one(label: &[u8], set: u16, i: usize, j: usize) -> bool
     ensures { λ r. ⌜ r ≡ one set (slice i j (now (label .entry))) ⌝ }
 {
     if j - i == 1 {
-        pattern::codes::in_set(set, label[i])
+        codes::in_set(set, label[i])
     } else {
         false
     }

@@ -1,4 +1,5 @@
 pub mod Tests
+pub mod Stores
 pub mod Stretch
 pub mod FewBodies
 pub mod Agree
@@ -18,6 +19,5 @@ pub mod Shortest
 pub mod Records
 pub mod RoundTrip
 pub mod Calls
-pub mod CodeRows
 pub mod Nodes
 pub mod LongestRuns

@@ -1,5 +1,6 @@
 pub mod Numbers
 pub mod Bytes
+pub mod Stores
 pub mod Codes
 pub mod Syntax
 pub mod Meaning
@@ -20,4 +21,3 @@ pub mod Examples
 pub mod Sources
 pub mod Classes
 pub mod Repeats
-pub mod Rows

@@ -13,7 +13,7 @@ use borrow.Author.Tests.{lt-ltb, le-ltb, eq-eqb, ne-eqb, eqb-true, eqb-false}
 use Rattle.pattern.specs.Numbers.{number-limit, zero-byte, point-byte, quote-byte, open-high}
 use Rattle.pattern.specs.Bytes.{Bytes}
 use Rattle.pattern.specs.Codes.{Code, all-codes}
-use Rattle.pattern.specs.Rows.{letter-at}
+use Rattle.codes.specs.Rows.{letter-at}
 use Rattle.pattern.specs.Within.{Small, Fits}
 use Rattle.pattern.specs.Print.{decimal-of, decimal, print-low, print-count, print-set, double}
 use Rattle.pattern.specs.Decode.{high-of}

@@ -62,7 +62,7 @@ pub fn letters(out: &mut [u8], n: usize, set: u16) -> usize
     let mut k: usize = 0;
     while k < 7 {
         if left % 2 == 1 {
-            out[m] = pattern::codes::letter(k);
+            out[m] = codes::letter(k);
             m += 1;
         }
         left /= 2;

@@ -4,7 +4,7 @@ use Prim.Native.Nat.{_-_}
 use native.Mathlib.Omega.{arith}
 use lib.ListN.{length}
 use Rattle.compiler.proofs.Bodies.{Quoting, quoting-start, quoting-past, quoting-more, quoting-ends, quoting-broken}
-use Rattle.compiler.proofs.Puts.{length-stored}
+use Rattle.pattern.proofs.Stores.{length-stored}
 use borrow.Author.Needs.{needs}
 use Rattle.compiler.proofs.body.quoted.Statement.{statement}
 use Rattle.compiler.proofs.body.quoted.Tie as tie

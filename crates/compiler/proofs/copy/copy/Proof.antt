@@ -3,8 +3,8 @@ use mathlib.Core.Path.{_≡_, sym, ap, _∙_}
 use Prim.Native.Nat.{_≤_, _-_, _+_}
 use native.Mathlib.Omega.{arith}
 use lib.ListN.{length, take, set, getD}
-use Rattle.compiler.specs.Buffers.{stored}
-use Rattle.compiler.proofs.Puts.{length-stored, stored-none, copied}
+use Rattle.pattern.specs.Stores.{stored}
+use Rattle.pattern.proofs.Stores.{length-stored, stored-none, copied}
 use Rattle.compiler.proofs.copy.copy.Statement.{statement}
 use Rattle.compiler.proofs.copy.copy.Tie as tie
 

@@ -2,7 +2,7 @@
 use mathlib.Core.Path.{sym}
 use native.Mathlib.Omega.{arith}
 use lib.ListN.{length-set}
-use Rattle.compiler.proofs.Puts.{stored-two}
+use Rattle.compiler.proofs.Records.{stored-two}
 use borrow.Author.Needs.{needs}
 use Rattle.compiler.proofs.copy.put16.Statement.{statement}
 use Rattle.compiler.proofs.copy.put16.Tie as tie

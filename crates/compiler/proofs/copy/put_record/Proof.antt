@@ -2,7 +2,7 @@
 use mathlib.Core.Path.{_∙_}
 use native.Mathlib.Omega.{arith}
 use lib.ListN.{length-set}
-use Rattle.compiler.proofs.Puts.{record-puts}
+use Rattle.compiler.proofs.Records.{record-puts}
 use borrow.Author.Needs.{needs}
 use Rattle.compiler.proofs.copy.put_record.Statement.{statement}
 use Rattle.compiler.proofs.copy.put_record.Tie as tie

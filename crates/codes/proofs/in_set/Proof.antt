@@ -5,10 +5,10 @@ use Prim.Native.Nat.{_-_, _≤_}
 use native.Mathlib.Numerals.{add-one}
 use native.Mathlib.Omega.{arith}
 use lib.ListN.{drop}
 use Rattle.pattern.specs.Codes.{all-codes, coded, in-set}
-use Rattle.pattern.proofs.CodeRows.{coded-here, coded-without, coded-other, coded-end}
-use Rattle.pattern.proofs.codes.in_set.Statement.{statement}
-use Rattle.pattern.proofs.codes.in_set.Tie as tie
+use Rattle.codes.proofs.CodeRows.{coded-here, coded-without, coded-other, coded-end}
+use Rattle.codes.proofs.in_set.Statement.{statement}
+use Rattle.codes.proofs.in_set.Tie as tie
 
 abbrev Inv-loop : tie.InvT-loop
 Inv-loop set b k₀ left₀ k left = (k ≤ 7) × (coded (drop k all-codes) left b ≡ in-set set b)

@@ -4,11 +4,10 @@ use mathlib.Core.List.{[], _∷_, _++_}
 use Prim.Native.Nat.{ℕ, suc, _+_, _≤_, _<_}
 use native.Mathlib.Omega.{arith}
 use native.Mathlib.Numerals.{add-one}
-use lib.ListN.{length, set, getD, take}
-use lib.Seq.{sets, length-sets, set-comm, take-suc, length-take-le}
-use Rattle.pattern.specs.Bytes.{Bytes, word}
-use Rattle.pattern.specs.Table.{Rec, flat}
-use Rattle.compiler.specs.Buffers.{stored}
+use lib.ListN.{length, set, getD, take, length-append}
+use lib.Seq.{sets, length-sets, sets-eq, set-comm, take-suc, length-take-le}
+use Rattle.pattern.specs.Bytes.{Bytes, over}
+use Rattle.pattern.specs.Stores.{stored, Puts}
 
 pub length-stored : (l : Bytes) (i : ℕ) (v : Bytes) → length (stored l i v) ≡ length l
 unfolding stored
@@ -22,9 +21,10 @@ pub stored-one : (l : Bytes) (i x : ℕ) → stored l i (x ∷ []) ≡ set l i x
 unfolding stored
 stored-one l i x = refl
 
-pub stored-two : (l : Bytes) (i x y : ℕ) → stored l i (x ∷ y ∷ []) ≡ set (set l i x) (i + 1) y
+-- a byte before others
+pub stored-first : (l : Bytes) (i x : ℕ) (v : Bytes) → stored l i (x ∷ v) ≡ stored (set l i x) (i + 1) v
 unfolding stored
-stored-two l i x y = rw add-one
+stored-first l i x v = rw add-one
 
 sets-sets : (l : Bytes) (i : ℕ) (v w : Bytes) → sets (sets l i v) (i + length v) w ≡ sets l i (v ++ w)
 sets-sets l i [] w = let e : i + 0 ≡ i = omega arith in rw e
@@ -54,23 +54,44 @@ stored-before l i j v w e = rw e (sets-before l i (i + length v) v w (omega arit
 pub stored-more : (l : Bytes) (i j x : ℕ) (v : Bytes) → j ≡ i + length v → set (stored l i v) j x ≡ stored l i (v ++ x ∷ [])
 stored-more l i j x v e = sym (stored-one (stored l i v) j x) ∙ stored-then l i j v (x ∷ []) e
 
--- the ten stores of a record
-pub record-puts : (l l₁ l₂ l₃ l₄ : Bytes) (at : ℕ) (r : Rec)
-    → l₁ ≡ stored (set (set l at (r .kind)) (at + 1) (r .ends)) (at + 2) (word (r .low) []) → l₂ ≡ stored l₁ (at + 4) (word (r .high) [])
-    → l₃ ≡ stored l₂ (at + 6) (word (r .a) []) → l₄ ≡ stored l₃ (at + 8) (word (r .b) []) → l₄ ≡ stored l at (flat (r ∷ []) [])
-unfolding flat
-record-puts l l₁ l₂ l₃ l₄ at r e₁ e₂ e₃ e₄ =
-    let h : Bytes = r .kind ∷ r .ends ∷ [] in
-    let x : Bytes = word (r .low) [] in
-    let y : Bytes = word (r .high) [] in
-    let z : Bytes = word (r .a) [] in
-    let t₁ : l₁ ≡ stored l at (h ++ x) = e₁ ∙ ap (λ (m : Bytes). stored m (at + 2) x) (sym (stored-two l at (r .kind) (r .ends))) ∙ stored-then l at (at + 2) h x refl in
-    let t₂ : l₂ ≡ stored l at (h ++ x ++ y) = e₂ ∙ ap (λ (m : Bytes). stored m (at + 4) y) t₁ ∙ stored-then l at (at + 4) (h ++ x) y refl in
-    let t₃ : l₃ ≡ stored l at (h ++ x ++ y ++ z) = e₃ ∙ ap (λ (m : Bytes). stored m (at + 6) z) t₂ ∙ stored-then l at (at + 6) (h ++ x ++ y) z refl in
-    e₄ ∙ ap (λ (m : Bytes). stored m (at + 8) (word (r .b) [])) t₃ ∙ stored-then l at (at + 8) (h ++ x ++ y ++ z) (word (r .b) []) refl
+-- what is stored from the start is over the bytes that were there
+pub stored-over : (l v : Bytes) → length v ≤ length l → stored l 0 v ≡ over v l
+unfolding stored over
+stored-over l v h = sets-eq v l 0 (omega arith) ∙ let e : 0 + length v ≡ length v = omega arith in rw e
 
 -- a byte copied after others
 pub copied : (to from : Bytes) (at i : ℕ) → i < length from → set (stored to at (take i from)) (at + i) (getD from i 0) ≡ stored to at (take (i + 1) from)
 copied to from at i h =
     let n : length (take i from) ≡ i = length-take-le i from (omega arith) in
     rw (add-one, take-suc from i 0) (stored-more to at (at + i) (getD from i 0) (take i from) (omega arith))
+
+-- ---- stores with the places after them
+
+pub puts-none : (l : Bytes) (n : ℕ) → Puts l n [] l n
+puts-none l n = record { bytes = sym (stored-none l n); next = omega arith }
+
+pub puts-byte : (l : Bytes) (n b : ℕ) → Puts l n (b ∷ []) (set l n b) (n + 1)
+puts-byte l n b = record { bytes = sym (stored-one l n b); next = refl }
+
+module _ {l : Bytes} {n : ℕ} {u l′ : Bytes} {m : ℕ} (h : Puts l n u l′ m) where
+  -- then more, where the first ended
+  pub puts-then : {v l″ : Bytes} {k : ℕ} → Puts l′ m v l″ k → Puts l n (u ++ v) l″ k
+  puts-then {v} g =
+      record {
+        bytes = g .bytes ∙ ap (λ (x : Bytes). stored x m v) (h .bytes) ∙ stored-then l n m u v (h .next);
+        next = omega (arith, g .next, h .next, length-append u v);
+      }
+
+  -- then a byte
+  pub puts-more : (b : ℕ) → Puts l n (u ++ b ∷ []) (set l′ m b) (m + 1)
+  puts-more b = puts-then (puts-byte l′ m b)
+
+  pub puts-length : length l′ ≡ length l
+  puts-length = ap length (h .bytes) ∙ length-stored l n u
+
+  -- the room that is left
+  pub puts-room : (v : Bytes) → n + length (u ++ v) ≤ length l → m + length v ≤ length l′
+  puts-room v r = omega (arith, r, length-append u v, h .next, puts-length)
+
+  pub puts-as : {v : Bytes} → u ≡ v → Puts l n v l′ m
+  puts-as e = record { bytes = h .bytes ∙ ap (stored l n) e; next = h .next ∙ ap (λ (x : Bytes). n + length x) e }

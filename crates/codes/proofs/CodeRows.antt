@@ -8,11 +8,11 @@ use native.Mathlib.Omega.{arith}
 use lib.Dec.{T, leb, leb→le, eqb}
 use borrow.Author.Tests.{eq-eqb, ne-eqb}
 use lib.ListN.{length, getD, take, drop}
 use Rattle.pattern.specs.Bytes.{Bytes, between}
 use Rattle.pattern.specs.Codes.{Code, all-codes, ranged, coded, bit-among}
-use Rattle.pattern.specs.declared.codes.Code.{Code as Row}
-use Rattle.pattern.specs.Rows.{letter-at, ranges-at, in-four}
+use Rattle.codes.specs.declared.Code.{Code as Row}
+use Rattle.codes.specs.Rows.{letter-at, ranges-at, in-four}
 use Rattle.pattern.proofs.Tests.{and-both, all, all-at}
 
 -- the test passes at each entry and its place, counted from i
 unfoldable pub every : {A : Type 0} → (ℕ → A → Bool) → ℕ → List A → Bool

@@ -2,9 +2,9 @@
 use mathlib.Core.Path.{_∙_}
 use native.Mathlib.Omega.{arith}
 use borrow.Author.Needs.{needs}
-use Rattle.pattern.proofs.CodeRows.{rows, row-ranges}
-use Rattle.pattern.proofs.codes.in_code.Statement.{statement}
-use Rattle.pattern.proofs.codes.in_code.Tie as tie
+use Rattle.codes.proofs.CodeRows.{rows, row-ranges}
+use Rattle.codes.proofs.in_code.Statement.{statement}
+use Rattle.codes.proofs.in_code.Tie as tie
 
 mul-code : tie.Need-mul-code
 mul-code c = search needs

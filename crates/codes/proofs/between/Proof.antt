@@ -1,8 +1,8 @@
 -- `codes::between` meets its contract. Assumes nothing.
 use borrow.Author.Tests.{le-leb, lt-leb}
 use Rattle.pattern.specs.Bytes.{between}
-use Rattle.pattern.proofs.codes.between.Statement.{statement}
-use Rattle.pattern.proofs.codes.between.Tie as tie
+use Rattle.codes.proofs.between.Statement.{statement}
+use Rattle.codes.proofs.between.Tie as tie
 
 returns : tie.Need-returns
 unfolding between

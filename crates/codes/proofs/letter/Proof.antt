@@ -4,12 +4,12 @@ use mathlib.Core.Path.{sym}
 use mathlib.Core.List.{map}
 use lib.Dec.{eqb, eqb→eq}
 use lib.ListN.{List·getD-eq-default}
 use Rattle.pattern.specs.Codes.{Code, all-codes}
-use Rattle.pattern.specs.declared.codes.Code.{Code as Row}
-use Rattle.pattern.specs.Rows.{letter-at}
-use Rattle.pattern.proofs.CodeRows.{every, rule-at, rows}
-use Rattle.pattern.proofs.codes.letter.Statement.{statement}
-use Rattle.pattern.proofs.codes.letter.Tie as tie
+use Rattle.codes.specs.declared.Code.{Code as Row}
+use Rattle.codes.specs.Rows.{letter-at}
+use Rattle.codes.proofs.CodeRows.{every, rule-at, rows}
+use Rattle.codes.proofs.letter.Statement.{statement}
+use Rattle.codes.proofs.letter.Tie as tie
 
 mul-result : tie.Need-mul-result
 mul-result c = search needs

@@ -1,8 +1,8 @@
 -- `codes::in_ranges` meets its contract. Assumes nothing.
 use mathlib.Core.Path.{sym, _∙_}
 use borrow.Author.Needs.{needs}
-use Rattle.pattern.proofs.codes.in_ranges.Statement.{statement}
-use Rattle.pattern.proofs.codes.in_ranges.Tie as tie
+use Rattle.codes.proofs.in_ranges.Statement.{statement}
+use Rattle.codes.proofs.in_ranges.Tie as tie
 
 array-read-between : tie.Need-array-read-between
 array-read-between c = search needs

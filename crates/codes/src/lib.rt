@@ -1,9 +1,9 @@
 // The code letters with their bytes: one table, which reading, classing and writing back share.
 ghost use mathlib.Core.Path.{_≡_};
 ghost use Prim.Native.Nat.{_<_};
 ghost use Rattle.pattern.specs.Bytes.{between};
 ghost use Rattle.pattern.specs.Codes.{ranged, in-set, bit};
-ghost use Rattle.pattern.specs.Rows.{letter-at, ranges-at, in-four};
+ghost use Rattle.codes.specs.Rows.{letter-at, ranges-at, in-four};
 
 // A capital letter, and four ranges of bytes, each its first and its last; a range from 1 to 0 is empty.
 struct Code {

@@ -6,10 +6,10 @@ use native.Mathlib.Nat.{pow-suc}
 use native.Mathlib.Omega.{arith}
 use borrow.Author.Needs.{needs}
 use lib.ListN.{drop}
 use Rattle.pattern.specs.Codes.{all-codes, bit-among, bit}
-use Rattle.pattern.proofs.CodeRows.{bit-capital, bit-small, bit-later, letter-small, power-small, bit-end}
-use Rattle.pattern.proofs.codes.bit.Statement.{statement}
-use Rattle.pattern.proofs.codes.bit.Tie as tie
+use Rattle.codes.proofs.CodeRows.{bit-capital, bit-small, bit-later, letter-small, power-small, bit-end}
+use Rattle.codes.proofs.bit.Statement.{statement}
+use Rattle.codes.proofs.bit.Tie as tie
 
 abbrev Inv-loop : tie.InvT-loop
 Inv-loop c k₀ b₀ k b = (k ≤ 7) × (b ≡ 2 ^ k) × (bit-among (drop k all-codes) b c ≡ bit c)
