@@ -5,8 +5,8 @@ use native.Mathlib.Omega.{arith}
 use lib.ListN.{length, set}
 use Rattle.pattern.specs.Bytes.{Bytes}
 use Rattle.lines.specs.Text.{decimal}
-use Rattle.lines.specs.Stores.{stored}
-use Rattle.lines.proofs.Stores.{stored-last, stored-first, stored-none}
+use Rattle.pattern.specs.Stores.{stored}
+use Rattle.pattern.proofs.Stores.{stored-last, stored-first, stored-none}
 use Rattle.lines.proofs.Decimals.{decimal-one, decimal-more, decimal-longer}
 
 module _ (out : Bytes) (at n : ℕ) where

@@ -10,9 +10,9 @@ use Rattle.pattern.specs.Bytes.{Bytes}
 use Rattle.pattern.proofs.Tests.{if-true, if-false}
 use Rattle.lines.specs.Sizes.{unset}
 use Rattle.lines.specs.Text.{decimal, ends-in, listed}
-use Rattle.lines.specs.Stores.{Stored}
+use Rattle.pattern.specs.Stores.{Puts}
 use Rattle.lines.proofs.Lines.{drop-one}
-use Rattle.lines.proofs.Stores.{stored-join}
+use Rattle.pattern.proofs.Stores.{puts-then}
 
 module _ (parts : Bytes) (i c : ℕ) where
   -- two bytes, and what is after them
@@ -42,7 +42,7 @@ listed-none parts i c h = listed-short c (drop i parts) (omega (arith, length-dr
 
 -- an end stored before the rest
 pub listed-join : (parts : Bytes) (i c : ℕ) → i + 1 < length parts → ¬ (getD parts (i + 1) 0 ≡ unset) → {l m n : Bytes} {e j k : ℕ}
-    → Stored (c ∷ decimal (getD parts i 0 + 256 * getD parts (i + 1) 0)) l e m j
-    → Stored (listed comma-byte (ends-in (drop (i + 2) parts))) m j n k
-    → Stored (listed c (ends-in (drop i parts))) l e n k
-listed-join parts i c h f a b = rw (listed-more parts i c h f) (stored-join a b)
+    → Puts l e (c ∷ decimal (getD parts i 0 + 256 * getD parts (i + 1) 0)) m j
+    → Puts m j (listed comma-byte (ends-in (drop (i + 2) parts))) n k
+    → Puts l e (listed c (ends-in (drop i parts))) n k
+listed-join parts i c h f a b = rw (listed-more parts i c h f) (puts-then a b)

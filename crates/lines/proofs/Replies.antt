@@ -14,7 +14,8 @@ use Rattle.pattern.proofs.Calls.{shown, scratch-ignored}
 use Rattle.lines.specs.Sizes.{line-limit, scratch-size, budget, table-room, parts-room, unset, tab-byte}
 use Rattle.lines.specs.Text.{decimal, coded-text, refused-text, unmatched-text, matched-text}
 use Rattle.lines.specs.Reply.{first, cut-at, cut, verdict-text, match-text, label-reply, table-reply, source-reply, cut-reply, reply}
-use Rattle.lines.specs.Stores.{Stored, Within}
+use Rattle.pattern.specs.Stores.{Puts}
+use Rattle.lines.specs.Stores.{Within}
 use Rattle.matcher.specs.declared.Matched as call
 use Rattle.matcher.specs.declared.Matched.the-variants as variant
 use Rattle.matcher.specs.Answered.{outcome-of}
@@ -28,8 +29,8 @@ use Rattle.lines.proofs.Refusals.{compile-fits, compile-refuses}
 pub within-same : {room : ℕ} {v w l m : Bytes} {i j : ℕ} → v ≡ w → Within room v l i m j → Within room w l i m j
 within-same {room} {v} {w} {l} {m} {i} {j} e s = rw e at s
 
-pub stored-within : {v l m : Bytes} {i j : ℕ} (room : ℕ) → length v ≤ room → Stored v l i m j → Within room v l i m j
-stored-within room h s = record { stores = s; short = omega (arith, s .ends) }
+pub stored-within : {v l m : Bytes} {i j : ℕ} (room : ℕ) → length v ≤ room → Puts l i v m j → Within room v l i m j
+stored-within room h s = record { stores = s; short = omega (arith, s .next) }
 
 -- in more room
 pub within-more : {room more : ℕ} {v l m : Bytes} {i j : ℕ} → room ≤ more → Within room v l i m j → Within more v l i m j

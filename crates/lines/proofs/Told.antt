@@ -12,7 +12,7 @@ use Rattle.pattern.specs.Bytes.{Bytes}
 use Rattle.lines.specs.Sizes.{newline-byte}
 use Rattle.lines.specs.Reply.{reply}
 use Rattle.lines.specs.Output.{last-line, replies, hold, taken, told, kept}
-use Rattle.lines.specs.Stores.{stored, Stored}
+use Rattle.pattern.specs.Stores.{stored, Puts}
 use Rattle.lines.specs.Held.{rest-if, Took}
 use Rattle.lines.specs.declared.line.Taken.{Taken}
 
@@ -60,11 +60,11 @@ module _ (held s line : Bytes) where
   kept-held e = ap kept-of e ∙ sym (kept-taken held s)
 
 -- the bytes up to where a text ends are those before it and the text
-pub take-stored : {v l m : Bytes} {i j : ℕ} → i + length v ≤ length l → Stored v l i m j → take j m ≡ take i l ++ v
+pub take-stored : {v l m : Bytes} {i j : ℕ} → i + length v ≤ length l → Puts l i v m j → take j m ≡ take i l ++ v
 unfolding stored
 take-stored {v} {l} {m} {i} {j} h s =
     let n : length (take i l) ≡ i = length-take-le i l (omega arith) in
-    ap (take j) (s .bytes ∙ sets-eq v l i h) ∙ take-at (take i l ++ v) (drop (i + length v) l) j (length-append (take i l) v ∙ ap (λ k. k + length v) n ∙ sym (s .ends))
+    ap (take j) (s .bytes ∙ sets-eq v l i h) ∙ take-at (take i l ++ v) (drop (i + length v) l) j (length-append (take i l) v ∙ ap (λ k. k + length v) n ∙ sym (s .next))
 
 -- the reply to a last line with bytes
 pub last-replied : (line : Bytes) → ¬ (length line ≡ 0) → reply line ++ newline-byte ∷ [] ≡ replies (last-line line)
@@ -99,7 +99,7 @@ module _ {chunk line after : Bytes} {from held : ℕ} {r : Taken} (t : Took chun
 
 -- the reply to a line that ended stands after what was told before
 pub turn-ended : (held s : Bytes) {line rest out out′ T : Bytes} {i j : ℕ} → (line, some rest) ≡ taken held s → take i out ++ told held s ≡ T
-    → Stored (reply line ++ newline-byte ∷ []) out i out′ j → i + length (reply line ++ newline-byte ∷ []) ≤ length out → take j out′ ++ told [] rest ≡ T
+    → Puts out i (reply line ++ newline-byte ∷ []) out′ j → i + length (reply line ++ newline-byte ∷ []) ≤ length out → take j out′ ++ told [] rest ≡ T
 turn-ended held s {line} {rest} {out} {out′} {T} {i} {j} e f d h =
     ap (λ v. v ++ told [] rest) (take-stored h d) ∙ append-assoc (take i out) (reply line ++ newline-byte ∷ []) (told [] rest)
     ∙ ap (λ v. take i out ++ v) (told-ended held s line rest e) ∙ f

@@ -4,7 +4,8 @@ ghost use mathlib.Core.List.{[], _∷_};
 ghost use Prim.Native.Nat.{_+_, _*_, _≤_, _<_};
 ghost use lib.ListN.{length};
 ghost use Rattle.lines.specs.Text.{decimal, coded-text, refused-text, unmatched-text, matched-text};
-ghost use Rattle.lines.specs.Stores.{Stored, Within};
+ghost use Rattle.pattern.specs.Stores.{Puts};
+ghost use Rattle.lines.specs.Stores.{Within};
 
 // What a byte of the lent parts holds where no end was written.
 pub const UNSET: u8 = 255;
@@ -25,7 +26,7 @@ fn digits(x: u64) -> usize
 // A number in decimal, its last digit first.
 pub fn put_number(x: u64, out: &mut [u8], at: usize) -> usize
     requires { ⌜ at + length (decimal x) ≤ length (now out) ⌝ }
-    ensures { λ r. ⌜ Stored (decimal x) (now (out .entry)) at (now (out .exit)) r ⌝ }
+    ensures { λ r. ⌜ Puts (now (out .entry)) at (decimal x) (now (out .exit)) r ⌝ }
 {
     let end = at + digits(x);
     let mut left = x;
@@ -42,7 +43,7 @@ pub fn put_number(x: u64, out: &mut [u8], at: usize) -> usize
 // One byte.
 pub fn put_byte(b: u8, out: &mut [u8], at: usize) -> usize
     requires { ⌜ at + 1 ≤ length (now out) ⌝ }
-    ensures { λ r. ⌜ Stored (b ∷ []) (now (out .entry)) at (now (out .exit)) r ⌝ }
+    ensures { λ r. ⌜ Puts (now (out .entry)) at (b ∷ []) (now (out .exit)) r ⌝ }
 {
     out[at] = b;
     at + 1
@@ -51,7 +52,7 @@ pub fn put_byte(b: u8, out: &mut [u8], at: usize) -> usize
 // A letter, a space and a number.
 fn put_coded(letter: u8, number: u64, out: &mut [u8], at: usize) -> usize
     requires { ⌜ at + 22 ≤ length (now out) ⌝ }
-    ensures { λ r. ⌜ Stored (coded-text letter number) (now (out .entry)) at (now (out .exit)) r ⌝ }
+    ensures { λ r. ⌜ Puts (now (out .entry)) at (coded-text letter number) (now (out .exit)) r ⌝ }
 {
     let space = put_byte(letter, out, at);
     let start = put_byte(b' ', out, space);
@@ -61,7 +62,7 @@ fn put_coded(letter: u8, number: u64, out: &mut [u8], at: usize) -> usize
 // A refusal from compiling.
 pub fn put_refused(number: u64, position: u64, out: &mut [u8], at: usize) -> usize
     requires { ⌜ at + 43 ≤ length (now out) ⌝ }
-    ensures { λ r. ⌜ Stored (refused-text number position) (now (out .entry)) at (now (out .exit)) r ⌝ }
+    ensures { λ r. ⌜ Puts (now (out .entry)) at (refused-text number position) (now (out .exit)) r ⌝ }
 {
     let space = put_coded(b'R', number, out, at);
     let start = put_byte(b' ', out, space);
@@ -71,7 +72,7 @@ pub fn put_refused(number: u64, position: u64, out: &mut [u8], at: usize) -> usi
 // A refusal from matching.
 pub fn put_unmatched(number: u64, out: &mut [u8], at: usize) -> usize
     requires { ⌜ at + 22 ≤ length (now out) ⌝ }
-    ensures { λ r. ⌜ Stored (unmatched-text number) (now (out .entry)) at (now (out .exit)) r ⌝ }
+    ensures { λ r. ⌜ Puts (now (out .entry)) at (unmatched-text number) (now (out .exit)) r ⌝ }
 {
     put_coded(b'M', number, out, at)
 }
@@ -79,7 +80,7 @@ pub fn put_unmatched(number: u64, out: &mut [u8], at: usize) -> usize
 // A 16-bit number, its lower byte first, after a byte that parts it from what is before.
 fn put_part(before: u8, low: u8, high: u8, out: &mut [u8], at: usize) -> usize
     requires { ⌜ at + 6 ≤ length (now out) ⌝ }
-    ensures { λ r. ⌜ Stored (before ∷ decimal (low + 256 * high)) (now (out .entry)) at (now (out .exit)) r ⌝ }
+    ensures { λ r. ⌜ Puts (now (out .entry)) at (before ∷ decimal (low + 256 * high)) (now (out .exit)) r ⌝ }
 {
     let start = put_byte(before, out, at);
     put_number(low as u64 + 256 * high as u64, out, start)

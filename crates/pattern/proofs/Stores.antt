@@ -54,6 +54,10 @@ stored-before l i j v w e = rw e (sets-before l i (i + length v) v w (omega arit
 pub stored-more : (l : Bytes) (i j x : ℕ) (v : Bytes) → j ≡ i + length v → set (stored l i v) j x ≡ stored l i (v ++ x ∷ [])
 stored-more l i j x v e = sym (stored-one (stored l i v) j x) ∙ stored-then l i j v (x ∷ []) e
 
+-- the last byte may be stored first
+pub stored-last : (l : Bytes) (i x : ℕ) (v : Bytes) → stored l i (v ++ x ∷ []) ≡ stored (set l (i + length v) x) i v
+stored-last l i x v = sym (stored-before l i (i + length v) v (x ∷ []) refl) ∙ ap (λ (m : Bytes). stored m i v) (stored-one l (i + length v) x)
+
 -- what is stored from the start is over the bytes that were there
 pub stored-over : (l v : Bytes) → length v ≤ length l → stored l 0 v ≡ over v l
 unfolding stored over

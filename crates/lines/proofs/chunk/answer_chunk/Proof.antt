@@ -9,7 +9,7 @@ use lib.Seq.{length-take-le}
 use Rattle.pattern.proofs.Tests.{le-or-lt}
 use Rattle.lines.specs.Sizes.{held-limit}
 use Rattle.lines.specs.Output.{told, kept}
-use Rattle.lines.proofs.Stores.{stored-length}
+use Rattle.pattern.proofs.Stores.{puts-length}
 use Rattle.lines.proofs.Told.{took-ended, turn-told, turn-kept, turn-ended, kept-ended}
 use Rattle.lines.proofs.chunk.answer_chunk.Statement.{statement}
 use Rattle.lines.proofs.chunk.answer_chunk.Tie as tie
@@ -78,11 +78,11 @@ loop-again c =
       omega arith,
       t .next-fits,
       omega arith,
-      omega (arith, w .short, stored-length (w .stores)),
+      omega (arith, w .short, puts-length (w .stores)),
       t .size ∙ k .inv .4,
       c .before .before .before .before .answer-line .kept .1 .0 ∙ k .inv .5,
-      stored-length (w .stores) ∙ k .inv .6,
-      turn-ended _ _ (took-ended t (c .before .before .before .before .before .before .before .before .if2 .taken)) (k .inv .7) (w .stores) (omega (arith, w .stores .ends, w .short)),
+      puts-length (w .stores) ∙ k .inv .6,
+      turn-ended _ _ (took-ended t (c .before .before .before .before .before .before .before .before .if2 .taken)) (k .inv .7) (w .stores) (omega (arith, w .stores .next, w .short)),
       kept-ended _ _ _ _ (took-ended t (c .before .before .before .before .before .before .before .before .if2 .taken)) ∙ k .inv .8,
       λ e. absurd (omega arith),
     )

@@ -1,7 +1,7 @@
 -- `chunk::answer_last` meets its contract. Assumes nothing.
 use mathlib.Core.Path.{sym, _∙_}
 use native.Mathlib.Omega.{arith}
-use Rattle.lines.proofs.Stores.{stored-length}
+use Rattle.pattern.proofs.Stores.{puts-length}
 use Rattle.lines.proofs.Told.{take-stored, last-replied, last-none}
 use borrow.Author.Needs.{needs}
 use Rattle.lines.proofs.chunk.answer_last.Statement.{statement}
@@ -22,7 +22,7 @@ same-length-2 c = search needs
 returns-2 : tie.Need-returns-2
 returns-2 c =
     let w = c .before .before .before .before .answer-line .ensures in
-    (take-stored (omega (arith, w .stores .ends, w .short)) (w .stores) ∙ last-replied _ (c .before .before .before .before .before .before .before .if1 .left), omega (arith, w .short, stored-length (w .stores)))
+    (take-stored (omega (arith, w .stores .next, w .short)) (w .stores) ∙ last-replied _ (c .before .before .before .before .before .before .before .if1 .left), omega (arith, w .short, puts-length (w .stores)))
 
 pub answer-last-spec : {M : Type 1} → statement M
 answer-last-spec =

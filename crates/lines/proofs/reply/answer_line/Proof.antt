@@ -1,6 +1,6 @@
 -- `reply::answer_line` meets its contract. Assumes nothing.
 use native.Mathlib.Omega.{arith}
-use Rattle.lines.proofs.Stores.{stored-join}
+use Rattle.pattern.proofs.Stores.{puts-then}
 use borrow.Author.Needs.{needs}
 use Rattle.lines.proofs.reply.answer_line.Statement.{statement}
 use Rattle.lines.proofs.reply.answer_line.Tie as tie
@@ -21,7 +21,7 @@ returns : tie.Need-returns
 returns c =
     let a = c .before .before .before .before .before .before .before .before .put-reply .ensures in
     let b = c .before .before .put-byte .ensures in
-    record { stores = stored-join (a .stores) b; short = omega (arith, a .short, b .ends) }
+    record { stores = puts-then (a .stores) b; short = omega (arith, a .short, b .next) }
 
 pub answer-line-spec : {M : Type 1} → statement M
 answer-line-spec =

@@ -1,6 +1,6 @@
 -- `text::put_byte` meets its contract. Assumes nothing.
 use mathlib.Core.Path.{refl, sym, _∙_}
-use Rattle.lines.proofs.Stores.{stored-first, stored-none}
+use Rattle.pattern.proofs.Stores.{stored-first, stored-none}
 use borrow.Author.Needs.{needs}
 use Rattle.lines.proofs.text.put_byte.Statement.{statement}
 use Rattle.lines.proofs.text.put_byte.Tie as tie
@@ -15,7 +15,7 @@ same-length : tie.Need-same-length
 same-length c = search needs
 
 returns : tie.Need-returns
-returns c = record { bytes = sym (stored-first _ _ _ _ ∙ stored-none _ _); ends = refl }
+returns c = record { bytes = sym (stored-first _ _ _ _ ∙ stored-none _ _); next = refl }
 
 pub put-byte-spec : {M : Type 1} → statement M
 put-byte-spec = tie.close (tie.spec slice-write-out add-result same-length returns)

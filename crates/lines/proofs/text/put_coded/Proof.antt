@@ -1,7 +1,7 @@
 -- `text::put_coded` meets its contract. Assumes nothing.
 use native.Mathlib.Omega.{arith}
 use Rattle.lines.specs.Text.{coded-text}
-use Rattle.lines.proofs.Stores.{stored-join}
+use Rattle.pattern.proofs.Stores.{puts-then}
 use Rattle.lines.proofs.Decimals.{decimal-short}
 use borrow.Author.Needs.{needs}
 use Rattle.lines.proofs.text.put_coded.Statement.{statement}
@@ -14,14 +14,14 @@ put-byte-requires-2 : tie.Need-put-byte-requires-2
 put-byte-requires-2 c κs = search needs
 
 put-number-requires : tie.Need-put-number-requires
-put-number-requires c κs = omega (arith, c .before .before .before .before .before .before .before .put-byte .ensures .ends, c .before .before .before .put-byte2 .ensures .ends, decimal-short 19 (c .before .before .before .before .before .before .before .before .before .before .args .number) (omega arith))
+put-number-requires c κs = omega (arith, c .before .before .before .before .before .before .before .put-byte .ensures .next, c .before .before .before .put-byte2 .ensures .next, decimal-short 19 (c .before .before .before .before .before .before .before .before .before .before .args .number) (omega arith))
 
 same-length : tie.Need-same-length
 same-length c = search needs
 
 returns : tie.Need-returns
 unfolding coded-text
-returns c = stored-join (stored-join (c .before .before .before .before .before .before .before .before .before .before .put-byte .ensures) (c .before .before .before .before .before .before .put-byte2 .ensures)) (c .before .before .put-number .ensures)
+returns c = puts-then (puts-then (c .before .before .before .before .before .before .before .before .before .before .put-byte .ensures) (c .before .before .before .before .before .before .put-byte2 .ensures)) (c .before .before .put-number .ensures)
 
 pub put-coded-spec : {M : Type 1} → statement M
 put-coded-spec =

@@ -1,13 +1,13 @@
 -- `text::put_matched` meets its contract: what stores the rest of the parts from here on stores all of them. What is left of the parts falls. Assumes nothing.
-use mathlib.Core.Path.{_≡_, refl}
+use mathlib.Core.Path.{_≡_, refl, sym}
 use Prim.Native.Nat.{ℕ, _≤_, _-_, _+_, _*_}
 use native.Mathlib.Omega.{arith}
 use lib.ListN.{length, getD, drop}
 use Rattle.pattern.specs.Bytes.{Bytes, bytes}
 use Rattle.lines.specs.Sizes.{space-byte}
 use Rattle.lines.specs.Text.{ends-in, listed, matched-text}
-use Rattle.lines.specs.Stores.{Stored}
-use Rattle.lines.proofs.Stores.{stored-join, stored-length, stored-empty}
+use Rattle.pattern.specs.Stores.{Puts}
+use Rattle.pattern.proofs.Stores.{puts-then, puts-length, puts-none, puts-as}
 use Rattle.lines.proofs.Decimals.{decimal-short}
 use Rattle.lines.proofs.Parts.{listed-join, listed-unset, listed-none}
 use Rattle.lines.proofs.text.put_matched.Statement.{statement}
@@ -16,7 +16,7 @@ use Rattle.lines.proofs.text.put_matched.Tie as tie
 abbrev Inv-loop : tie.InvT-loop
 Inv-loop parts out₀ at end₀ i₀ before₀ out end i before =
     (i ≤ length parts) × (end + 3 * (length parts - i) ≤ end₀ + 3 * length parts) × (length out ≡ length out₀)
-    × ((m : Bytes) (k : ℕ) → Stored (listed before (ends-in (drop i parts))) out end m k → Stored (listed space-byte (ends-in parts)) out₀ end₀ m k)
+    × ((m : Bytes) (k : ℕ) → Puts out end (listed before (ends-in (drop i parts))) m k → Puts out₀ end₀ (listed space-byte (ends-in parts)) m k)
 
 abbrev μ-loop : tie.MeasureT-loop
 μ-loop parts out₀ at end₀ i₀ before₀ out end i before = length parts - i
@@ -25,7 +25,7 @@ put-byte-requires : tie.Need-put-byte-requires Inv-loop μ-loop
 put-byte-requires c κs = omega arith
 
 loop-holds : tie.Need-loop-holds Inv-loop μ-loop
-loop-holds c = (omega arith, omega (arith, c .before .before .put-byte .ensures .ends, stored-length (c .before .before .put-byte .ensures)), refl, λ m k d. d)
+loop-holds c = (omega arith, omega (arith, c .before .before .put-byte .ensures .next, puts-length (c .before .before .put-byte .ensures)), refl, λ m k d. d)
 
 add-loop : tie.Need-add-loop Inv-loop μ-loop
 add-loop c = omega arith
@@ -40,7 +40,7 @@ shared-slice-read-high : tie.Need-shared-slice-read-high Inv-loop μ-loop
 shared-slice-read-high c = omega arith
 
 same-length : tie.Need-same-length Inv-loop μ-loop
-same-length c = omega (arith, stored-length (c .before .before .before .before .before .before .before .put-byte .ensures))
+same-length c = omega (arith, puts-length (c .before .before .before .before .before .before .before .put-byte .ensures))
 
 returns : tie.Need-returns Inv-loop μ-loop
 unfolding bytes matched-text
@@ -48,14 +48,14 @@ returns c =
     let k = c .before .before .before .before in
     let b = c .before .before .before .before .before .before .before .put-byte .ensures in
     record {
-      stores = stored-join b (k .loop .inv .3 _ _ (stored-empty (listed-unset _ _ _ (c .before .before .before .loop-test .taken) (c .if1 .taken)) _ _));
-      short = omega (arith, b .ends);
+      stores = puts-then b (k .loop .inv .3 _ _ (puts-as (puts-none _ _) (sym (listed-unset _ _ _ (c .before .before .before .loop-test .taken) (c .if1 .taken)))));
+      short = omega (arith, b .next);
     }
 
 put-part-requires : tie.Need-put-part-requires Inv-loop μ-loop
 put-part-requires c κs =
     let b = c .before .before .before .before .before .before .before .before .put-byte .ensures in
-    omega (arith, b .ends, stored-length b)
+    omega (arith, b .next, puts-length b)
 
 add-i : tie.Need-add-i Inv-loop μ-loop
 add-i c = omega arith
@@ -69,20 +69,20 @@ loop-again c =
     let p = c .before .before .put-part .ensures in
     let s = c .before .before .before .before .before .before .before .before .before .before .before .before .before .before .before .args .parts .now in (
       omega arith,
-      omega (arith, p .ends, stored-length p, decimal-short 4 (getD s (k .loop .i) 0 + 256 * getD s (k .loop .i + 1) 0) (omega (arith, c .before .before .before .before .before .before .shared-slice-known2 .given (k .loop .i), c .before .before .before .before .before .shared-slice-known3 .given (k .loop .i + 1)))),
-      omega (arith, stored-length p),
+      omega (arith, p .next, puts-length p, decimal-short 4 (getD s (k .loop .i) 0 + 256 * getD s (k .loop .i + 1) 0) (omega (arith, c .before .before .before .before .before .before .shared-slice-known2 .given (k .loop .i), c .before .before .before .before .before .shared-slice-known3 .given (k .loop .i + 1)))),
+      omega (arith, puts-length p),
       λ m e d. k .loop .inv .3 m e (listed-join _ _ _ (c .before .before .before .before .before .before .before .loop-test .taken) (c .before .before .before .before .if1 .left) p d),
     )
 
 same-length-2 : tie.Need-same-length-2 Inv-loop μ-loop
-same-length-2 c = omega (arith, stored-length (c .before .before .before .before .put-byte .ensures))
+same-length-2 c = omega (arith, puts-length (c .before .before .before .before .put-byte .ensures))
 
 returns-2 : tie.Need-returns-2 Inv-loop μ-loop
 unfolding bytes matched-text
 returns-2 c =
     let k = c .before in
     let b = c .before .before .before .before .put-byte .ensures in
-    record { stores = stored-join b (k .loop .inv .3 _ _ (stored-empty (listed-none _ _ _ (c .loop-test .left)) _ _)); short = omega (arith, b .ends) }
+    record { stores = puts-then b (k .loop .inv .3 _ _ (puts-as (puts-none _ _) (sym (listed-none _ _ _ (c .loop-test .left))))); short = omega (arith, b .next) }
 
 pub put-matched-spec : {M : Type 1} → statement M
 put-matched-spec =

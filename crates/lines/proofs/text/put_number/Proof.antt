@@ -4,7 +4,7 @@ use Prim.Native.Nat.{_≤_, _+_}
 use native.Mathlib.Omega.{arith}
 use lib.ListN.{length, length-set}
 use Rattle.lines.specs.Text.{decimal}
-use Rattle.lines.specs.Stores.{stored}
+use Rattle.pattern.specs.Stores.{stored}
 use Rattle.lines.proofs.Decimals.{decimal-one, decimal-longer}
 use Rattle.lines.proofs.Digits.{last-digit, only-digit}
 use Rattle.lines.proofs.text.put_number.Statement.{statement}
@@ -65,7 +65,7 @@ same-length c = simp length-set (c .before .loop .inv .3)
 returns : tie.Need-returns Inv-loop μ-loop
 returns c =
     let k = c .before .loop in
-    record { bytes = only-digit (k .out) (c .before .before .before .before .args .at) (k .left) (c .loop-test .left) ∙ k .inv .4; ends = k .inv .0 }
+    record { bytes = only-digit (k .out) (c .before .before .before .before .args .at) (k .left) (c .loop-test .left) ∙ k .inv .4; next = k .inv .0 }
 
 pub put-number-spec : {M : Type 1} → statement M
 put-number-spec =

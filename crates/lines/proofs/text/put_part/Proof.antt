@@ -1,7 +1,7 @@
 -- `text::put_part` meets its contract. Assumes nothing.
 use Prim.Native.Nat.{_+_, _*_}
 use native.Mathlib.Omega.{arith}
-use Rattle.lines.proofs.Stores.{stored-join}
+use Rattle.pattern.proofs.Stores.{puts-then}
 use Rattle.lines.proofs.Decimals.{decimal-short}
 use borrow.Author.Needs.{needs}
 use Rattle.lines.proofs.text.put_part.Statement.{statement}
@@ -19,13 +19,13 @@ add-put-number c = search needs
 put-number-requires : tie.Need-put-number-requires
 put-number-requires c κs =
     let a = c .before .before .before .before .before .before .args in
-    omega (arith, c .before .before .before .put-byte .ensures .ends, decimal-short 4 (a .low + 256 * a .high) (omega arith))
+    omega (arith, c .before .before .before .put-byte .ensures .next, decimal-short 4 (a .low + 256 * a .high) (omega arith))
 
 same-length : tie.Need-same-length
 same-length c = search needs
 
 returns : tie.Need-returns
-returns c = stored-join (c .before .before .before .before .before .before .put-byte .ensures) (c .before .before .put-number .ensures)
+returns c = puts-then (c .before .before .before .before .before .before .put-byte .ensures) (c .before .before .put-number .ensures)
 
 pub put-part-spec : {M : Type 1} → statement M
 put-part-spec =

@@ -1,7 +1,7 @@
 -- `text::put_refused` meets its contract. Assumes nothing.
 use native.Mathlib.Omega.{arith}
 use Rattle.lines.specs.Text.{coded-text, refused-text}
-use Rattle.lines.proofs.Stores.{stored-join}
+use Rattle.pattern.proofs.Stores.{puts-then}
 use Rattle.lines.proofs.Decimals.{decimal-short}
 use borrow.Author.Needs.{needs}
 use Rattle.lines.proofs.text.put_refused.Statement.{statement}
@@ -12,18 +12,18 @@ put-coded-requires c κs = search needs
 
 put-byte-requires : tie.Need-put-byte-requires
 unfolding coded-text
-put-byte-requires c κs = omega (arith, c .before .before .before .put-coded .ensures .ends, decimal-short 19 (c .before .before .before .before .before .before .args .number) (omega arith))
+put-byte-requires c κs = omega (arith, c .before .before .before .put-coded .ensures .next, decimal-short 19 (c .before .before .before .before .before .before .args .number) (omega arith))
 
 put-number-requires : tie.Need-put-number-requires
 unfolding coded-text
-put-number-requires c κs = omega (arith, c .before .before .before .before .before .before .before .put-coded .ensures .ends, c .before .before .before .put-byte .ensures .ends, decimal-short 19 (c .before .before .before .before .before .before .before .before .before .before .args .number) (omega arith), decimal-short 19 (c .before .before .before .before .before .before .before .before .before .before .args .position) (omega arith))
+put-number-requires c κs = omega (arith, c .before .before .before .before .before .before .before .put-coded .ensures .next, c .before .before .before .put-byte .ensures .next, decimal-short 19 (c .before .before .before .before .before .before .before .before .before .before .args .number) (omega arith), decimal-short 19 (c .before .before .before .before .before .before .before .before .before .before .args .position) (omega arith))
 
 same-length : tie.Need-same-length
 same-length c = search needs
 
 returns : tie.Need-returns
 unfolding refused-text
-returns c = stored-join (c .before .before .before .before .before .before .before .before .before .before .put-coded .ensures) (stored-join (c .before .before .before .before .before .before .put-byte .ensures) (c .before .before .put-number .ensures))
+returns c = puts-then (c .before .before .before .before .before .before .before .before .before .before .put-coded .ensures) (puts-then (c .before .before .before .before .before .before .put-byte .ensures) (c .before .before .put-number .ensures))
 
 pub put-refused-spec : {M : Type 1} → statement M
 put-refused-spec =
