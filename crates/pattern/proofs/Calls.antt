@@ -4,7 +4,8 @@ use mathlib.Core.Logic.{_↔_, _⊎_, inl, inr, ⊎-elim}
 use mathlib.Core.Bool.{Bool, true, false}
 use mathlib.Core.List.{List}
 use mathlib.Core.Option.{Option, none, some}
-use Prim.Native.Nat.{ℕ, suc, _*_, _^_, _≤_, _<_}
+use Prim.Native.Nat.{ℕ, suc, _+_, _*_, _^_, _≤_, _<_}
+use native.Mathlib.Nat.{mul-le-mul}
 use native.Mathlib.Omega.{arith}
 use lib.Dec.{T, leb, leb→le, lit<}
 use lib.ListN.{length, take}
@@ -55,8 +56,12 @@ module _ (table : Bytes) (t : Syntax pattern) (good : decode table ≡ some t) w
   decoded-encode = let (source, a, m) = good-exactly table t .0 good in m
 
   -- no source that compiles to the table is shorter than its printed one
-  pub print-shortest : (source : Bytes) → outcome source ≡ accepted t → length (print t) ≤ length source
-  print-shortest source a = let (n, h, g) = accepted-exactly source t .0 a in shortest 0 t source (g .tree) h
+  pub print-shortest : (source : Bytes) (u : Syntax pattern) → outcome source ≡ accepted u → encode u ≡ table → length (print t) ≤ length source
+  print-shortest source u a m =
+      let d : decode table ≡ some u = good-exactly table u .1 (source, a, m) in
+      let e : u ≡ t = cc in
+      let (n, h, g) = accepted-exactly source t .0 (a ∙ ap accepted e) in
+      shortest 0 t source (g .tree) h
 
   -- demand 2: the verdict is yes just when the partition exists, and the parts are the longest-first one
   pub verdict-right : (label : Bytes) → Means label t (verdict label t)
@@ -306,18 +311,35 @@ module _ (table label scratch parts : Bytes) (t : Syntax pattern) (good : decode
       go none m = (λ e. absurd (omega arith), λ s. absurd (m s))
       go (some ends) m = (λ e. rw take-length at (partition-satisfies label t 0 ends (m .0)), λ s. refl)
 
-  -- and its parts, 16 bits for each top-level atom, are the longest-first ones
-  pub match-parts : (ends : List ℕ) → verdict label t ≡ some ends
-      → (matchOf table label scratch parts budget .parts ≡ over (part-bytes ends) parts) × (length (part-bytes ends) ≡ 2 * top-size t) × Means label t (some ends)
+  -- yes writes the longest-first ends, 2T bytes
+  pub match-parts : matchOf table label scratch parts budget .answer .value ≡ 1
+      → (ends : List ℕ) × Means label t (some ends) × (length (part-bytes ends) ≡ 2 * top-size t) × (matchOf table label scratch parts budget .parts ≡ over (part-bytes ends) parts)
   unfolding judged
-  match-parts ends e =
-      let n : length ends ≡ top-size t = verdict-length label t ends e in (
-        ap (λ (m : Matched). m .parts) (within-budget table label scratch parts t good lent budget enough) ∙ ap (λ v. judged v t label scratch parts .parts) e,
-        part-bytes-length ends ∙ omega arith,
-        rw e at (verdict-right table t good label),
-      )
+  match-parts = rw (within-budget table label scratch parts t good lent budget enough) (go (verdict label t) refl)
+    where
+      go : (v : Option (List ℕ)) → verdict label t ≡ v → judged v t label scratch parts .answer .value ≡ 1
+          → (ends : List ℕ) × Means label t (some ends) × (length (part-bytes ends) ≡ 2 * top-size t) × (judged v t label scratch parts .parts ≡ over (part-bytes ends) parts)
+      go none e y = absurd (omega arith)
+      go (some ends) e y =
+          let n : length ends ≡ top-size t = verdict-length label t ends e in
+          (ends, rw e at (verdict-right table t good label), part-bytes-length ends ∙ omega arith, refl)
 
--- the reported numbers fit 64 bits
-pub trials-fit : trial-bound atom-limit label-limit < 2 ^ 64
+  -- no writes none
+  pub match-no : matchOf table label scratch parts budget .answer .value ≡ 0 → matchOf table label scratch parts budget .parts ≡ parts
+  unfolding judged
+  match-no = rw (within-budget table label scratch parts t good lent budget enough) (go (verdict label t))
+    where
+      go : (v : Option (List ℕ)) → judged v t label scratch parts .answer .value ≡ 0 → judged v t label scratch parts .parts ≡ parts
+      go none y = refl
+      go (some ends) y = absurd (omega arith)
+
+-- the trials of a pattern within the limits fit 64 bits
+pub trials-fit : (label : Bytes) (t : Syntax pattern) → length label ≤ label-limit → Limited t → trials label t < 2 ^ 64
 unfolding trial-bound
-trials-fit = lit< tt
+trials-fit label t l g =
+    let n : ℕ = length label in
+    let a : n + 1 ≤ 256 = omega arith in
+    let b : n + 2 ≤ 257 = omega arith in
+    let c : n + 3 ≤ 258 = omega arith in
+    let o : size t * (n + 1) * (n + 1) * (n + 2) * (n + 3) ≤ 64 * 256 * 256 * 257 * 258 = mul-le-mul (mul-le-mul (mul-le-mul (mul-le-mul (g .atoms) a) a) b) c in
+    omega (arith, bound label t, o)

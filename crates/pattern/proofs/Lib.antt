@@ -19,5 +19,6 @@ pub mod Shortest
 pub mod Records
 pub mod RoundTrip
 pub mod Calls
+pub mod Union
 pub mod Nodes
 pub mod LongestRuns

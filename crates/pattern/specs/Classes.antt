@@ -4,8 +4,8 @@ use mathlib.Core.Bool.{cond}
 use mathlib.Core.List.{List, [], _∷_, _++_, map}
 use Prim.Native.Nat.{ℕ, zero, suc, _+_}
 use lib.ListN.{replicate}
-use Rattle.pattern.specs.Bytes.{between}
-use Rattle.pattern.specs.Codes.{all-codes, ranged, coded, in-set}
+use Rattle.pattern.specs.Bytes.{between, bytes}
+use Rattle.pattern.specs.Codes.{all-codes, ranged, coded, in-set, bit-among, bit}
 
 -- the set of a byte's classes, with the bits of A C E L N P U
 unfoldable pub classes : ℕ → ℕ
@@ -42,6 +42,11 @@ in-order =
 unfoldable pub count-up : ℕ → ℕ → List ℕ
 count-up zero b = []
 count-up (suc c) b = b ∷ count-up c (suc b)
+
+-- the bits of the letters, of either case
+pub bits-hold : (map bit (bytes "ACELNPU") ≡ 1 ∷ 2 ∷ 4 ∷ 8 ∷ 16 ∷ 32 ∷ 64 ∷ []) × (map bit (bytes "acelnpu") ≡ 1 ∷ 2 ∷ 4 ∷ 8 ∷ 16 ∷ 32 ∷ 64 ∷ [])
+unfolding bytes all-codes bit-among bit
+bits-hold = (refl, refl)
 
 pub classes-hold : map classes (count-up 256 0) ≡ in-order
 unfolding between all-codes ranged coded in-set classes in-order count-up

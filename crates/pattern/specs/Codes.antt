@@ -43,3 +43,8 @@ bit-among (l ∷ ls) bit c = cond (eqb (l .letter) c || eqb (l .letter + 32) c) 
 
 unfoldable pub bit : ℕ → ℕ
 bit c = bit-among all-codes 1 c
+
+-- "several letters mean the union": a byte is of the code of one of these letters
+unfoldable pub lettered : List ℕ → ℕ → Bool
+lettered [] b = false
+lettered (c ∷ s) b = in-set (bit c) b || lettered s b

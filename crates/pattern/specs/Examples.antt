@@ -63,7 +63,7 @@ examples =
     ∷ matches (bytes "1\"a\"\"b\"") (bytes "a\"b") (3 ∷ []) none
     ∷ []
 
--- the easy errors that P1 to P14 leave out
+-- the easy errors that P1 to P14 leave out, and letters in union
 unfoldable pub easy-errors : List Example
 easy-errors =
     matches (bytes ".N1N") (bytes "12") (1 ∷ 2 ∷ []) none
@@ -71,6 +71,8 @@ easy-errors =
     ∷ matches (bytes ".(.N)") [] (0 ∷ []) none
     ∷ fails (bytes ".5N") (bytes "123456") none
     ∷ matches (bytes ".5N") [] (0 ∷ []) none
+    ∷ matches (bytes "2NA") (bytes "a1") (2 ∷ []) none
+    ∷ fails (bytes "1NA") (bytes "-") none
     ∷ []
 
 -- counts worked out by hand, with more bodies and followers than P1 to P14 have
@@ -85,7 +87,7 @@ counts =
     ∷ fails (bytes "300N") (bytes "12") (some 17)
     ∷ []
 
--- what an example is found to answer, its trials only where the paper says them
+-- what an example is found to answer, its trials only where the example says them
 unfoldable pub answered : Example → ℕ × ℕ × Bytes × Option ℕ
 answered e =
     let m : Matched = run (e .source) (e .label) (e .budget) in

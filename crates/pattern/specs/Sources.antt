@@ -100,14 +100,27 @@ Table-group =
     ∷ 2 ∷ 1 ∷ 0 ∷ 0 ∷ 5 ∷ 0 ∷ 3 ∷ 0 ∷ 0 ∷ 0
     ∷ 97 ∷ 34 ∷ 98 ∷ []
 
+-- the bytes of 1"x"1(1N,1(2A))1"yz": groups that are not first, one of them in the other, and two values in the pool
+abbrev Table-nested : Bytes
+Table-nested =
+    77 ∷ 80 ∷ 84 ∷ 1 ∷ 0 ∷ 6 ∷ 3 ∷ 0
+    ∷ 2 ∷ 0 ∷ 1 ∷ 0 ∷ 1 ∷ 0 ∷ 0 ∷ 0 ∷ 1 ∷ 0
+    ∷ 3 ∷ 0 ∷ 1 ∷ 0 ∷ 1 ∷ 0 ∷ 2 ∷ 0 ∷ 5 ∷ 0
+    ∷ 1 ∷ 1 ∷ 1 ∷ 0 ∷ 1 ∷ 0 ∷ 16 ∷ 0 ∷ 0 ∷ 0
+    ∷ 3 ∷ 1 ∷ 1 ∷ 0 ∷ 1 ∷ 0 ∷ 1 ∷ 0 ∷ 5 ∷ 0
+    ∷ 1 ∷ 1 ∷ 2 ∷ 0 ∷ 2 ∷ 0 ∷ 1 ∷ 0 ∷ 0 ∷ 0
+    ∷ 2 ∷ 1 ∷ 1 ∷ 0 ∷ 1 ∷ 0 ∷ 1 ∷ 0 ∷ 2 ∷ 0
+    ∷ 120 ∷ 121 ∷ 122 ∷ []
+
 -- tables in lent bytes that are longer, ROOM in shorter ones, TABLE and ROOM of a write-back
 pub tables-hold : (compileOf (bytes "2N") (replicate 19 7) .bytes ≡ Table-2N ++ 7 ∷ [])
     × (compileOf (bytes ".300(1\"a\"\"b\",12.AN).5\"\"") (replicate 52 7) .bytes ≡ Table-group ++ 7 ∷ [])
+    × (compileOf (bytes "1\"x\"1(1N,1(2A))1\"yz\"") (replicate 72 7) .bytes ≡ Table-nested ++ 7 ∷ [])
     × (compileOf (bytes "2N") (replicate 17 7) ≡ record { answer = refusal ROOM 2; bytes = replicate 17 7 })
     × (writeOf (Table-2N ++ 0 ∷ []) (7 ∷ []) ≡ record { answer = refusal TABLE 0; bytes = 7 ∷ [] })
     × (writeOf Table-2N (7 ∷ []) ≡ record { answer = refusal ROOM 0; bytes = 7 ∷ [] })
 unfolding between same over bytes all-codes bit-among bit size kind text join fork next enter extend leave quoted grow counted move step finish low high ahead depth body-begins begins begun large falls refuse atom-fault fault scan outcome decimal-of decimal print-low print-count print-set double print pool choices kind-field a-field b-field records flat header encode high-of pattern-at tree-of compiled-to decode put-if put compiled compileOf written-back writeOf
-tables-hold = (refl, refl, refl, refl, refl)
+tables-hold = (refl, refl, refl, refl, refl, refl)
 
 pub sources-hold : map (λ e. refusal-of (e .0)) sources ≡ map (λ e. (e .1, e .2)) sources
 unfolding between same over bytes all-codes bit-among bit size kind text join fork next enter extend leave quoted grow counted move step finish low high ahead depth body-begins begins begun large falls refuse atom-fault fault scan outcome decimal-of decimal print-low print-count print-set double print pool choices kind-field a-field b-field records flat header encode high-of pattern-at tree-of compiled-to decode put-if put compiled compileOf written-back writeOf times sources refusal-of
