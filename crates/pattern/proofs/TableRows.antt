@@ -14,7 +14,7 @@ use Rattle.pattern.specs.Spelling.{kind}
 use Rattle.pattern.specs.Reading.{empty, State, step, finish}
 use Rattle.pattern.specs.Places.{begun-at}
 use Rattle.pattern.specs.Scan.{low, high, ahead, depth, Begins, an-atom, a-second, a-code, a-group, nothing, begins, large, falls, refuse, atom-fault, fault}
-use Rattle.pattern.specs.Faults.{begins-atom, begins-code, begins-group, second-large, stuck, later-rows, rows-there, Applies}
+use Rattle.pattern.specs.Faults.{begins-atom, begins-code, begins-group, second-large, later-rows, form-row, rows-there, Applies}
 
 -- ---- the first test that passes
 
@@ -101,31 +101,58 @@ unfolding rows-there found-there found refuse
 found-rows none s = refl
 found-rows (some q) [] = go (finish (q .0) (q .1))
   where
-    go : (o : Option (Syntax pattern)) → _≡_ {A = Option ℕ} (elim (stuck o) [ true ↦ some FORM | false ↦ none ]) (elim o [ none ↦ some FORM | some t ↦ none ])
-    go none = unfold stuck in refl
-    go (some t) = unfold stuck in refl
-found-rows (some q) (c ∷ s) = go (step q c) (later-fault q (begins (q .0) (kind c)) c s)
+    go : (o : Option (Syntax pattern)) → refuse (elim o [ none ↦ form-row | some t ↦ [] ]) ≡ elim o [ none ↦ some FORM | some t ↦ none ]
+    go none = refl
+    go (some t) = refl
+found-rows (some q) (c ∷ s) = go (step q c) _ (later-fault q (begins (q .0) (kind c)) c s)
   where
-    go : (o : Option State) {x y : Option ℕ} → x ≡ y → _≡_ {A = Option ℕ} (elim (stuck o) [ true ↦ some FORM | false ↦ x ]) (elim o [ none ↦ some FORM | some q′ ↦ y ])
-    go none e = unfold stuck in refl
-    go (some q′) e = unfold stuck in e
+    go : (o : Option State) (rows : List (Bool × ℕ)) {y : Option ℕ} → refuse rows ≡ y
+        → refuse (elim o [ none ↦ form-row | some q′ ↦ rows ]) ≡ elim o [ none ↦ some FORM | some q′ ↦ y ]
+    go none rows e = refl
+    go (some q′) rows e = e
 
 -- the numbers of the rows ascend
 pub rows-ascend : (o : Option State) (s : Bytes) → Above 0 (rows-there o s)
 unfolding rows-there later-rows
 rows-ascend none s = tt
-rows-ascend (some q) [] = (tt, tt)
-rows-ascend (some q) (c ∷ s) = (tt, (tt, (tt, (tt, (tt, (tt, tt))))))
+rows-ascend (some q) [] = go (finish (q .0) (q .1))
+  where
+    go : (o : Option (Syntax pattern)) → Above 0 (elim o [ none ↦ form-row | some t ↦ [] ])
+    go none = (tt, tt)
+    go (some t) = tt
+rows-ascend (some q) (c ∷ s) = go (step q c) _ (tt, (tt, (tt, (tt, (tt, tt)))))
+  where
+    go : (o : Option State) (rows : List (Bool × ℕ)) → Above 0 rows → Above 0 (elim o [ none ↦ form-row | some q′ ↦ rows ])
+    go none rows h = (tt, tt)
+    go (some q′) rows h = h
 
 -- the numbers of the rows are 2 to 7
-pub row-number : (o : Option State) (s : Bytes) (f : ℕ) → Applies (rows-there o s) f → (FORM ≤ f) × (f ≤ DEPTH)
-unfolding rows-there later-rows Applies
-row-number none s f a = absurd a
-row-number (some q) [] f a = ⊎-elim (λ (x, y). (omega arith, omega arith)) (λ b. absurd b) a
-row-number (some q) (c ∷ s) f a =
+Numbered : List (Bool × ℕ) → ℕ → Type 0
+Numbered rows f = Applies rows f → (FORM ≤ f) × (f ≤ DEPTH)
+
+form-number : (f : ℕ) → Numbered form-row f
+unfolding Numbered Applies
+form-number f a = ⊎-elim (λ (x, y). (omega arith, omega arith)) (λ b. absurd b) a
+
+later-number : (q : State) (b : Begins) (c : ℕ) (s : Bytes) (f : ℕ) → Numbered (later-rows q b c s) f
+unfolding Numbered Applies later-rows
+later-number q b c s f a =
     ⊎-elim (λ (x, y). (omega arith, omega arith))
     (⊎-elim (λ (x, y). (omega arith, omega arith))
     (⊎-elim (λ (x, y). (omega arith, omega arith))
     (⊎-elim (λ (x, y). (omega arith, omega arith))
-    (⊎-elim (λ (x, y). (omega arith, omega arith))
-    (⊎-elim (λ (x, y). (omega arith, omega arith)) (λ b. absurd b)))))) a
+    (⊎-elim (λ (x, y). (omega arith, omega arith)) (λ b. absurd b))))) a
+
+pub row-number : (o : Option State) (s : Bytes) (f : ℕ) → Applies (rows-there o s) f → (FORM ≤ f) × (f ≤ DEPTH)
+unfolding rows-there Numbered
+row-number none s f a = unfold Applies in absurd a
+row-number (some q) [] f a = go (finish (q .0) (q .1)) a
+  where
+    go : (o : Option (Syntax pattern)) → Numbered (elim o [ none ↦ form-row | some t ↦ [] ]) f
+    go none = form-number f
+    go (some t) = λ b. unfold Applies in absurd b
+row-number (some q) (c ∷ s) f a = go (step q c) _ (later-number q (begins (q .0) (kind c)) c s f) a
+  where
+    go : (o : Option State) (rows : List (Bool × ℕ)) → Numbered rows f → Numbered (elim o [ none ↦ form-row | some q′ ↦ rows ]) f
+    go none rows h = form-number f
+    go (some q′) rows h = h

@@ -54,11 +54,6 @@ second-large a-code s = false
 second-large a-group s = false
 second-large nothing s = false
 
--- no pattern continues so
-unfoldable pub stuck : {A : Type 0} → Option A → Bool
-stuck none = true
-stuck (some x) = false
-
 -- rows 3 to 7 of the refusal table at a place, each a test of its own; c is the byte there, s the source after it, and b what begins with c
 unfoldable pub later-rows : State → Begins → ℕ → Bytes → List (Bool × ℕ)
 later-rows q b c s =
@@ -70,11 +65,15 @@ later-rows q b c s =
     ∷ (begins-group b && leb depth-limit (depth (q .1)), DEPTH)
     ∷ []
 
--- rows 2 to 7 at a place with the source s from there on, FORM also at the end
+-- FORM, with which the search for faults ends
+abbrev pub form-row : List (Bool × ℕ)
+form-row = (true, FORM) ∷ []
+
+-- the rows at a place with the source s from there on: FORM alone where no pattern continues so, else rows 3 to 7
 unfoldable pub rows-there : Option State → Bytes → List (Bool × ℕ)
 rows-there none s = []
-rows-there (some q) [] = (stuck (finish (q .0) (q .1)), FORM) ∷ []
-rows-there (some q) (c ∷ s) = (stuck (step q c), FORM) ∷ later-rows q (begins (q .0) (kind c)) c s
+rows-there (some q) [] = elim (finish (q .0) (q .1)) [ none ↦ form-row | some t ↦ [] ]
+rows-there (some q) (c ∷ s) = elim (step q c) [ none ↦ form-row | some q′ ↦ later-rows q (begins (q .0) (kind c)) c s ]
 
 -- the rows at a position: those of the place which the bytes before it spell; none where the form has stopped before
 unfoldable pub rows-at : Bytes → ℕ → List (Bool × ℕ)
