@@ -1,18 +1,26 @@
 -- A count is taken as the longest run. Assumes nothing.
-use mathlib.Core.Path.{_≡_, refl}
+use mathlib.Core.Path.{_≡_, refl, sym, ap, _∙_}
 use mathlib.Core.List.{[], _∷_, _++_, append-assoc, append-nil}
-use mathlib.Core.Option.{Option, none, some}
+use mathlib.Core.Option.{Option, none, some, Option·none-ne-some}
 use Prim.Native.Nat.{ℕ}
 use native.Mathlib.Omega.{arith}
-use Rattle.pattern.specs.Bytes.{Bytes}
-use Rattle.pattern.specs.Spelling.{Mark, Kind, counts, starts, ends, kind}
-use Rattle.pattern.specs.Reading.{Run, empty, top, grow}
-use Rattle.pattern.specs.Places.{Opens, Runs}
+use Rattle.pattern.specs.Numbers.{point-byte}
+use Rattle.pattern.specs.Bytes.{Bytes, between}
+use Rattle.pattern.specs.Meaning.{Cut}
+use Rattle.pattern.specs.Spelling.{Mark, digit, point, Kind, counts, starts, ends, kind, Number, Low, missing, given}
+use Rattle.pattern.specs.Reading.{Run, empty, first, pointed, second, counting, top, State, grow, counted, move, step, start}
+use Rattle.pattern.specs.Places.{place-after, Before, Opens, Runs, Stands, Spelt}
 use Rattle.pattern.specs.Scan.{ahead}
-use Rattle.pattern.specs.Faults.{Halts, LongestRun}
+use Rattle.pattern.specs.Faults.{LongestRun}
 use Rattle.pattern.proofs.Tests.{On}
 use Rattle.pattern.proofs.Notation.{Byte, kind-byte}
 use Rattle.pattern.proofs.ReadSpells.{grow-runs}
+use Rattle.pattern.proofs.SpeltReads.{place-append, place-exactly}
+
+-- the next byte does not go on with a run
+Halts : Run → Bytes → Type 0
+Halts r [] = Unit {0}
+Halts r (c ∷ s) = (m : Mark) → kind c ≡ counts m → grow r m c ≡ none
 
 -- the run that bytes u have begun goes on for some bytes of s, and then halts
 Extends : Run → Bytes → Bytes → Type 0
@@ -36,7 +44,67 @@ extends (c ∷ s) r u h = go (kind c) refl (kind-byte c) (λ r′ l. extends s r
     go (starts b) k e f = ([], c ∷ s, refl, rw append-nil h, λ m i. absurd (let z : _≡_ {A = ℕ} 0 1 = cc in omega arith))
     go (ends b) k e f = ([], c ∷ s, refl, rw append-nil h, λ m i. absurd (let z : _≡_ {A = ℕ} 0 1 = cc in omega arith))
 
+-- ---- no longer run
+
+-- every byte is a digit or a point
+Marks : Bytes → Type 0
+Marks [] = Unit {0}
+Marks (c ∷ s) = ((m : Mark) × (kind c ≡ counts m)) × Marks s
+
+marks-both : (u v : Bytes) → Marks u → Marks v → Marks (u ++ v)
+unfolding Marks
+marks-both [] v h g = g
+marks-both (c ∷ u) v (k, h) g = (k, marks-both u v h g)
+
+number-marks : {n : ℕ} {s : Bytes} → Number n s → Marks s
+unfolding Marks
+number-marks (Number.one c k) = ((digit, k), tt)
+number-marks (Number.more {n} {s} h c k) = marks-both s _ (number-marks h) ((digit, k), tt)
+
+low-marks : {n : ℕ} {s : Bytes} → Low n s → Marks s
+low-marks missing = unfold Marks in tt
+low-marks (given h) = number-marks h
+
+point-marks : (v : Bytes) → Marks v → Marks (point-byte ∷ v)
+unfolding Marks kind between
+point-marks v h = ((point, refl), h)
+
+run-marks : (r : Run) (u : Bytes) → Runs (top []) r u → Marks u
+unfolding Runs
+run-marks empty u (e, o) = rw e (unfold Marks in tt)
+run-marks (first n) u h = number-marks h
+run-marks (pointed n) u (x, e, h) = rw e (marks-both x _ (low-marks h) (point-marks [] (unfold Marks in tt)))
+run-marks (second n m) u (x, y, e, h, g) = rw e (marks-both x _ (low-marks h) (point-marks y (number-marks g)))
+
+mark-at : (u : Bytes) (c : ℕ) (v : Bytes) → Marks (u ++ c ∷ v) → (m : Mark) × (kind c ≡ counts m)
+unfolding Marks
+mark-at [] c v h = h .0
+mark-at (x ∷ u) c v h = mark-at u c v (h .1)
+
+-- where a run leads
+run-place : (r : Run) (u : Bytes) → Runs (top []) r u → place-after start u ≡ some (counting r, top [])
+unfolding Spelt Cut Stands Before
+run-place r u h = place-exactly u (counting r, top []) .1 ([], u, refl, refl, h)
+
+no-step : (q : State) (c : ℕ) (x : Bytes) → step q c ≡ none → place-after q (c ∷ x) ≡ none
+unfolding place-after
+no-step q c x e = rw (place-after, e)
+
+halted : (r r′ : Run) (w : Bytes) (c : ℕ) (x y : Bytes) → Runs (top []) r w → Halts r (c ∷ x ++ y) → ¬ Runs (top []) r′ (w ++ c ∷ x)
+unfolding Halts step move counted
+halted r r′ w c x y h halts g =
+    let (m, k) = mark-at w c x (run-marks r′ (w ++ c ∷ x) g) in
+    let q : State = (counting r, top []) in
+    let e : step q c ≡ none = ap (λ z. move (counting r) (top []) z c) k ∙ ap (counted (top [])) (halts m k) in
+    Option·none-ne-some _ (sym (no-step q c x e) ∙ sym (place-append w start q (c ∷ x) (run-place r w h)) ∙ run-place r′ (w ++ c ∷ x) g)
+
 -- what the scan looks at is the longest run
 pub longest-run : (s : Bytes) → LongestRun (ahead empty s) s
 unfolding LongestRun Extends Runs Opens
-longest-run s = extends s empty [] (refl, refl)
+longest-run s =
+    let (w, rest, e, h, halts) = extends s empty [] (refl, refl) in
+    (w, rest, e, h, λ x y r′ f g. go w rest h halts x y r′ f g)
+  where
+    go : (w rest : Bytes) → Runs (top []) (ahead empty s) w → Halts (ahead empty s) rest → (x y : Bytes) (r′ : Run) → rest ≡ x ++ y → Runs (top []) r′ (w ++ x) → x ≡ []
+    go w rest h halts [] y r′ f g = refl
+    go w rest h halts (c ∷ x) y r′ f g = absurd (halted (ahead empty s) r′ w c x y h (rw f at halts) g)

@@ -26,7 +26,7 @@ pub by-step : {q q′ : State} (c : ℕ) → step q c ≡ some q′ → Leads q 
 unfolding place-after
 by-step c e = record { to = rw (e, place-after) }
 
-place-append : (v : Bytes) (q q′ : State) (w : Bytes) → place-after q v ≡ some q′ → place-after q (v ++ w) ≡ place-after q′ w
+pub place-append : (v : Bytes) (q q′ : State) (w : Bytes) → place-after q v ≡ some q′ → place-after q (v ++ w) ≡ place-after q′ w
 unfolding place-after
 place-append [] q q′ w e = let f : q ≡ q′ = cc in rw f
 place-append (c ∷ v) q q′ w e = go (step q c) (λ x. place-append v x q′ w) e

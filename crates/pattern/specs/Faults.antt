@@ -11,8 +11,8 @@ use Rattle.pattern.specs.Numbers.{atom-limit, depth-limit, number-limit,
 use Rattle.pattern.specs.Bytes.{Bytes}
 use Rattle.pattern.specs.Codes.{bit}
 use Rattle.pattern.specs.Syntax.{pattern, Syntax}
-use Rattle.pattern.specs.Spelling.{Mark, counts, kind, Spells}
-use Rattle.pattern.specs.Reading.{Run, empty, pointed, top, State, grow, step, finish, start}
+use Rattle.pattern.specs.Spelling.{kind, Spells}
+use Rattle.pattern.specs.Reading.{Run, empty, pointed, top, State, step, finish, start}
 use Rattle.pattern.specs.Places.{place-after, Runs, begun-at}
 use Rattle.pattern.specs.Scan.{low, high, ahead, depth, Begins, an-atom, a-second, a-code, a-group, nothing, begins, large, falls, Outcome, refused, accepted}
 
@@ -89,10 +89,7 @@ unfoldable pub Least : Bytes → Outcome → Type 0
 Least s (refused f p) = Applies (rows-at s p) f × ((g : ℕ) → Applies (rows-at s p) g → f ≤ g) × ((j g : ℕ) → j < p → ¬ Applies (rows-at s j) g)
 Least s (accepted t) = (j g : ℕ) → ¬ Applies (rows-at s j) g
 
--- "taken as the longest run": the first bytes of s spell the run, and the next one does not go on with it
-unfoldable pub Halts : Run → Bytes → Type 0
-Halts r [] = Unit {0}
-Halts r (c ∷ s) = (m : Mark) → kind c ≡ counts m → grow r m c ≡ none
-
+-- "taken as the longest run": the first bytes of s spell the run, and those with more bytes spell none
 unfoldable pub LongestRun : Run → Bytes → Type 0
-LongestRun r s = (w rest : Bytes) × (s ≡ w ++ rest) × Runs (top []) r w × Halts r rest
+LongestRun r s =
+    (w rest : Bytes) × (s ≡ w ++ rest) × Runs (top []) r w × ((x y : Bytes) (r′ : Run) → rest ≡ x ++ y → Runs (top []) r′ (w ++ x) → x ≡ [])
