@@ -20,5 +20,6 @@ pub mod Records
 pub mod RoundTrip
 pub mod Calls
 pub mod Union
+pub mod Rooms
 pub mod Nodes
 pub mod LongestRuns

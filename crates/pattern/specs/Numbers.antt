@@ -1,6 +1,6 @@
 -- The numbers of the paper: limits, refusals, mark and sizes, each named once. Assumes nothing.
 use mathlib.Core.List.{List, [], _∷_}
-use Prim.Native.Nat.{ℕ}
+use Prim.Native.Nat.{ℕ, _+_, _*_}
 
 -- "source at most 512 bytes"
 abbrev pub source-limit : ℕ
@@ -106,3 +106,10 @@ record-size = 10
 -- "high is 65,535 for no upper end"
 abbrev pub open-high : ℕ
 open-high = 65535
+
+-- sizes that suffice for every table, and for the parts of every table
+abbrev pub table-room : ℕ
+table-room = header-size + record-size * atom-limit + source-limit
+
+abbrev pub parts-room : ℕ
+parts-room = 2 * atom-limit

@@ -1,0 +1,88 @@
+-- Sizes that always suffice: for a table, for its parts, and for a source that is written back. Assumes nothing.
+use mathlib.Core.Path.{_≡_, ap}
+use mathlib.Core.Bool.{Bool, true, false}
+use mathlib.Core.List.{[], _∷_}
+use mathlib.Core.Option.{some}
+use Prim.Native.Nat.{ℕ, _*_, _≤_, _<_}
+use native.Mathlib.Omega.{arith}
+use lib.ListN.{length, drop, length-append}
+use Rattle.pattern.specs.Numbers.{source-limit, table-room, parts-room, quote-byte, closing-byte, comma-byte}
+use Rattle.pattern.specs.Bytes.{Bytes, over}
+use Rattle.pattern.specs.Syntax.{Sort, pattern, Syntax, last, then, repeat, codes, literal, group, only, or, size, top-size}
+use Rattle.pattern.specs.Meaning.{Cut}
+use Rattle.pattern.specs.Spelling.{Quoted, start, byte, quote, Spells}
+use Rattle.pattern.specs.Scan.{Outcome, refused, accepted, outcome}
+use Rattle.pattern.specs.Print.{print}
+use Rattle.pattern.specs.Table.{pool, records, header, encode}
+use Rattle.pattern.specs.Decode.{decode}
+use Rattle.pattern.specs.Answers.{result, put-if, put, compiled, compileOf}
+use Rattle.pattern.proofs.Records.{length-flat, count-records}
+use Rattle.pattern.proofs.RoundTrip.{some-atom}
+use Rattle.pattern.proofs.Accepted.{accepted-exactly}
+use Rattle.pattern.proofs.Calls.{print-accepted, compile-accepted, compile-zero}
+
+-- a source is longer than the literals' values in it
+quoted-pool : {v s : Bytes} → Quoted v s → length v ≤ length s
+quoted-pool start = omega arith
+quoted-pool (byte {v} {s} q c e) = omega (arith, quoted-pool q, length-append v (c ∷ []), length-append s (c ∷ []))
+quoted-pool (quote {v} {s} q) = omega (arith, quoted-pool q, length-append v (quote-byte ∷ []), length-append s (quote-byte ∷ quote-byte ∷ []))
+
+spelt-pool : {o : Sort} (x : Syntax o) (s : Bytes) → Spells x s → length (pool x) ≤ length s
+unfolding Spells Cut pool
+spelt-pool (last a) s h = spelt-pool a s h
+spelt-pool (then a p) s (u, v, e, x, y) = omega (arith, ap length e, length-append u v, spelt-pool a u x, spelt-pool p v y, length-append (pool a) (pool p))
+spelt-pool (repeat low high b) s (u, v, e, x, y) = omega (arith, ap length e, length-append u v, spelt-pool b v y)
+spelt-pool (codes set) s h = omega arith
+spelt-pool (literal value) s (q, e, r) = omega (arith, ap length e, length-append q (quote-byte ∷ []), quoted-pool r)
+spelt-pool (group bs) s (w, e, h) = omega (arith, ap length e, length-append w (closing-byte ∷ []), spelt-pool bs w h)
+spelt-pool (only p) s h = spelt-pool p s h
+spelt-pool (or p bs) s (u, w, e, x, y) = omega (arith, ap length e, length-append u (comma-byte ∷ w), spelt-pool p u x, spelt-pool bs w y, length-append (pool p) (pool bs))
+
+top-le : (p : Syntax pattern) → top-size p ≤ size p
+unfolding top-size size
+top-le (last a) = some-atom a
+top-le (then a p) = omega (arith, some-atom a, top-le p)
+
+-- an accepted source's table and parts
+module _ (source : Bytes) (t : Syntax pattern) (good : outcome source ≡ accepted t) where
+  pub table-fits : length (encode t) ≤ table-room
+  unfolding encode header
+  table-fits =
+      let (n, s, l) = accepted-exactly source t .0 good in
+      omega (arith, l .atoms, spelt-pool t source s, length-flat (records 1 t 0 0) (pool t), count-records 1 t 0 0)
+
+  pub parts-fit : 2 * top-size t ≤ parts-room
+  parts-fit = let (n, s, l) = accepted-exactly source t .0 good in omega (arith, l .atoms, top-le t)
+
+  -- so the source is never refused for room
+  pub table-has-room : (lent : Bytes) → table-room ≤ length lent → compileOf source lent ≡ record { answer = result (length (encode t)) 0; bytes = over (encode t) lent }
+  table-has-room lent r =
+      let (n, s, l) = accepted-exactly source t .0 good in
+      compile-accepted source lent t n s l (omega (arith, table-fits))
+
+-- the source of a good table
+pub source-fits : (table : Bytes) (t : Syntax pattern) → decode table ≡ some t → length (print t) ≤ source-limit
+source-fits table t good = accepted-exactly (print t) t .0 (print-accepted table t good) .0
+
+-- ---- a compiled table in its lent bytes
+
+put-within : (b : Bool) (p : ℕ) (w l : Bytes) → put-if b p w l .answer .value ≤ length (put-if b p w l .bytes)
+unfolding put-if over
+put-within true p w l = omega (arith, length-append w (drop (length w) l))
+put-within false p w l = omega arith
+
+pub compile-fits : (s l : Bytes) → compileOf s l .answer .value ≤ length (compileOf s l .bytes)
+unfolding compileOf compiled put
+compile-fits s l = go (outcome s)
+  where
+    go : (o : Outcome) → compiled o s l .answer .value ≤ length (compiled o s l .bytes)
+    go (refused f p) = omega arith
+    go (accepted t) = put-within _ (length s) (encode t) l
+
+encode-some : (t : Syntax pattern) → 0 < length (encode t)
+unfolding encode header
+encode-some t = omega arith
+
+-- no table has length 0
+pub compile-some : (s l : Bytes) → compileOf s l .answer .number ≡ 0 → 0 < compileOf s l .answer .value
+compile-some s l e = let (t, n, h, g, r) = compile-zero s l e in rw (compile-accepted s l t n h g r) (encode-some t)
