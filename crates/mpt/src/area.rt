@@ -2,7 +2,7 @@
 ghost use mathlib.Core.Path.{_≡_};
 ghost use Prim.Native.Nat.{_+_, _≤_};
 ghost use lib.ListN.{length};
-ghost use lib.Seq.{sets};
+ghost use Rattle.pattern.specs.Stores.{stored};
 ghost use Rattle.pattern.specs.Bytes.{over};
 ghost use Rattle.mpt.specs.Area.{area-size, little, area};
 
@@ -11,7 +11,7 @@ pub const AREA_SIZE: usize = 32;
 // A number in eight bytes, from a place on.
 fn put_number(answer: &mut [u8], at: usize, x: u64)
     requires { ⌜ at + 8 ≤ length (now answer) ⌝ }
-    ensures { λ r. ⌜ now (answer .exit) ≡ sets (now (answer .entry)) at (little 8 x) ⌝ }
+    ensures { λ r. ⌜ now (answer .exit) ≡ stored (now (answer .entry)) at (little 8 x) ⌝ }
 {
     let mut left = x;
     let mut j: usize = 0;

@@ -1,6 +1,6 @@
 -- `area::put_answer` meets its contract: four numbers, one after the other. Assumes nothing.
 use mathlib.Core.Path.{ap, _∙_}
-use lib.Seq.{sets}
+use Rattle.pattern.specs.Stores.{stored}
 use Rattle.mpt.specs.Area.{little, area}
 use Rattle.mpt.proofs.Stores.{four-over}
 use borrow.Author.Needs.{needs}
@@ -27,9 +27,9 @@ unfolding area
 returns c =
     let args = c .before .before .before .before .before .before .before .before .before .before .before .before .before .before .before .before .before .args in
     c .before .before .put-number4 .ensures
-    ∙ ap (λ u. sets u 24 (little 8 0)) (c .before .before .before .before .before .before .put-number3 .ensures
-    ∙ ap (λ u. sets u 16 (little 8 (args .trials))) (c .before .before .before .before .before .before .before .before .before .before .put-number2 .ensures
-    ∙ ap (λ u. sets u 8 (little 8 (args .value))) (c .before .before .before .before .before .before .before .before .before .before .before .before .before .before .put-number .ensures)))
+    ∙ ap (λ u. stored u 24 (little 8 0)) (c .before .before .before .before .before .before .put-number3 .ensures
+    ∙ ap (λ u. stored u 16 (little 8 (args .trials))) (c .before .before .before .before .before .before .before .before .before .before .put-number2 .ensures
+    ∙ ap (λ u. stored u 8 (little 8 (args .value))) (c .before .before .before .before .before .before .before .before .before .before .before .before .before .before .put-number .ensures)))
     ∙ four-over _ (args .position) (args .value) (args .trials) 0 (c .before .before .before .before .before .before .before .before .before .before .before .before .before .before .before .before .before .pre)
 
 pub put-answer-spec : {M : Type 1} → statement M

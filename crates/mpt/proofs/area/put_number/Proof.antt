@@ -1,9 +1,9 @@
 -- `area::put_number` meets its contract: what is stored and what is still to be stored make the whole number. Assumes nothing.
-use mathlib.Core.Path.{_≡_, refl, sym, ap, _∙_}
+use mathlib.Core.Path.{_≡_, refl, sym, _∙_}
 use Prim.Native.Nat.{_+_, _-_, _≤_}
 use native.Mathlib.Omega.{arith}
 use lib.ListN.{length, length-set}
-use lib.Seq.{sets}
+use Rattle.pattern.specs.Stores.{stored}
 use Rattle.mpt.specs.Area.{little}
 use Rattle.mpt.proofs.Stores.{store-next, store-end}
 use Rattle.mpt.proofs.area.put_number.Statement.{statement}
@@ -11,7 +11,7 @@ use Rattle.mpt.proofs.area.put_number.Tie as tie
 
 abbrev Inv-loop : tie.InvT-loop
 Inv-loop answer₀ at x left₀ j₀ answer left j =
-    (j ≤ 8) × (length answer ≡ length answer₀) × (sets answer (at + j) (little (8 - j) left) ≡ sets answer₀ at (little 8 x))
+    (j ≤ 8) × (length answer ≡ length answer₀) × (stored answer (at + j) (little (8 - j) left) ≡ stored answer₀ at (little 8 x))
 
 abbrev μ-loop : tie.MeasureT-loop
 μ-loop answer₀ at x left₀ j₀ answer left j = 8 - j
