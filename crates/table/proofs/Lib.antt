@@ -8,5 +8,6 @@ pub mod Sources
 pub mod Measures
 pub mod Leafing
 pub mod Steps
+pub mod Walks
 pub mod Moves
 pub mod Checks

@@ -18,15 +18,17 @@ use Rattle.pattern.specs.Decode.{high-of}
 use Rattle.table.specs.Fields.{record-of}
 use Rattle.table.specs.Checked.{ordered, after, only-if, choose, its, leaf as leaf-read, closed, read-pattern, read-atom, read-branches}
 use Rattle.table.specs.Leaves.{as-rec, leaf-of}
-use Rattle.table.specs.Walk.{Place, place, beyond, to, came, passed-by, walked-by, reach}
+use Rattle.table.specs.Walk.{place, beyond, passed-by, walked-by, reach}
 use Rattle.table.specs.declared.Record.{Record}
 use Rattle.table.specs.declared.walk.Leaf.the-variants as leaf
+use Rattle.table.specs.declared.walk.Place.{Place}
 use Rattle.table.specs.declared.walk.Passed.{Passed}
 use Rattle.table.specs.declared.walk.Passed.the-variants as passed
 use Rattle.table.specs.declared.walk.Walked.{Walked}
 use Rattle.table.specs.declared.walk.Walked.the-variants as walked
 use Rattle.table.proofs.Options.{kept, dropped, first, second, going-on, stopped}
 use Rattle.table.proofs.Complete.{by-record}
+use Rattle.table.proofs.Moves.{byte-on, leaf-on, bracket-on}
 use Rattle.table.proofs.Leafing.{no-atoms}
 
 -- ---- what an answer says
@@ -34,9 +36,9 @@ use Rattle.table.proofs.Leafing.{no-atoms}
 pub place-eq : {a b c x y z : ℕ} → a ≡ x → b ≡ y → c ≡ z → place a b c ≡ place x y z
 place-eq e f g = λ j. place (e j) (f j) (g j)
 
-to-some : {k : Sort} (at : Place) (o : Option (Syntax k)) (e : Place) → to e ≡ passed-by at o → (t : Syntax k) × (o ≡ some t) × (e ≡ beyond at t)
+to-some : {k : Sort} (at : Place) (o : Option (Syntax k)) (e : Place) → passed.To e ≡ passed-by at o → (t : Syntax k) × (o ≡ some t) × (e ≡ beyond at t)
 unfolding passed-by
-to-some at (some t) e q = (t, refl, place-eq (cc) (cc) (cc))
+to-some at (some t) e q = (t, refl, cc)
 to-some at none e q = let z : _≡_ {A = ℕ} 0 1 = cc in absurd (omega arith)
 
 bad-none : {k : Sort} (at : Place) (o : Option (Syntax k)) → passed.Bad ≡ passed-by at o → o ≡ none
@@ -44,9 +46,9 @@ unfolding passed-by
 bad-none at (some t) q = let z : _≡_ {A = ℕ} 0 1 = cc in absurd (omega arith)
 bad-none at none q = refl
 
-pub walked-some : (at : Place) (o : Option (Syntax pattern)) (e : Place) {n : ℕ} → came e n ≡ walked-by at o → (t : Syntax pattern) × (o ≡ some t) × (e ≡ beyond at t) × (n ≡ top-size t)
+pub walked-some : (at : Place) (o : Option (Syntax pattern)) (e : Place) {n : ℕ} → walked.To e n ≡ walked-by at o → (t : Syntax pattern) × (o ≡ some t) × (e ≡ beyond at t) × (n ≡ top-size t)
 unfolding walked-by
-walked-some at (some t) e q = (t, refl, place-eq (cc) (cc) (cc), cc)
+walked-some at (some t) e q = (t, refl, cc, cc)
 walked-some at none e q = let z : _≡_ {A = ℕ} 0 1 = cc in absurd (omega arith)
 
 pub walked-none : (at : Place) (o : Option (Syntax pattern)) → walked.Bad ≡ walked-by at o → o ≡ none
@@ -83,14 +85,14 @@ module _ (s : Bytes) (A : ℕ) (at : Place) (d : ℕ) where
   pattern-none r zero n = absurd (omega arith)
   pattern-none r (suc f) n = sym (ap (walked-by at) (stopped _ _ (bad-none at _ (r f (omega arith)))))
 
-  pub pattern-last : (next : Place) → AtomReads s A at d (to next) → its s A (at .atom) .ends ≡ 1 → PatternReads s A at d (came next 1)
+  pub pattern-last : (next : Place) → AtomReads s A at d (passed.To next) → its s A (at .atom) .ends ≡ 1 → PatternReads s A at d (walked.To next 1)
   unfolding read-pattern walked-by size pool print top-size
   pattern-last next r e zero n = absurd (omega arith)
   pattern-last next r e (suc f) n =
       let (a, o, q) = to-some at _ next (r f (omega arith)) in
-      ap (λ x. came x 1) q ∙ sym (ap (walked-by at) (going-on _ _ o ∙ first _ _ _ (eq-eqb _ _ e)))
+      ap (λ x. walked.To x 1) q ∙ sym (ap (walked-by at) (going-on _ _ o ∙ first _ _ _ (eq-eqb _ _ e)))
 
-  pub pattern-other : (next : Place) → AtomReads s A at d (to next) → (its s A (at .atom) .ends ≡ 1 → ⊥) → (its s A (at .atom) .ends ≡ 0 → ⊥)
+  pub pattern-other : (next : Place) → AtomReads s A at d (passed.To next) → (its s A (at .atom) .ends ≡ 1 → ⊥) → (its s A (at .atom) .ends ≡ 0 → ⊥)
       → PatternReads s A at d walked.Bad
   unfolding read-pattern walked-by
   pattern-other next r e g zero n = absurd (omega arith)
@@ -98,7 +100,7 @@ module _ (s : Bytes) (A : ℕ) (at : Place) (d : ℕ) where
       let (a, o, q) = to-some at _ next (r f (omega arith)) in
       sym (ap (walked-by at) (going-on _ _ o ∙ second _ _ _ (ne-eqb _ _ e) ∙ dropped _ _ (ne-eqb _ _ g)))
 
-  module _ (next : Place) (r : AtomReads s A at d (to next)) (on : at .atom < next .atom) (in-table : next .atom ≤ A)
+  module _ (next : Place) (r : AtomReads s A at d (passed.To next)) (on : at .atom < next .atom) (in-table : next .atom ≤ A)
       (e : its s A (at .atom) .ends ≡ 0) where
     not-last : its s A (at .atom) .ends ≡ 1 → ⊥
     not-last g = omega (arith, e, g)
@@ -112,7 +114,7 @@ module _ (s : Bytes) (A : ℕ) (at : Place) (d : ℕ) where
         let v2 = ap (λ (x : Place). read-pattern s A f (x .atom) (x .pool) d) (sym q) ∙ v in
         sym (ap (walked-by at) (going-on _ _ o ∙ second _ _ _ (ne-eqb _ _ not-last) ∙ kept _ _ (eq-eqb _ _ e) ∙ stopped _ _ v2))
 
-    pub then-more : (dest : Place) {n : ℕ} → PatternReads s A next d (came dest n) → PatternReads s A at d (came dest (n + 1))
+    pub then-more : (dest : Place) {n : ℕ} → PatternReads s A next d (walked.To dest n) → PatternReads s A at d (walked.To dest (1 + n))
     unfolding read-pattern walked-by size pool print top-size
     then-more dest w zero n = absurd (omega arith)
     then-more dest {n = m} w (suc f) n =
@@ -122,8 +124,8 @@ module _ (s : Bytes) (A : ℕ) (at : Place) (d : ℕ) where
         let u2 = u ∙ ap (λ (x : Place). beyond x t) q in
         let z : beyond (beyond at a) t ≡ beyond at (then a t) =
         place-eq (omega arith) (omega (arith, length-append (pool a) (pool t))) (omega (arith, length-append (print a) (print t))) in
-        let k2 : m + 1 ≡ suc (top-size t) = omega (arith, k) in
-        ap₂ (λ x y. came x y) (u2 ∙ z) k2
+        let k2 : 1 + m ≡ suc (top-size t) = omega (arith, k) in
+        ap₂ walked.To (u2 ∙ z) k2
         ∙ sym (ap (walked-by at) (going-on _ _ o ∙ second _ _ _ (ne-eqb _ _ not-last) ∙ kept _ _ (eq-eqb _ _ e) ∙ going-on _ _ v2))
 
   -- ---- an atom
@@ -156,9 +158,9 @@ module _ (s : Bytes) (A : ℕ) (at : Place) (d : ℕ) where
       no-body f e = sym (ap (passed-by at) (by-its f ∙ kept _ _ (lt-ltb _ _ on) ∙ kept _ _ o ∙ stopped _ _ e))
 
       some-body : (f : ℕ) (b : Syntax body) → body-read f ≡ some b → (dest : Place) → dest ≡ beyond at (repeat (r .low) (high-of (r .high)) b)
-          → to dest ≡ passed-by at (read-atom s A (suc f) (at .atom) (at .pool) d)
+          → passed.To dest ≡ passed-by at (read-atom s A (suc f) (at .atom) (at .pool) d)
       unfolding passed-by
-      some-body f b e dest u = ap (λ x. to x) u ∙ sym (ap (passed-by at) (by-its f ∙ kept _ _ (lt-ltb _ _ on) ∙ kept _ _ o ∙ going-on _ _ e))
+      some-body f b e dest u = ap passed.To u ∙ sym (ap (passed-by at) (by-its f ∙ kept _ _ (lt-ltb _ _ on) ∙ kept _ _ o ∙ going-on _ _ e))
 
       -- ---- a leaf
 
@@ -167,7 +169,7 @@ module _ (s : Bytes) (A : ℕ) (at : Place) (d : ℕ) where
       atom-leafless k e (suc f) n = no-body f (second _ _ _ (ne-eqb _ _ k) ∙ leaf-none _ e)
 
       pub atom-leaf : (c v w : ℕ) → c ≡ length (print-count (r .low) (high-of (r .high))) → (r .kind ≡ 3 → ⊥) → leaf.Is v w ≡ leaf-of (leaf-read s A (as-rec r) (at .pool))
-          → AtomReads s A at d (to (place (at .atom + 1) (at .pool + v) (at .source + c + w)))
+          → AtomReads s A at d (passed.To (leaf-on at c v w))
       unfolding size pool print
       atom-leaf c v w g k e zero n = absurd (omega arith)
       atom-leaf c v w g k e (suc f) n =
@@ -184,33 +186,30 @@ module _ (s : Bytes) (A : ℕ) (at : Place) (d : ℕ) where
         atom-deep e (suc f) n = no-body f (first _ _ _ (eq-eqb _ _ k) ∙ dropped _ _ (le-ltb _ _ e))
 
         module _ (c : ℕ) (g : c ≡ length (print-count (r .low) (high-of (r .high)))) (shallow : d < depth-limit) where
-          abbrev inner : Place
-          inner = place (at .atom + 1) (at .pool) (at .source + c + 1)
-
           -- the branches, as the model has them
           as-read : (f : ℕ) (x : Option (Syntax branches)) → read-branches s A f (r .a) (at .atom + 1) (at .pool) (d + 1) ≡ x
               → read-branches s A f (r .a) (suc (at .atom)) (at .pool) (suc d) ≡ x
           as-read f x e = ap₂ (λ i d. read-branches s A f (r .a) i (at .pool) d) (sym (add-one (at .atom))) (sym (add-one d)) ∙ e
 
-          pub group-none : GroupReads s A inner (d + 1) (r .a) passed.Bad → AtomReads s A at d passed.Bad
+          pub group-none : GroupReads s A (bracket-on at c) (d + 1) (r .a) passed.Bad → AtomReads s A at d passed.Bad
           group-none w zero n = absurd (omega arith)
           group-none w (suc f) n =
-              no-body f (first _ _ _ (eq-eqb _ _ k) ∙ kept _ _ (lt-ltb _ _ shallow) ∙ stopped _ _ (as-read f _ (bad-none inner _ (w f (omega arith)))))
+              no-body f (first _ _ _ (eq-eqb _ _ k) ∙ kept _ _ (lt-ltb _ _ shallow) ∙ stopped _ _ (as-read f _ (bad-none (bracket-on at c) _ (w f (omega arith)))))
 
-          pub group-apart : (dest : Place) → GroupReads s A inner (d + 1) (r .a) (to dest) → (dest .atom ≡ r .b → ⊥) → AtomReads s A at d passed.Bad
+          pub group-apart : (dest : Place) → GroupReads s A (bracket-on at c) (d + 1) (r .a) (passed.To dest) → (dest .atom ≡ r .b → ⊥) → AtomReads s A at d passed.Bad
           unfolding closed
           group-apart dest w e zero n = absurd (omega arith)
           group-apart dest w e (suc f) n =
-              let (bs, q, u) = to-some inner _ dest (w f (omega arith)) in
+              let (bs, q, u) = to-some (bracket-on at c) _ dest (w f (omega arith)) in
               let u2 = ap (λ (x : Place). x .atom) u in
               no-body f (first _ _ _ (eq-eqb _ _ k) ∙ kept _ _ (lt-ltb _ _ shallow) ∙ going-on _ _ (as-read f _ q) ∙ dropped _ _ (ne-eqb (suc (at .atom) + size bs) (r .b) (λ z. e (omega (arith, u2, z)))))
 
-          pub group-closed : (dest : Place) → GroupReads s A inner (d + 1) (r .a) (to dest) → dest .atom ≡ r .b
-              → AtomReads s A at d (to (place (dest .atom) (dest .pool) (dest .source + 1)))
+          pub group-closed : (dest : Place) → GroupReads s A (bracket-on at c) (d + 1) (r .a) (passed.To dest) → dest .atom ≡ r .b
+              → AtomReads s A at d (passed.To (byte-on dest))
           unfolding closed size pool print
           group-closed dest w e zero n = absurd (omega arith)
           group-closed dest w e (suc f) n =
-              let (bs, q, u) = to-some inner _ dest (w f (omega arith)) in
+              let (bs, q, u) = to-some (bracket-on at c) _ dest (w f (omega arith)) in
               let u1 = ap (λ (x : Place). x .atom) u in
               let u2 = ap (λ (x : Place). x .pool) u in
               let u3 = ap (λ (x : Place). x .source) u in
@@ -235,42 +234,39 @@ module _ (s : Bytes) (A : ℕ) (at : Place) (d : ℕ) where
     branch-none w zero n = absurd (omega arith)
     branch-none w (suc f) n = sym (ap (passed-by at) (kept _ _ (lt-ltb 0 k more-left) ∙ stopped _ _ (walked-none at _ (w f (omega arith)))))
 
-    pub branch-only : (next : Place) {m : ℕ} → PatternReads s A at d (came next m) → k ≡ 1 → GroupReads s A at d k (to next)
+    pub branch-only : (next : Place) {m : ℕ} → PatternReads s A at d (walked.To next m) → k ≡ 1 → GroupReads s A at d k (passed.To next)
     unfolding read-pattern passed-by size pool print
     branch-only next w e zero n = absurd (omega arith)
     branch-only next w e (suc f) n =
         let (t, v, u, z) = walked-some at _ next (w f (omega arith)) in
-        ap (λ x. to x) u ∙ sym (ap (passed-by at) (kept _ _ (lt-ltb 0 k more-left) ∙ going-on _ _ v ∙ first _ _ _ (eq-eqb _ _ e)))
+        ap passed.To u ∙ sym (ap (passed-by at) (kept _ _ (lt-ltb 0 k more-left) ∙ going-on _ _ v ∙ first _ _ _ (eq-eqb _ _ e)))
 
-    module _ (next : Place) {m : ℕ} (w : PatternReads s A at d (came next m)) (on : at .atom < next .atom) (in-table : next .atom ≤ A) (e : k ≡ 1 → ⊥) where
-      abbrev again : Place
-      again = place (next .atom) (next .pool) (next .source + 1)
-
+    module _ (next : Place) {m : ℕ} (w : PatternReads s A at d (walked.To next m)) (on : at .atom < next .atom) (in-table : next .atom ≤ A) (e : k ≡ 1 → ⊥) where
       as-left : (f : ℕ) (t : Syntax pattern) (x : Option (Syntax branches)) → next ≡ beyond at t → read-branches s A f (k - 1) (next .atom) (next .pool) d ≡ x
           → read-branches s A f (pred k) (at .atom + size t) (at .pool + length (pool t)) d ≡ x
       as-left f t x u q =
           let z : pred k ≡ k - 1 = omega arith in
           ap₂ (λ (y : Place) j. read-branches s A f j (y .atom) (y .pool) d) (sym u) z ∙ q
 
-      pub branches-bad : GroupReads s A again d (k - 1) passed.Bad → GroupReads s A at d k passed.Bad
+      pub branches-bad : GroupReads s A (byte-on next) d (k - 1) passed.Bad → GroupReads s A at d k passed.Bad
       unfolding read-pattern passed-by
       branches-bad x zero n = absurd (omega arith)
       branches-bad x (suc f) n =
           let (t, v, u, z) = walked-some at _ next (w f (omega arith)) in
-          sym (ap (passed-by at) (kept _ _ (lt-ltb 0 k more-left) ∙ going-on _ _ v ∙ second _ _ _ (ne-eqb _ _ e) ∙ stopped _ _ (as-left f t _ u (bad-none again (read-branches s A f (k - 1) (next .atom) (next .pool) d) (x f (omega arith))))))
+          sym (ap (passed-by at) (kept _ _ (lt-ltb 0 k more-left) ∙ going-on _ _ v ∙ second _ _ _ (ne-eqb _ _ e) ∙ stopped _ _ (as-left f t _ u (bad-none (byte-on next) (read-branches s A f (k - 1) (next .atom) (next .pool) d) (x f (omega arith))))))
 
-      pub branches-more : (dest : Place) → GroupReads s A again d (k - 1) (to dest) → GroupReads s A at d k (to dest)
+      pub branches-more : (dest : Place) → GroupReads s A (byte-on next) d (k - 1) (passed.To dest) → GroupReads s A at d k (passed.To dest)
       unfolding read-pattern passed-by size pool print
       branches-more dest x zero n = absurd (omega arith)
       branches-more dest x (suc f) n =
           let (t, v, u, z) = walked-some at _ next (w f (omega arith)) in
-          let (bs, q, y) = to-some again (read-branches s A f (k - 1) (next .atom) (next .pool) d) dest (x f (omega arith)) in
-          let y2 = y ∙ ap (λ (p : Place). beyond {o = branches} (place (p .atom) (p .pool) (p .source + 1)) bs) u in
-          let l : beyond {o = branches} (place (at .atom + size t) (at .pool + length (pool t)) (at .source + length (print t) + 1)) bs ≡ beyond at (or t bs) =
+          let (bs, q, y) = to-some (byte-on next) (read-branches s A f (k - 1) (next .atom) (next .pool) d) dest (x f (omega arith)) in
+          let y2 = y ∙ ap (λ (p : Place). beyond {o = branches} (byte-on p) bs) u in
+          let l : beyond {o = branches} (byte-on (beyond at t)) bs ≡ beyond at (or t bs) =
           place-eq (omega arith) (omega (arith, length-append (pool t) (pool bs))) (omega (arith, length-append (print t) (comma-byte ∷ print bs))) in
-          ap (λ x. to x) (y2 ∙ l)
+          ap passed.To (y2 ∙ l)
           ∙ sym (ap (passed-by at) (kept _ _ (lt-ltb 0 k more-left) ∙ going-on _ _ v ∙ second _ _ _ (ne-eqb _ _ e) ∙ going-on _ _ (as-left f t _ u q)))
 
-      pub branches-on : (x : Passed) → GroupReads s A again d (k - 1) x → GroupReads s A at d k x
-      branches-on (passed.To j q m) g = branches-more (place j q m) g
+      pub branches-on : (x : Passed) → GroupReads s A (byte-on next) d (k - 1) x → GroupReads s A at d k x
+      branches-on (passed.To dest) g = branches-more dest g
       branches-on passed.Bad g = branches-bad g

@@ -11,16 +11,11 @@ use Rattle.pattern.specs.Print.{print}
 use Rattle.table.specs.Checked.{read-pattern, read-atom, read-branches}
 use Rattle.table.specs.declared.Tested.{Tested}
 use Rattle.table.specs.declared.Tested.the-variants as verdict
+use Rattle.table.specs.declared.walk.Place.{Place}
 use Rattle.table.specs.declared.walk.Passed.{Passed}
 use Rattle.table.specs.declared.walk.Passed.the-variants as passed
 use Rattle.table.specs.declared.walk.Walked.{Walked}
 use Rattle.table.specs.declared.walk.Walked.the-variants as walked
-
--- an atom, the bytes of the pool before it and the bytes of the source before it
-pub record Place : Type 0 where
-  pub atom : ℕ
-  pub pool : ℕ
-  pub source : ℕ
 
 abbrev pub place : (i p n : ℕ) → Place
 place i p n = record { atom = i; pool = p; source = n }
@@ -29,18 +24,12 @@ place i p n = record { atom = i; pool = p; source = n }
 abbrev pub beyond : {o : Sort} → Place → Syntax o → Place
 beyond at t = place (at .atom + size t) (at .pool + length (pool t)) (at .source + length (print t))
 
-abbrev pub to : Place → Passed
-to x = passed.To (x .atom) (x .pool) (x .source)
-
-abbrev pub came : Place → ℕ → Walked
-came x k = walked.To (x .atom) (x .pool) (x .source) k
-
 unfoldable pub passed-by : {o : Sort} → Place → Option (Syntax o) → Passed
-passed-by at (some t) = to (beyond at t)
+passed-by at (some t) = passed.To (beyond at t)
 passed-by at none = passed.Bad
 
 unfoldable pub walked-by : Place → Option (Syntax pattern) → Walked
-walked-by at (some t) = came (beyond at t) (top-size t)
+walked-by at (some t) = walked.To (beyond at t) (top-size t)
 walked-by at none = walked.Bad
 
 -- where a walk may begin
@@ -60,11 +49,11 @@ pub record Moved (s : Bytes) (A : ℕ) (at to : Place) : Type 0 where
   pub source : to .source + 1 + 20 * at .atom + 2 * at .pool ≤ at .source + 20 * to .atom + 2 * to .pool
 
 abbrev pub Past : Bytes → ℕ → Place → Passed → Type 0
-Past s A at (passed.To j q m) = Moved s A at (place j q m)
+Past s A at (passed.To next) = Moved s A at next
 Past s A at passed.Bad = Unit {0}
 
 abbrev pub PastW : Bytes → ℕ → Place → Walked → Type 0
-PastW s A at (walked.To j q m k) = Moved s A at (place j q m) × (at .atom + k ≤ j)
+PastW s A at (walked.To next k) = Moved s A at next × (at .atom + k ≤ next .atom)
 PastW s A at walked.Bad = Unit {0}
 
 -- how deep the calls go at most

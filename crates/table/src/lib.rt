@@ -6,6 +6,7 @@ mod walk;
 use opening::Opened;
 use pattern::limits::ATOM_LIMIT;
 use pattern::limits::SOURCE_LIMIT;
+use walk::Place;
 use walk::Walked;
 ghost use mathlib.Core.Path.{_≡_};
 ghost use Prim.Native.Nat.{_+_, _≤_, _<_};
@@ -76,21 +77,26 @@ pub fn test(table: &[u8]) -> Tested
             if ATOM_LIMIT < atoms {
                 return Tested::Bad;
             }
-            match walk::pattern(&table[records..], atoms, 0, 0, 0, 0) {
-                Walked::To(j, q, m, top) => {
-                    if j != atoms {
+            let start = Place {
+                atom: 0,
+                pool: 0,
+                source: 0,
+            };
+            match walk::pattern(&table[records..], atoms, start, 0) {
+                Walked::To(end, top) => {
+                    if end.atom != atoms {
                         return Tested::Bad;
                     }
-                    if q != h.length {
+                    if end.pool != h.length {
                         return Tested::Bad;
                     }
-                    if SOURCE_LIMIT < m {
+                    if SOURCE_LIMIT < end.source {
                         return Tested::Bad;
                     }
                     Tested::Good(Summary {
-                        atoms: j,
+                        atoms,
                         top,
-                        source: m,
+                        source: end.source,
                     })
                 }
                 Walked::Bad => Tested::Bad,

@@ -7,12 +7,12 @@ use pattern::limits::NUMBER_LIMIT;
 use pattern::limits::RECORD_SIZE;
 use pattern::repeat::Repeat;
 ghost use mathlib.Core.Path.{_≡_};
-ghost use Prim.Native.Nat.{ℕ, _+_, _*_, _≤_, _<_};
+ghost use Prim.Native.Nat.{_+_, _*_, _≤_, _<_};
 ghost use lib.ListN.{length};
 ghost use Rattle.pattern.specs.Numbers.{record-size};
 ghost use Rattle.table.specs.Checked.{ordered, a-set, its, leaf};
 ghost use Rattle.table.specs.Leaves.{as-rec, codes-leaf, text-leaf, LeafReady, LeafRead};
-ghost use Rattle.table.specs.Walk.{place, Ready, AtomPassed, PatternWalked, GroupPassed};
+ghost use Rattle.table.specs.Walk.{Ready, AtomPassed, PatternWalked, GroupPassed};
 
 // The bytes of a leaf in the pool and in the source.
 pub enum Leaf {
@@ -20,15 +20,22 @@ pub enum Leaf {
     Bad,
 }
 
-// The next atom, and the bytes of the pool and of the source before it.
+// An atom, and the bytes of the pool and of the source before it.
+pub struct Place {
+    pub atom: usize,
+    pub pool: usize,
+    pub source: usize,
+}
+
+// The place after an atom or a group.
 pub enum Passed {
-    To(usize, usize, usize),
+    To(Place),
     Bad,
 }
 
-// The same after a pattern, and how many atoms it has of its own.
+// The place after a pattern, and how many atoms it has of its own.
 pub enum Walked {
-    To(usize, usize, usize, usize),
+    To(Place, usize),
     Bad,
 }
 
@@ -110,46 +117,55 @@ fn ends_of(body: &[u8], i: usize) -> u8
     body[RECORD_SIZE * i + 1]
 }
 
-// A pattern from atom i on, p bytes of the pool and n of the source before it, inside depth groups.
-pub fn pattern(body: &[u8], atoms: usize, i: usize, p: usize, n: usize, depth: usize) -> Walked
-    requires { ⌜ Ready (now body) atoms (place i p n) depth ⌝ }
-    ensures { λ r. ⌜ PatternWalked (now (body .entry)) atoms (place i p n) depth r ⌝ }
+// A pattern from a place on, inside depth groups.
+pub fn pattern(body: &[u8], atoms: usize, at: Place, depth: usize) -> Walked
+    requires { ⌜ Ready (now body) atoms at depth ⌝ }
+    ensures { λ r. ⌜ PatternWalked (now (body .entry)) atoms at depth r ⌝ }
 {
-    match atom(body, atoms, i, p, n, depth) {
-        Passed::To(j, q, m) => {
-            let ends = ends_of(body, i);
-            if ends == 1 {
-                return Walked::To(j, q, m, 1);
-            }
-            if ends == 0 {
-                match pattern(body, atoms, j, q, m, depth) {
-                    Walked::To(x, y, z, top) => return Walked::To(x, y, z, top + 1),
-                    Walked::Bad => return Walked::Bad,
+    let mut from = at;
+    let mut before: usize = 0;
+    loop {
+        match atom(body, atoms, from, depth) {
+            Passed::To(next) => {
+                let ends = ends_of(body, from.atom);
+                if ends == 1 {
+                    return Walked::To(next, before + 1);
                 }
+                if ends != 0 {
+                    return Walked::Bad;
+                }
+                from = next;
+                before += 1;
             }
-            Walked::Bad
+            Passed::Bad => return Walked::Bad,
         }
-        Passed::Bad => Walked::Bad,
     }
 }
 
-// Atom i.
-fn atom(body: &[u8], atoms: usize, i: usize, p: usize, n: usize, depth: usize) -> Passed
-    requires { ⌜ Ready (now body) atoms (place i p n) depth ⌝ }
-    ensures { λ r. ⌜ AtomPassed (now (body .entry)) atoms (place i p n) depth r ⌝ }
+// The atom at a place.
+fn atom(body: &[u8], atoms: usize, at: Place, depth: usize) -> Passed
+    requires { ⌜ Ready (now body) atoms at depth ⌝ }
+    ensures { λ r. ⌜ AtomPassed (now (body .entry)) atoms at depth r ⌝ }
 {
+    let i = at.atom;
+    let p = at.pool;
     if atoms <= i {
         return Passed::Bad;
     }
     let r = super::fields(body, RECORD_SIZE * i);
     if is_ordered(r.low, r.high) {
-        let m = n + lengths::count_length(r.low, r.high);
+        let mut next = at;
+        next.atom = i + 1;
+        next.source += lengths::count_length(r.low, r.high);
         if r.kind == 3 {
             if depth < DEPTH_LIMIT {
-                match group(body, atoms, i + 1, p, m + 1, depth + 1, r.a as usize) {
-                    Passed::To(x, y, z) => {
-                        if x == r.b as usize {
-                            return Passed::To(x, y, z + 1);
+                next.source += 1;
+                match group(body, atoms, next, depth + 1, r.a as usize) {
+                    Passed::To(end) => {
+                        if end.atom == r.b as usize {
+                            let mut after = end;
+                            after.source += 1;
+                            return Passed::To(after);
                         }
                         return Passed::Bad;
                     }
@@ -159,28 +175,36 @@ fn atom(body: &[u8], atoms: usize, i: usize, p: usize, n: usize, depth: usize) -
             return Passed::Bad;
         }
         match leaf_at(body, atoms, r, p) {
-            Leaf::Is(v, w) => return Passed::To(i + 1, p + v, m + w),
+            Leaf::Is(v, w) => {
+                next.pool = p + v;
+                next.source += w;
+                return Passed::To(next);
+            }
             Leaf::Bad => return Passed::Bad,
         }
     }
     Passed::Bad
 }
 
-// k branches from atom i on.
-fn group(body: &[u8], atoms: usize, i: usize, p: usize, n: usize, depth: usize, k: usize) -> Passed
-    requires { ⌜ Ready (now body) atoms (place i p n) depth ⌝ }
-    ensures { λ r. ⌜ GroupPassed (now (body .entry)) atoms (place i p n) depth k r ⌝ }
+// k branches from a place on.
+fn group(body: &[u8], atoms: usize, at: Place, depth: usize, k: usize) -> Passed
+    requires { ⌜ Ready (now body) atoms at depth ⌝ }
+    ensures { λ r. ⌜ GroupPassed (now (body .entry)) atoms at depth k r ⌝ }
 {
-    if k == 0 {
-        return Passed::Bad;
-    }
-    match pattern(body, atoms, i, p, n, depth) {
-        Walked::To(x, y, z, _) => {
-            if k == 1 {
-                return Passed::To(x, y, z);
+    let mut from = at;
+    let mut left = k;
+    while 0 < left {
+        match pattern(body, atoms, from, depth) {
+            Walked::To(next, _) => {
+                if left == 1 {
+                    return Passed::To(next);
+                }
+                from = next;
+                from.source += 1;
+                left -= 1;
             }
-            group(body, atoms, x, y, z + 1, depth, k - 1)
+            Walked::Bad => return Passed::Bad,
         }
-        Walked::Bad => Passed::Bad,
     }
+    Passed::Bad
 }

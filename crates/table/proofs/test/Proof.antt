@@ -1,10 +1,16 @@
 -- `table::test` meets its contract: each answer is what the walk says of `decode`. Assumes nothing.
 use mathlib.Core.Path.{sym, _∙_}
 use borrow.Author.Needs.{needs}
-use Rattle.table.specs.Walk.{place}
-use Rattle.table.proofs.Checks.{ready-start, body-in, bad-head, bad-atoms, bad-walk, bad-count, bad-pool, bad-length, good-table}
+use Rattle.table.proofs.Checks.{HeadRead, BodyRead, ready-start, body-in, bad-head, bad-atoms, bad-walk, bad-count, bad-pool, bad-length, good-table}
 use Rattle.table.proofs.test.Statement.{statement}
 use Rattle.table.proofs.test.Tie as tie
+
+-- what is known where the header is there, and where its records were walked
+head-read : (c : tie.After-known-told) → HeadRead (c .before .before .before .before .before .args .table .now) (c .before .h .given .0 .0)
+head-read c = record { bytes = λ k. c .before .before .before .before .shared-slice-known .given k .fits; head = sym (c .before .h .given .1) ∙ c .before .before .before .head-of .ensures }
+
+body-read : (c : tie.After-pattern) → BodyRead (c .before .before .before .before .before .before .before .before .args .table .now) (c .before .before .before .before .h .given .0 .0) (c .pattern .result)
+body-read c = record { read-head = head-read (c .before .before .before); few = c .before .before .if1 .left; walks = c .pattern .ensures }
 
 head-of-requires : tie.Need-head-of-requires
 head-of-requires c κs = search needs
@@ -13,41 +19,31 @@ enum-known-h : tie.Need-enum-known-h
 enum-known-h c = search needs
 
 returns : tie.Need-returns
-returns c =
-    let s = c .before .before .before .before .before .before .args .table .now in
-    bad-atoms s (λ k. c .before .before .before .before .before .shared-slice-known .given k .fits) (c .before .before .h .given .0 .0) (sym (c .before .before .h .given .1) ∙ c .before .before .before .before .head-of .ensures) (c .if1 .taken)
+returns c = bad-atoms (head-read (c .before)) (c .if1 .taken)
 
 sub-pattern : tie.Need-sub-pattern
-sub-pattern c = body-in (c .before .before .before .before .before .before .args .table .now) (λ k. c .before .before .before .before .before .shared-slice-known .given k .fits) (c .before .before .h .given .0 .0) (sym (c .before .before .h .given .1) ∙ c .before .before .before .before .head-of .ensures)
+sub-pattern c = body-in (head-read (c .before))
 
 part-pattern-start : tie.Need-part-pattern-start
-part-pattern-start c =
-    let h = body-in (c .before .before .before .before .before .before .args .table .now) (λ k. c .before .before .before .before .before .shared-slice-known .given k .fits) (c .before .before .h .given .0 .0) (sym (c .before .before .h .given .1) ∙ c .before .before .before .before .head-of .ensures) in
-    search (needs, h)
+part-pattern-start c = search (needs, body-in (head-read (c .before)))
 
 part-pattern-end : tie.Need-part-pattern-end
 part-pattern-end c = search needs
 
 pattern-requires : tie.Need-pattern-requires
-pattern-requires c κs = ready-start (c .before .before .before .before .before .before .before .args .table .now) (λ k. c .before .before .before .before .before .before .shared-slice-known .given k .fits) (c .before .before .before .h .given .0 .0) (sym (c .before .before .before .h .given .1) ∙ c .before .before .before .before .before .head-of .ensures) (c .before .if1 .left)
+pattern-requires c κs = ready-start (head-read (c .before .before)) (c .before .if1 .left)
 
-enum-known-j : tie.Need-enum-known-j
-enum-known-j c = search needs
+enum-known-end : tie.Need-enum-known-end
+enum-known-end c = search needs
 
 returns-2 : tie.Need-returns-2
-returns-2 c =
-    let x = c .before .before .j .given .0 in
-    bad-count (c .before .before .before .before .before .before .before .before .before .before .before .before .args .table .now) (λ k. c .before .before .before .before .before .before .before .before .before .before .before .shared-slice-known .given k .fits) (c .before .before .before .before .before .before .before .before .h .given .0 .0) (sym (c .before .before .before .before .before .before .before .before .h .given .1) ∙ c .before .before .before .before .before .before .before .before .before .before .head-of .ensures) (c .before .before .before .before .before .before .if1 .left) (place (x .0) (x .1 .0) (x .1 .1 .0)) (x .1 .1 .1 .0) (λ f n. sym (c .before .before .j .given .1) ∙ c .before .before .before .before .pattern .ensures .reads f n) (c .if2 .taken)
+returns-2 c = bad-count (body-read (c .before .before .before .before .before)) (c .before .before .before .end .given .1) (c .if2 .taken)
 
 returns-3 : tie.Need-returns-3
-returns-3 c =
-    let x = c .before .before .before .before .j .given .0 in
-    bad-pool (c .before .before .before .before .before .before .before .before .before .before .before .before .before .before .args .table .now) (λ k. c .before .before .before .before .before .before .before .before .before .before .before .before .before .shared-slice-known .given k .fits) (c .before .before .before .before .before .before .before .before .before .before .h .given .0 .0) (sym (c .before .before .before .before .before .before .before .before .before .before .h .given .1) ∙ c .before .before .before .before .before .before .before .before .before .before .before .before .head-of .ensures) (c .before .before .before .before .before .before .before .before .if1 .left) (place (x .0) (x .1 .0) (x .1 .1 .0)) (x .1 .1 .1 .0) (λ f n. sym (c .before .before .before .before .j .given .1) ∙ c .before .before .before .before .before .before .pattern .ensures .reads f n) (c .before .before .if2 .left) (c .if3 .taken)
+returns-3 c = bad-pool (body-read (c .before .before .before .before .before .before .before .before)) (c .before .before .before .before .before .before .end .given .1) (c .before .before .before .if2 .left) (c .if3 .taken)
 
 returns-4 : tie.Need-returns-4
-returns-4 c =
-    let x = c .before .before .before .before .before .j .given .0 in
-    bad-length (c .before .before .before .before .before .before .before .before .before .before .before .before .before .before .before .args .table .now) (λ k. c .before .before .before .before .before .before .before .before .before .before .before .before .before .before .shared-slice-known .given k .fits) (c .before .before .before .before .before .before .before .before .before .before .before .h .given .0 .0) (sym (c .before .before .before .before .before .before .before .before .before .before .before .h .given .1) ∙ c .before .before .before .before .before .before .before .before .before .before .before .before .before .head-of .ensures) (c .before .before .before .before .before .before .before .before .before .if1 .left) (place (x .0) (x .1 .0) (x .1 .1 .0)) (x .1 .1 .1 .0) (λ f n. sym (c .before .before .before .before .before .j .given .1) ∙ c .before .before .before .before .before .before .before .pattern .ensures .reads f n) (c .before .before .before .if2 .left) (c .before .if3 .left) (c .if4 .taken)
+returns-4 c = bad-length (body-read (c .before .before .before .before .before .before .before .before .before .before)) (c .before .before .before .before .before .before .before .before .end .given .1) (c .before .before .before .before .before .if2 .left) (c .before .before .if3 .left) (c .if4 .taken)
 
 enum-told : tie.Need-enum-told
 enum-told c = search needs
@@ -56,15 +52,13 @@ enum-told-2 : tie.Need-enum-told-2
 enum-told-2 c = search needs
 
 returns-5 : tie.Need-returns-5
-returns-5 c =
-    let x = c .before .before .before .before .before .j .given .0 in
-    good-table (c .before .before .before .before .before .before .before .before .before .before .before .before .before .before .before .args .table .now) (λ k. c .before .before .before .before .before .before .before .before .before .before .before .before .before .before .shared-slice-known .given k .fits) (c .before .before .before .before .before .before .before .before .before .before .before .h .given .0 .0) (sym (c .before .before .before .before .before .before .before .before .before .before .before .h .given .1) ∙ c .before .before .before .before .before .before .before .before .before .before .before .before .before .head-of .ensures) (c .before .before .before .before .before .before .before .before .before .if1 .left) (place (x .0) (x .1 .0) (x .1 .1 .0)) (x .1 .1 .1 .0) (λ f n. sym (c .before .before .before .before .before .j .given .1) ∙ c .before .before .before .before .before .before .before .pattern .ensures .reads f n) (c .before .before .before .if2 .left) (c .before .if3 .left) (c .if4 .left)
+returns-5 c = good-table (body-read (c .before .before .before .before .before .before .before .before .before .before)) (c .before .before .before .before .before .before .before .before .end .given .1) (c .before .before .before .before .before .if2 .left) (c .before .before .if3 .left) (c .if4 .left)
 
 returns-6 : tie.Need-returns-6
-returns-6 c = bad-walk (c .before .before .before .before .before .before .before .before .before .before .args .table .now) (λ k. c .before .before .before .before .before .before .before .before .before .shared-slice-known .given k .fits) (c .before .before .before .before .before .before .h .given .0 .0) (sym (c .before .before .before .before .before .before .h .given .1) ∙ c .before .before .before .before .before .before .before .before .head-of .ensures) (c .before .before .before .before .if1 .left) (λ f n. sym (c .enum-told .given .1) ∙ c .before .before .pattern .ensures .reads f n)
+returns-6 c = bad-walk (body-read (c .before .before)) (c .enum-told .given .1)
 
 returns-7 : tie.Need-returns-7
-returns-7 c = bad-head (c .before .before .before .before .args .table .now) (λ k. c .before .before .before .shared-slice-known .given k .fits) (sym (c .enum-told2 .given .1) ∙ c .before .before .head-of .ensures)
+returns-7 c = bad-head (c .before .before .before .before .args .table .now) (λ k. c .before .before .before .shared-slice-known .given k .fits) (c .before .before .head-of .ensures) (c .enum-told2 .given .1)
 
 pub test-spec : {M : Type 1} → statement M
 test-spec =
@@ -77,7 +71,7 @@ test-spec =
     part-pattern-start
     part-pattern-end
     pattern-requires
-    enum-known-j
+    enum-known-end
     returns-2
     returns-3
     returns-4

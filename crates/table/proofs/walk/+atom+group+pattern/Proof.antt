@@ -1,14 +1,15 @@
--- The proof of the cycle of calls {atom, group, pattern}. The atoms left fall: an atom calls the branches from the next atom on, a group its first branch at the same place, a pattern its first atom at the same place.
+-- The proof of the cycle of calls {atom, group, pattern}. The atoms left fall: an atom calls the branches from the next atom on, a group a branch at the same place or further on, and so a pattern an atom.
 -- Assumes nothing.
 use mathlib.Core.Path.{sym, _∙_}
-use Prim.Native.Nat.{ℕ, _+_, _*_, _-_, _<_}
+use Prim.Native.Nat.{ℕ, _+_, _<_}
 use native.Mathlib.Omega.{arith}
 use borrow.Author.Needs.{needs}
 use borrow.Fn.Kinds.{In}
 use borrow.Fn.PlainCycle.{Measures, is, falls, and}
-use Rattle.table.specs.Walk.{place}
-use Rattle.table.proofs.Moves.{moved, movedW, shortened, fewer, ready-leaf, ready-on, ready-again, ready-inside, short-source, record-in, moved-then, past-again, moved-group, moved-leaf}
-use Rattle.table.proofs.Steps.{pattern-none, pattern-last, pattern-other, then-none, then-more, atom-over, atom-unordered, atom-leafless, atom-leaf, atom-deep, group-none, group-apart, group-closed, branches-none, branch-none, branch-only, branches-on}
+use Rattle.table.specs.Walk.{reach}
+use Rattle.table.proofs.Moves.{ready-leaf, ready-on, short-source, record-in}
+use Rattle.table.proofs.Steps.{atom-over, atom-unordered}
+use Rattle.table.proofs.Walks.{Counted, leaf-bad, leaf-moved, leaf-passed, too-deep, inner-ready, group-bad, dest-ready, group-elsewhere, group-passed, Going, going-start, going-bad, going-moved, going-last, going-other, going-more, Branching, branching-start, branching-over, branching-bad, branch-ready, branching-last, branching-more}
 use Rattle.table.proofs.walk.atom.Reads as atom
 use Rattle.table.proofs.walk.atom.Kinds as atom-kinds
 use Rattle.table.proofs.walk.+atom+group+pattern.Lts-atom as atom-lts
@@ -27,13 +28,13 @@ use Rattle.table.proofs.walk.+atom+group+pattern.{statement}
 use Rattle.table.proofs.walk.+atom+group+pattern.Tie.{close}
 
 abbrev μ-atom : Measures 1 atom-kinds.ps ℕ
-μ-atom κs a = 3 * (a .1 .0 - a .1 .1 .0)
+μ-atom κs a = reach (a .1 .0) (a .1 .1 .0)
 
 abbrev μ-group : Measures 1 group-kinds.ps ℕ
-μ-group κs a = 3 * (a .1 .0 - a .1 .1 .0) + 2
+μ-group κs a = reach (a .1 .0) (a .1 .1 .0) + 2
 
 abbrev μ-pattern : Measures 1 pattern-kinds.ps ℕ
-μ-pattern κs a = 3 * (a .1 .0 - a .1 .1 .0) + 1
+μ-pattern κs a = reach (a .1 .0) (a .1 .1 .0) + 1
 
 abbrev atom-at : ℕ → In 1 atom-kinds.ps
 atom-at t = and 1 atom-kinds.ps (is 1 atom-kinds.ps μ-atom t) atom.Pre
@@ -57,378 +58,184 @@ abbrev atom-claims : ℕ → atom-lts.Claims
 atom-claims t = (fields-reads.Asked, fields-reads.Learnt, is-ordered-reads.Asked, is-ordered-reads.Learnt, count-length-reads.Asked, count-length-reads.Learnt, group-below t, group.Post, leaf-at-reads.Asked, leaf-at-reads.Learnt)
 
 abbrev group-claims : ℕ → group-lts.Claims
-group-claims t = (pattern-below t, pattern.Post, group-below t, group.Post)
+group-claims t = (pattern-below t, pattern.Post)
 
 abbrev pattern-claims : ℕ → pattern-lts.Claims
-pattern-claims t = (atom-below t, atom.Post, ends-of-reads.Asked, ends-of-reads.Learnt, pattern-below t, pattern.Post)
+pattern-claims t = (atom-below t, atom.Post, ends-of-reads.Asked, ends-of-reads.Learnt)
+
+-- what is known where the length of a count was found
+atom-counted : (t : ℕ) (c : atom-lts.After-count-length (atom-claims t) (atom-at t) atom.Post)
+    → Counted (c .before .before .before .before .before .before .args .body .now) (c .before .before .before .before .before .before .args .atoms) (c .before .before .before .before .before .before .args .at) (c .before .before .before .before .before .before .args .depth) (c .before .before .before .fields .result) (c .count-length .result)
+atom-counted t c = record {
+  ready = c .before .before .before .before .before .before .pre .1;
+  on = c .before .before .before .before .if1 .left;
+  same = c .before .before .before .fields .ensures;
+  fits = sym (c .before .before .is-ordered .ensures) ∙ c .before .if2 .taken;
+  count = c .count-length .ensures .0;
+  short = c .count-length .ensures .1;
+}
 
 atom-returns : (t : ℕ) → atom-lts.Need-returns (atom-claims t) (atom-at t) atom.Post
-atom-returns t c =
-    let a = c .before .before .args in
-    let s = a .body .now in
-    let at = place (a .i) (a .p) (a .n) in
-    let ready = c .before .before .pre .1 in
-    record { past = tt; reads = atom-over s (a .atoms) at (a .depth) (c .if1 .taken) }
+atom-returns t c = record { past = tt; reads = atom-over _ _ _ _ (c .if1 .taken) }
 
 atom-mul-fields : (t : ℕ) → atom-lts.Need-mul-fields (atom-claims t) (atom-at t) atom.Post
 atom-mul-fields t c = omega arith
 
 atom-fields-requires : (t : ℕ) → atom-lts.Need-fields-requires (atom-claims t) (atom-at t) atom.Post
-atom-fields-requires t c κs =
-    let a = c .before .before .args in
-    let s = a .body .now in
-    let at = place (a .i) (a .p) (a .n) in
-    let ready = c .before .before .pre .1 in
-    record-in s (a .atoms) at (a .depth) ready (c .if1 .left)
+atom-fields-requires t c κs = record-in (c .before .before .pre .1) (c .if1 .left)
 
 atom-is-ordered-requires : (t : ℕ) → atom-lts.Need-is-ordered-requires (atom-claims t) (atom-at t) atom.Post
 atom-is-ordered-requires t c κs = search needs
 
+atom-add-next : (t : ℕ) → atom-lts.Need-add-next (atom-claims t) (atom-at t) atom.Post
+atom-add-next t c = omega arith
+
 atom-count-length-requires : (t : ℕ) → atom-lts.Need-count-length-requires (atom-claims t) (atom-at t) atom.Post
 atom-count-length-requires t c κs = search needs
 
-atom-add-m : (t : ℕ) → atom-lts.Need-add-m (atom-claims t) (atom-at t) atom.Post
-atom-add-m t c = omega arith
+atom-add-next-2 : (t : ℕ) → atom-lts.Need-add-next-2 (atom-claims t) (atom-at t) atom.Post
+atom-add-next-2 t c = omega (arith, short-source (c .before .before .before .before .before .before .before .pre .1))
+
+atom-add-next-3 : (t : ℕ) → atom-lts.Need-add-next-3 (atom-claims t) (atom-at t) atom.Post
+atom-add-next-3 t c = omega (arith, short-source (c .before .before .before .before .before .before .before .before .before .before .before .pre .1))
 
 atom-add-group : (t : ℕ) → atom-lts.Need-add-group (atom-claims t) (atom-at t) atom.Post
 atom-add-group t c = omega arith
-
-atom-add-group-2 : (t : ℕ) → atom-lts.Need-add-group-2 (atom-claims t) (atom-at t) atom.Post
-atom-add-group-2 t c = omega arith
-
-atom-add-group-3 : (t : ℕ) → atom-lts.Need-add-group-3 (atom-claims t) (atom-at t) atom.Post
-atom-add-group-3 t c = omega arith
 
 atom-cast-group : (t : ℕ) → atom-lts.Need-cast-group (atom-claims t) (atom-at t) atom.Post
 atom-cast-group t c = search needs
 
 atom-group-requires : (t : ℕ) → atom-lts.Need-group-requires (atom-claims t) (atom-at t) atom.Post
-atom-group-requires t c κs =
-    let a = c .before .before .before .before .before .before .before .before .before .before .args in
-    let s = a .body .now in
-    let at = place (a .i) (a .p) (a .n) in
-    let ready = c .before .before .before .before .before .before .before .before .before .before .pre .1 in
-    let n = c .before .before .before .before .count-length .result in
-    (omega arith, ready-inside s (a .atoms) at (a .depth) ready n (c .before .before .before .before .count-length .ensures .1) (c .before .before .before .before .before .before .before .before .if1 .left) (c .before .if4 .taken))
+atom-group-requires t c κs = (omega arith, inner-ready (atom-counted t (c .before .before .before .before .before .before)) (c .before .before .before .if3 .taken) (c .before .before .if4 .taken))
 
-atom-enum-known-x : (t : ℕ) → atom-lts.Need-enum-known-x (atom-claims t) (atom-at t) atom.Post
-atom-enum-known-x t c = search needs
+atom-enum-known-end : (t : ℕ) → atom-lts.Need-enum-known-end (atom-claims t) (atom-at t) atom.Post
+atom-enum-known-end t c = search needs
 
 atom-cast-if5 : (t : ℕ) → atom-lts.Need-cast-if5 (atom-claims t) (atom-at t) atom.Post
 atom-cast-if5 t c = search needs
 
-atom-add-t27 : (t : ℕ) → atom-lts.Need-add-t27 (atom-claims t) (atom-at t) atom.Post
-atom-add-t27 t c =
-    let a = c .before .before .before .before .before .before .before .before .before .before .before .before .before .before .before .before .args in
-    let s = a .body .now in
-    let at = place (a .i) (a .p) (a .n) in
-    let ready = c .before .before .before .before .before .before .before .before .before .before .before .before .before .before .before .before .pre .1 in
-    let n = c .before .before .before .before .before .before .before .before .before .before .count-length .result in
-    let inner = place (a .i + 1) (a .p) (a .n + n + 1) in
-    let x = c .before .before .before .x .given .0 in
-    let dest = place (x .0) (x .1 .0) (x .1 .1 .0) in
-    let far = moved s (a .atoms) inner dest (c .before .before .before .x .given .1) (c .before .before .before .before .before .group .ensures .past) in
-    let r = short-source s (a .atoms) dest (a .depth + 1) (ready-on s (a .atoms) inner (a .depth + 1) (ready-inside s (a .atoms) at (a .depth) ready n (c .before .before .before .before .before .before .before .before .before .before .count-length .ensures .1) (c .before .before .before .before .before .before .before .before .before .before .before .before .before .before .if1 .left) (c .before .before .before .before .before .before .before .if4 .taken)) dest far) in
-    omega (arith, r)
+atom-add-after : (t : ℕ) → atom-lts.Need-add-after (atom-claims t) (atom-at t) atom.Post
+atom-add-after t c = omega (arith, short-source (dest-ready (atom-counted t (c .before .before .before .before .before .before .before .before .before .before .before .before .before .before)) (c .before .before .before .before .before .before .before .before .before .before .before .if3 .taken) (c .before .before .before .before .before .before .before .before .before .before .if4 .taken) (c .before .before .before .before .before .before .before .group .ensures) (c .before .before .before .before .before .end .given .1)))
 
 atom-returns-2 : (t : ℕ) → atom-lts.Need-returns-2 (atom-claims t) (atom-at t) atom.Post
-atom-returns-2 t c =
-    let a = c .before .before .before .before .before .before .before .before .before .before .before .before .before .before .before .before .args in
-    let s = a .body .now in
-    let at = place (a .i) (a .p) (a .n) in
-    let ready = c .before .before .before .before .before .before .before .before .before .before .before .before .before .before .before .before .pre .1 in
-    let r = c .before .before .before .before .before .before .before .before .before .before .before .before .before .fields .result in
-    let same = c .before .before .before .before .before .before .before .before .before .before .before .before .before .fields .ensures in
-    let on = c .before .before .before .before .before .before .before .before .before .before .before .before .before .before .if1 .left in
-    let o = sym (c .before .before .before .before .before .before .before .before .before .before .before .before .is-ordered .ensures) ∙ c .before .before .before .before .before .before .before .before .before .before .before .if2 .taken in
-    let n = c .before .before .before .before .before .before .before .before .before .before .count-length .result in
-    let inner = place (a .i + 1) (a .p) (a .n + n + 1) in
-    let x = c .before .before .before .x .given .0 in
-    let dest = place (x .0) (x .1 .0) (x .1 .1 .0) in
-    let far = moved s (a .atoms) inner dest (c .before .before .before .x .given .1) (c .before .before .before .before .before .group .ensures .past) in
-    record { past = moved-group s (a .atoms) at n dest (c .before .before .before .before .before .before .before .before .before .before .count-length .ensures .1) far; reads = group-closed s (a .atoms) at (a .depth) r same on o (c .before .before .before .before .before .before .before .before .if3 .taken) n (c .before .before .before .before .before .before .before .before .before .before .count-length .ensures .0) (c .before .before .before .before .before .before .before .if4 .taken) dest (λ f m. sym (c .before .before .before .x .given .1) ∙ c .before .before .before .before .before .group .ensures .reads f m) (c .if5 .taken) }
+atom-returns-2 t c = group-passed (atom-counted t (c .before .before .before .before .before .before .before .before .before .before .before .before .before .before)) (c .before .before .before .before .before .before .before .before .before .before .before .if3 .taken) (c .before .before .before .before .before .before .before .before .before .before .if4 .taken) (c .before .before .before .before .before .before .before .group .ensures) (c .before .before .before .before .before .end .given .1) (c .before .if5 .taken)
 
 atom-returns-3 : (t : ℕ) → atom-lts.Need-returns-3 (atom-claims t) (atom-at t) atom.Post
-atom-returns-3 t c =
-    let a = c .before .before .before .before .before .before .before .before .before .before .before .before .before .before .before .before .args in
-    let s = a .body .now in
-    let at = place (a .i) (a .p) (a .n) in
-    let ready = c .before .before .before .before .before .before .before .before .before .before .before .before .before .before .before .before .pre .1 in
-    let r = c .before .before .before .before .before .before .before .before .before .before .before .before .before .fields .result in
-    let same = c .before .before .before .before .before .before .before .before .before .before .before .before .before .fields .ensures in
-    let on = c .before .before .before .before .before .before .before .before .before .before .before .before .before .before .if1 .left in
-    let o = sym (c .before .before .before .before .before .before .before .before .before .before .before .before .is-ordered .ensures) ∙ c .before .before .before .before .before .before .before .before .before .before .before .if2 .taken in
-    let n = c .before .before .before .before .before .before .before .before .before .before .count-length .result in
-    let inner = place (a .i + 1) (a .p) (a .n + n + 1) in
-    let x = c .before .before .before .x .given .0 in
-    let dest = place (x .0) (x .1 .0) (x .1 .1 .0) in
-    record { past = tt; reads = group-apart s (a .atoms) at (a .depth) r same on o (c .before .before .before .before .before .before .before .before .if3 .taken) n (c .before .before .before .before .before .before .before .before .before .before .count-length .ensures .0) (c .before .before .before .before .before .before .before .if4 .taken) dest (λ f m. sym (c .before .before .before .x .given .1) ∙ c .before .before .before .before .before .group .ensures .reads f m) (c .if5 .left) }
+atom-returns-3 t c = group-elsewhere (atom-counted t (c .before .before .before .before .before .before .before .before .before .before .before .before .before)) (c .before .before .before .before .before .before .before .before .before .before .if3 .taken) (c .before .before .before .before .before .before .before .before .before .if4 .taken) (c .before .before .before .before .before .before .group .ensures) (c .before .before .before .before .end .given .1) (c .if5 .left)
 
 atom-enum-told : (t : ℕ) → atom-lts.Need-enum-told (atom-claims t) (atom-at t) atom.Post
 atom-enum-told t c = search needs
 
 atom-returns-4 : (t : ℕ) → atom-lts.Need-returns-4 (atom-claims t) (atom-at t) atom.Post
-atom-returns-4 t c =
-    let a = c .before .before .before .before .before .before .before .before .before .before .before .before .before .args in
-    let s = a .body .now in
-    let at = place (a .i) (a .p) (a .n) in
-    let ready = c .before .before .before .before .before .before .before .before .before .before .before .before .before .pre .1 in
-    let r = c .before .before .before .before .before .before .before .before .before .before .fields .result in
-    let same = c .before .before .before .before .before .before .before .before .before .before .fields .ensures in
-    let on = c .before .before .before .before .before .before .before .before .before .before .before .if1 .left in
-    let o = sym (c .before .before .before .before .before .before .before .before .before .is-ordered .ensures) ∙ c .before .before .before .before .before .before .before .before .if2 .taken in
-    let n = c .before .before .before .before .before .before .before .count-length .result in
-    let inner = place (a .i + 1) (a .p) (a .n + n + 1) in
-    record { past = tt; reads = group-none s (a .atoms) at (a .depth) r same on o (c .before .before .before .before .before .if3 .taken) n (c .before .before .before .before .before .before .before .count-length .ensures .0) (c .before .before .before .before .if4 .taken) (λ f m. sym (c .enum-told .given .1) ∙ c .before .before .group .ensures .reads f m) }
+atom-returns-4 t c = group-bad (atom-counted t (c .before .before .before .before .before .before .before .before .before)) (c .before .before .before .before .before .before .if3 .taken) (c .before .before .before .before .before .if4 .taken) (c .before .before .group .ensures) (c .enum-told .given .1)
 
 atom-returns-5 : (t : ℕ) → atom-lts.Need-returns-5 (atom-claims t) (atom-at t) atom.Post
-atom-returns-5 t c =
-    let a = c .before .before .before .before .before .before .before .before .before .args in
-    let s = a .body .now in
-    let at = place (a .i) (a .p) (a .n) in
-    let ready = c .before .before .before .before .before .before .before .before .before .pre .1 in
-    let r = c .before .before .before .before .before .before .fields .result in
-    let same = c .before .before .before .before .before .before .fields .ensures in
-    let on = c .before .before .before .before .before .before .before .if1 .left in
-    let o = sym (c .before .before .before .before .before .is-ordered .ensures) ∙ c .before .before .before .before .if2 .taken in
-    record { past = tt; reads = atom-deep s (a .atoms) at (a .depth) r same on o (c .before .if3 .taken) (c .if4 .left) }
+atom-returns-5 t c = too-deep (atom-counted t (c .before .before .before .before)) (c .before .if3 .taken) (c .if4 .left)
 
 atom-leaf-at-requires : (t : ℕ) → atom-lts.Need-leaf-at-requires (atom-claims t) (atom-at t) atom.Post
-atom-leaf-at-requires t c κs =
-    let a = c .before .before .before .before .before .before .before .before .args in
-    let s = a .body .now in
-    let at = place (a .i) (a .p) (a .n) in
-    let ready = c .before .before .before .before .before .before .before .before .pre .1 in
-    ready-leaf s (a .atoms) at (a .depth) ready
+atom-leaf-at-requires t c κs = ready-leaf (c .before .before .before .before .before .before .before .before .before .pre .1)
 
 atom-enum-known-v : (t : ℕ) → atom-lts.Need-enum-known-v (atom-claims t) (atom-at t) atom.Post
 atom-enum-known-v t c = search needs
 
-atom-add-t29 : (t : ℕ) → atom-lts.Need-add-t29 (atom-claims t) (atom-at t) atom.Post
-atom-add-t29 t c = omega arith
+atom-add-next-4 : (t : ℕ) → atom-lts.Need-add-next-4 (atom-claims t) (atom-at t) atom.Post
+atom-add-next-4 t c = let m = leaf-moved (atom-counted t (c .before .before .before .before .before .before .before)) (c .before .before .before .before .if3 .left) (c .before .before .before .leaf-at .ensures) (c .before .v .given .1) in omega (arith, m .pool, c .before .before .before .before .before .before .before .before .before .before .before .before .before .pre .1 .small)
 
-atom-add-t30 : (t : ℕ) → atom-lts.Need-add-t30 (atom-claims t) (atom-at t) atom.Post
-atom-add-t30 t c =
-    let a = c .before .before .before .before .before .before .before .before .before .before .before .before .args in
-    let s = a .body .now in
-    let at = place (a .i) (a .p) (a .n) in
-    let ready = c .before .before .before .before .before .before .before .before .before .before .before .before .pre .1 in
-    let y = shortened s (a .atoms) (a .p) (c .before .v .given .1) (c .before .before .before .leaf-at .ensures .short) in
-    omega (arith, y .0, ready .small)
-
-atom-add-t31 : (t : ℕ) → atom-lts.Need-add-t31 (atom-claims t) (atom-at t) atom.Post
-atom-add-t31 t c =
-    let a = c .before .before .before .before .before .before .before .before .before .before .before .before .args in
-    let s = a .body .now in
-    let at = place (a .i) (a .p) (a .n) in
-    let ready = c .before .before .before .before .before .before .before .before .before .before .before .before .pre .1 in
-    let y = shortened s (a .atoms) (a .p) (c .before .v .given .1) (c .before .before .before .leaf-at .ensures .short) in
-    let z = short-source s (a .atoms) at (a .depth) ready in
-    omega (arith, y .0, y .1, z, ready .small, c .before .before .before .before .before .before .count-length .ensures .1)
+atom-add-next-5 : (t : ℕ) → atom-lts.Need-add-next-5 (atom-claims t) (atom-at t) atom.Post
+atom-add-next-5 t c = omega (arith, short-source (ready-on (c .before .before .before .before .before .before .before .before .before .before .before .before .before .before .pre .1) (leaf-moved (atom-counted t (c .before .before .before .before .before .before .before .before)) (c .before .before .before .before .before .if3 .left) (c .before .before .before .before .leaf-at .ensures) (c .before .before .v .given .1))))
 
 atom-returns-6 : (t : ℕ) → atom-lts.Need-returns-6 (atom-claims t) (atom-at t) atom.Post
-atom-returns-6 t c =
-    let a = c .before .before .before .before .before .before .before .before .before .before .before .before .args in
-    let s = a .body .now in
-    let at = place (a .i) (a .p) (a .n) in
-    let ready = c .before .before .before .before .before .before .before .before .before .before .before .before .pre .1 in
-    let r = c .before .before .before .before .before .before .before .before .before .fields .result in
-    let same = c .before .before .before .before .before .before .before .before .before .fields .ensures in
-    let on = c .before .before .before .before .before .before .before .before .before .before .if1 .left in
-    let o = sym (c .before .before .before .before .before .before .before .before .is-ordered .ensures) ∙ c .before .before .before .before .before .before .before .if2 .taken in
-    let y = shortened s (a .atoms) (a .p) (c .before .v .given .1) (c .before .before .before .leaf-at .ensures .short) in
-    let n = c .before .before .before .before .before .before .count-length .result in
-    let v = c .before .v .given .0 in
-    record { past = moved-leaf s (a .atoms) at n (v .0) (v .1 .0) (c .before .before .before .before .before .before .count-length .ensures .1) on (y .0) (y .1); reads = atom-leaf s (a .atoms) at (a .depth) r same on o n (v .0) (v .1 .0) (c .before .before .before .before .before .before .count-length .ensures .0) (c .before .before .before .before .if3 .left) (sym (c .before .v .given .1) ∙ c .before .before .before .leaf-at .ensures .reads) }
+atom-returns-6 t c = leaf-passed (atom-counted t (c .before .before .before .before .before .before .before .before)) (c .before .before .before .before .before .if3 .left) (c .before .before .before .before .leaf-at .ensures) (c .before .before .v .given .1)
 
 atom-enum-told-2 : (t : ℕ) → atom-lts.Need-enum-told-2 (atom-claims t) (atom-at t) atom.Post
 atom-enum-told-2 t c = search needs
 
 atom-returns-7 : (t : ℕ) → atom-lts.Need-returns-7 (atom-claims t) (atom-at t) atom.Post
-atom-returns-7 t c =
-    let a = c .before .before .before .before .before .before .before .before .before .before .before .args in
-    let s = a .body .now in
-    let at = place (a .i) (a .p) (a .n) in
-    let ready = c .before .before .before .before .before .before .before .before .before .before .before .pre .1 in
-    let r = c .before .before .before .before .before .before .before .before .fields .result in
-    let same = c .before .before .before .before .before .before .before .before .fields .ensures in
-    let on = c .before .before .before .before .before .before .before .before .before .if1 .left in
-    let o = sym (c .before .before .before .before .before .before .before .is-ordered .ensures) ∙ c .before .before .before .before .before .before .if2 .taken in
-    record { past = tt; reads = atom-leafless s (a .atoms) at (a .depth) r same on o (c .before .before .before .if3 .left) (sym (c .enum-told2 .given .1) ∙ c .before .before .leaf-at .ensures .reads) }
+atom-returns-7 t c = leaf-bad (atom-counted t (c .before .before .before .before .before .before)) (c .before .before .before .if3 .left) (c .before .before .leaf-at .ensures) (c .enum-told2 .given .1)
 
 atom-returns-8 : (t : ℕ) → atom-lts.Need-returns-8 (atom-claims t) (atom-at t) atom.Post
-atom-returns-8 t c =
-    let a = c .before .before .before .before .before .args in
-    let s = a .body .now in
-    let at = place (a .i) (a .p) (a .n) in
-    let ready = c .before .before .before .before .before .pre .1 in
-    record { past = tt; reads = atom-unordered s (a .atoms) at (a .depth) (c .before .before .fields .result) (c .before .before .fields .ensures) (c .before .before .before .if1 .left) (sym (c .before .is-ordered .ensures) ∙ c .if2 .left) }
+atom-returns-8 t c = record { past = tt; reads = atom-unordered _ _ _ _ _ (c .before .before .fields .ensures) (c .before .before .before .if1 .left) (sym (c .before .is-ordered .ensures) ∙ c .if2 .left) }
 
-group-returns : (t : ℕ) → group-lts.Need-returns (group-claims t) (group-at t) group.Post
-group-returns t c =
-    let a = c .before .before .args in
-    let s = a .body .now in
-    let at = place (a .i) (a .p) (a .n) in
-    record { past = tt; reads = branches-none s (a .atoms) at (a .depth) (a .k) (c .if1 .taken) }
+abbrev group-Inv-loop : group-lts.InvT-loop
+group-Inv-loop body atoms depth k from₀ left₀ from left = Branching body atoms depth left₀ from₀ from left
 
-group-pattern-requires : (t : ℕ) → group-lts.Need-pattern-requires (group-claims t) (group-at t) group.Post
-group-pattern-requires t c κs = omega arith
+abbrev group-μ-loop : group-lts.MeasureT-loop
+group-μ-loop body atoms depth k from₀ left₀ from left = left
 
-group-enum-known-x : (t : ℕ) → group-lts.Need-enum-known-x (group-claims t) (group-at t) group.Post
-group-enum-known-x t c = search needs
+group-loop-holds : (t : ℕ) → group-lts.Need-loop-holds (group-claims t) (group-at t) group.Post group-Inv-loop group-μ-loop
+group-loop-holds t c = branching-start (c .before .pre .1)
 
-group-returns-2 : (t : ℕ) → group-lts.Need-returns-2 (group-claims t) (group-at t) group.Post
-group-returns-2 t c =
-    let a = c .before .before .before .before .before .before .before .args in
-    let s = a .body .now in
-    let at = place (a .i) (a .p) (a .n) in
-    let x = c .before .before .x .given .0 in
-    let next = place (x .0) (x .1 .0) (x .1 .1 .0) in
-    let far = movedW s (a .atoms) at next (c .before .before .x .given .1) (c .before .before .before .before .pattern .ensures .past) .0 in
-    record { past = far; reads = branch-only s (a .atoms) at (a .depth) (a .k) (c .before .before .before .before .before .if1 .left) next (λ f m. sym (c .before .before .x .given .1) ∙ c .before .before .before .before .pattern .ensures .reads f m) (c .if2 .taken) }
+group-pattern-requires : (t : ℕ) → group-lts.Need-pattern-requires (group-claims t) (group-at t) group.Post group-Inv-loop group-μ-loop
+group-pattern-requires t c κs = let g = c .before .loop .inv in (omega (arith, g .on, c .before .before .before .pre .0), g .ready)
 
-group-add-group : (t : ℕ) → group-lts.Need-add-group (group-claims t) (group-at t) group.Post
-group-add-group t c =
-    let a = c .before .before .before .before .before .before .before .args in
-    let s = a .body .now in
-    let at = place (a .i) (a .p) (a .n) in
-    let x = c .before .before .x .given .0 in
-    let next = place (x .0) (x .1 .0) (x .1 .1 .0) in
-    let far = movedW s (a .atoms) at next (c .before .before .x .given .1) (c .before .before .before .before .pattern .ensures .past) .0 in
-    let r = short-source s (a .atoms) next (a .depth) (ready-on s (a .atoms) at (a .depth) (c .before .before .before .before .before .before .before .pre .1) next far) in
-    omega (arith, r)
+group-enum-known-next : (t : ℕ) → group-lts.Need-enum-known-next (group-claims t) (group-at t) group.Post group-Inv-loop group-μ-loop
+group-enum-known-next t c = search needs
 
-group-sub-group : (t : ℕ) → group-lts.Need-sub-group (group-claims t) (group-at t) group.Post
-group-sub-group t c = omega arith
+group-returns : (t : ℕ) → group-lts.Need-returns (group-claims t) (group-at t) group.Post group-Inv-loop group-μ-loop
+group-returns t c = branching-last (c .before .before .before .before .before .before .loop .inv) (λ z. omega (arith, z, c .before .before .before .before .before .loop-test .taken)) (c .before .before .before .before .pattern .ensures) (c .before .before .next .given .1) (c .if1 .taken)
 
-group-group-requires : (t : ℕ) → group-lts.Need-group-requires (group-claims t) (group-at t) group.Post
-group-group-requires t c κs =
-    let a = c .before .before .before .before .before .before .before .args in
-    let s = a .body .now in
-    let at = place (a .i) (a .p) (a .n) in
-    let x = c .before .before .x .given .0 in
-    let next = place (x .0) (x .1 .0) (x .1 .1 .0) in
-    let far = movedW s (a .atoms) at next (c .before .before .x .given .1) (c .before .before .before .before .pattern .ensures .past) .0 in
-    let z = fewer s (a .atoms) at next (far .on) (far .atom) in
-    (omega (arith, z, c .before .before .before .before .before .before .before .pre .0), ready-again s (a .atoms) at (a .depth) (c .before .before .before .before .before .before .before .pre .1) next far)
+group-add-from : (t : ℕ) → group-lts.Need-add-from (group-claims t) (group-at t) group.Post group-Inv-loop group-μ-loop
+group-add-from t c = omega (arith, short-source (branch-ready (c .before .before .before .before .before .before .before .loop .inv) (λ z. omega (arith, z, c .before .before .before .before .before .before .loop-test .taken)) (c .before .before .before .before .before .pattern .ensures) (c .before .before .before .next .given .1)))
 
-group-enum-told : (t : ℕ) → group-lts.Need-enum-told (group-claims t) (group-at t) group.Post
+group-sub-left : (t : ℕ) → group-lts.Need-sub-left (group-claims t) (group-at t) group.Post group-Inv-loop group-μ-loop
+group-sub-left t c = omega arith
+
+group-loop-less : (t : ℕ) → group-lts.Need-loop-less (group-claims t) (group-at t) group.Post group-Inv-loop group-μ-loop
+group-loop-less t c = omega arith
+
+group-loop-again : (t : ℕ) → group-lts.Need-loop-again (group-claims t) (group-at t) group.Post group-Inv-loop group-μ-loop
+group-loop-again t c = branching-more (c .before .before .before .before .before .before .before .loop .inv) (λ z. omega (arith, z, c .before .before .before .before .before .before .loop-test .taken)) (c .before .before .before .before .before .pattern .ensures) (c .before .before .before .next .given .1) (c .before .if1 .left)
+
+group-enum-told : (t : ℕ) → group-lts.Need-enum-told (group-claims t) (group-at t) group.Post group-Inv-loop group-μ-loop
 group-enum-told t c = search needs
 
-group-returns-3 : (t : ℕ) → group-lts.Need-returns-3 (group-claims t) (group-at t) group.Post
-group-returns-3 t c =
-    let a = c .before .before .before .before .before .before .before .before .args in
-    let s = a .body .now in
-    let at = place (a .i) (a .p) (a .n) in
-    let x = c .before .before .before .x .given .0 in
-    let next = place (x .0) (x .1 .0) (x .1 .1 .0) in
-    let far = movedW s (a .atoms) at next (c .before .before .before .x .given .1) (c .before .before .before .before .before .pattern .ensures .past) .0 in
-    record { past = past-again s (a .atoms) at next (c .group .result) far (c .group .ensures .past); reads = branches-on s (a .atoms) at (a .depth) (a .k) (c .before .before .before .before .before .before .if1 .left) next (λ f m. sym (c .before .before .before .x .given .1) ∙ c .before .before .before .before .before .pattern .ensures .reads f m) (far .on) (far .atom) (c .before .if2 .left) (c .group .result) (c .group .ensures .reads) }
+group-returns-2 : (t : ℕ) → group-lts.Need-returns-2 (group-claims t) (group-at t) group.Post group-Inv-loop group-μ-loop
+group-returns-2 t c = branching-bad (c .before .before .before .before .loop .inv) (λ z. omega (arith, z, c .before .before .before .loop-test .taken)) (c .before .before .pattern .ensures) (c .enum-told .given .1)
 
-group-returns-4 : (t : ℕ) → group-lts.Need-returns-4 (group-claims t) (group-at t) group.Post
-group-returns-4 t c =
-    let a = c .before .before .before .before .before .args in
-    let s = a .body .now in
-    let at = place (a .i) (a .p) (a .n) in
-    record { past = tt; reads = branch-none s (a .atoms) at (a .depth) (a .k) (c .before .before .before .if1 .left) (λ f m. sym (c .enum-told .given .1) ∙ c .before .before .pattern .ensures .reads f m) }
+group-returns-3 : (t : ℕ) → group-lts.Need-returns-3 (group-claims t) (group-at t) group.Post group-Inv-loop group-μ-loop
+group-returns-3 t c = branching-over (c .before .loop .inv) (omega arith)
 
-pattern-atom-requires : (t : ℕ) → pattern-lts.Need-atom-requires (pattern-claims t) (pattern-at t) pattern.Post
-pattern-atom-requires t c κs = omega arith
+abbrev pattern-Inv-loop : pattern-lts.InvT-loop
+pattern-Inv-loop body atoms depth from₀ before₀ from before = Going body atoms depth from₀ from before
 
-pattern-enum-known-j : (t : ℕ) → pattern-lts.Need-enum-known-j (pattern-claims t) (pattern-at t) pattern.Post
-pattern-enum-known-j t c = search needs
+abbrev pattern-μ-loop : pattern-lts.MeasureT-loop
+pattern-μ-loop body atoms depth from₀ before₀ from before = reach atoms from
 
-pattern-ends-of-requires : (t : ℕ) → pattern-lts.Need-ends-of-requires (pattern-claims t) (pattern-at t) pattern.Post
-pattern-ends-of-requires t c κs =
-    let a = c .before .before .before .before .before .args in
-    let s = a .body .now in
-    let at = place (a .i) (a .p) (a .n) in
-    let x = c .before .j .given .0 in
-    let next = place (x .0) (x .1 .0) (x .1 .1 .0) in
-    let far = moved s (a .atoms) at next (c .before .j .given .1) (c .before .before .before .atom .ensures .past) in
-    let r = c .before .before .before .before .before .pre .1 in
-    (record-in s (a .atoms) at (a .depth) r (omega (arith, far .on, far .atom)), omega (arith, far .on, far .atom, r .few))
+pattern-loop-holds : (t : ℕ) → pattern-lts.Need-loop-holds (pattern-claims t) (pattern-at t) pattern.Post pattern-Inv-loop pattern-μ-loop
+pattern-loop-holds t c = going-start (c .before .pre .1)
 
-pattern-returns : (t : ℕ) → pattern-lts.Need-returns (pattern-claims t) (pattern-at t) pattern.Post
-pattern-returns t c =
-    let a = c .before .before .before .before .before .before .before .args in
-    let s = a .body .now in
-    let at = place (a .i) (a .p) (a .n) in
-    let x = c .before .before .before .j .given .0 in
-    let next = place (x .0) (x .1 .0) (x .1 .1 .0) in
-    let far = moved s (a .atoms) at next (c .before .before .before .j .given .1) (c .before .before .before .before .before .atom .ensures .past) in
-    record { past = (far, omega (arith, far .on)); reads = pattern-last s (a .atoms) at (a .depth) next (λ f m. sym (c .before .before .before .j .given .1) ∙ c .before .before .before .before .before .atom .ensures .reads f m) (sym (c .before .ends-of .ensures) ∙ c .if1 .taken) }
+pattern-atom-requires : (t : ℕ) → pattern-lts.Need-atom-requires (pattern-claims t) (pattern-at t) pattern.Post pattern-Inv-loop pattern-μ-loop
+pattern-atom-requires t c κs = let g = c .loop .inv in (omega (arith, g .on, c .before .before .pre .0), g .ready)
 
-pattern-pattern-requires : (t : ℕ) → pattern-lts.Need-pattern-requires (pattern-claims t) (pattern-at t) pattern.Post
-pattern-pattern-requires t c κs =
-    let a = c .before .before .before .before .before .before .before .before .args in
-    let s = a .body .now in
-    let at = place (a .i) (a .p) (a .n) in
-    let x = c .before .before .before .before .j .given .0 in
-    let next = place (x .0) (x .1 .0) (x .1 .1 .0) in
-    let far = moved s (a .atoms) at next (c .before .before .before .before .j .given .1) (c .before .before .before .before .before .before .atom .ensures .past) in
-    let z = fewer s (a .atoms) at next (far .on) (far .atom) in
-    (omega (arith, z, c .before .before .before .before .before .before .before .before .pre .0), ready-on s (a .atoms) at (a .depth) (c .before .before .before .before .before .before .before .before .pre .1) next far)
+pattern-enum-known-next : (t : ℕ) → pattern-lts.Need-enum-known-next (pattern-claims t) (pattern-at t) pattern.Post pattern-Inv-loop pattern-μ-loop
+pattern-enum-known-next t c = search needs
 
-pattern-enum-known-x : (t : ℕ) → pattern-lts.Need-enum-known-x (pattern-claims t) (pattern-at t) pattern.Post
-pattern-enum-known-x t c = search needs
+pattern-ends-of-requires : (t : ℕ) → pattern-lts.Need-ends-of-requires (pattern-claims t) (pattern-at t) pattern.Post pattern-Inv-loop pattern-μ-loop
+pattern-ends-of-requires t c κs = let m = going-moved (c .before .before .before .before .loop .inv) (c .before .before .before .atom .ensures) (c .before .next .given .1) in let r = c .before .before .before .before .loop .inv .ready in (record-in r (omega (arith, m .on, m .atom)), omega (arith, m .on, m .atom, r .few))
 
-pattern-add-t19 : (t : ℕ) → pattern-lts.Need-add-t19 (pattern-claims t) (pattern-at t) pattern.Post
-pattern-add-t19 t c =
-    let a = c .before .before .before .before .before .before .before .before .before .before .before .before .args in
-    let s = a .body .now in
-    let at = place (a .i) (a .p) (a .n) in
-    let x = c .before .before .before .before .before .before .before .before .j .given .0 in
-    let next = place (x .0) (x .1 .0) (x .1 .1 .0) in
-    let y = c .before .x .given .0 in
-    let dest = place (y .0) (y .1 .0) (y .1 .1 .0) in
-    let w = movedW s (a .atoms) next dest (c .before .x .given .1) (c .before .before .before .pattern .ensures .past) in
-    omega (arith, w .1, w .0 .atom, c .before .before .before .before .before .before .before .before .before .before .before .before .pre .1 .few)
+pattern-add-t11 : (t : ℕ) → pattern-lts.Need-add-t11 (pattern-claims t) (pattern-at t) pattern.Post pattern-Inv-loop pattern-μ-loop
+pattern-add-t11 t c = let g = c .before .before .before .before .before .before .loop .inv in let r = g .ready in omega (arith, g .on, r .atom, r .few)
 
-pattern-returns-2 : (t : ℕ) → pattern-lts.Need-returns-2 (pattern-claims t) (pattern-at t) pattern.Post
-pattern-returns-2 t c =
-    let a = c .before .before .before .before .before .before .before .before .before .before .before .before .args in
-    let s = a .body .now in
-    let at = place (a .i) (a .p) (a .n) in
-    let x = c .before .before .before .before .before .before .before .before .j .given .0 in
-    let next = place (x .0) (x .1 .0) (x .1 .1 .0) in
-    let far = moved s (a .atoms) at next (c .before .before .before .before .before .before .before .before .j .given .1) (c .before .before .before .before .before .before .before .before .before .before .atom .ensures .past) in
-    let y = c .before .x .given .0 in
-    let dest = place (y .0) (y .1 .0) (y .1 .1 .0) in
-    let w = movedW s (a .atoms) next dest (c .before .x .given .1) (c .before .before .before .pattern .ensures .past) in
-    record { past = (moved-then s (a .atoms) at next dest far (w .0), omega (arith, far .on, w .1)); reads = then-more s (a .atoms) at (a .depth) next (λ f m. sym (c .before .before .before .before .before .before .before .before .j .given .1) ∙ c .before .before .before .before .before .before .before .before .before .before .atom .ensures .reads f m) (far .on) (far .atom) (sym (c .before .before .before .before .before .before .ends-of .ensures) ∙ c .before .before .before .before .if2 .taken) dest (λ f m. sym (c .before .x .given .1) ∙ c .before .before .before .pattern .ensures .reads f m) }
+pattern-returns : (t : ℕ) → pattern-lts.Need-returns (pattern-claims t) (pattern-at t) pattern.Post pattern-Inv-loop pattern-μ-loop
+pattern-returns t c = going-last (c .before .before .before .before .before .before .loop .inv) (c .before .before .before .before .before .atom .ensures) (c .before .before .before .next .given .1) (c .before .ends-of .ensures) (c .if1 .taken)
 
-pattern-enum-told : (t : ℕ) → pattern-lts.Need-enum-told (pattern-claims t) (pattern-at t) pattern.Post
+pattern-returns-2 : (t : ℕ) → pattern-lts.Need-returns-2 (pattern-claims t) (pattern-at t) pattern.Post pattern-Inv-loop pattern-μ-loop
+pattern-returns-2 t c = going-other (c .before .before .before .before .before .before .before .loop .inv) (c .before .before .before .before .before .before .atom .ensures) (c .before .before .before .before .next .given .1) (c .before .before .ends-of .ensures) (c .before .if1 .left) (c .if2 .taken)
+
+pattern-add-before : (t : ℕ) → pattern-lts.Need-add-before (pattern-claims t) (pattern-at t) pattern.Post pattern-Inv-loop pattern-μ-loop
+pattern-add-before t c = let g = c .before .before .before .before .before .before .before .loop .inv in let r = g .ready in omega (arith, g .on, r .atom, r .few)
+
+pattern-loop-less : (t : ℕ) → pattern-lts.Need-loop-less (pattern-claims t) (pattern-at t) pattern.Post pattern-Inv-loop pattern-μ-loop
+pattern-loop-less t c = let m = going-moved (c .before .before .before .before .before .before .before .loop .inv) (c .before .before .before .before .before .before .atom .ensures) (c .before .before .before .before .next .given .1) in omega (arith, m .on, m .atom)
+
+pattern-loop-again : (t : ℕ) → pattern-lts.Need-loop-again (pattern-claims t) (pattern-at t) pattern.Post pattern-Inv-loop pattern-μ-loop
+pattern-loop-again t c = going-more (c .before .before .before .before .before .before .before .loop .inv) (c .before .before .before .before .before .before .atom .ensures) (c .before .before .before .before .next .given .1) (c .before .before .ends-of .ensures) (c .if2 .left)
+
+pattern-enum-told : (t : ℕ) → pattern-lts.Need-enum-told (pattern-claims t) (pattern-at t) pattern.Post pattern-Inv-loop pattern-μ-loop
 pattern-enum-told t c = search needs
 
-pattern-returns-3 : (t : ℕ) → pattern-lts.Need-returns-3 (pattern-claims t) (pattern-at t) pattern.Post
-pattern-returns-3 t c =
-    let a = c .before .before .before .before .before .before .before .before .before .before .before .args in
-    let s = a .body .now in
-    let at = place (a .i) (a .p) (a .n) in
-    let x = c .before .before .before .before .before .before .before .j .given .0 in
-    let next = place (x .0) (x .1 .0) (x .1 .1 .0) in
-    let far = moved s (a .atoms) at next (c .before .before .before .before .before .before .before .j .given .1) (c .before .before .before .before .before .before .before .before .before .atom .ensures .past) in
-    record { past = tt; reads = then-none s (a .atoms) at (a .depth) next (λ f m. sym (c .before .before .before .before .before .before .before .j .given .1) ∙ c .before .before .before .before .before .before .before .before .before .atom .ensures .reads f m) (far .on) (far .atom) (sym (c .before .before .before .before .before .ends-of .ensures) ∙ c .before .before .before .if2 .taken) (λ f m. sym (c .enum-told .given .1) ∙ c .before .before .pattern .ensures .reads f m) }
-
-pattern-enum-told-2 : (t : ℕ) → pattern-lts.Need-enum-told-2 (pattern-claims t) (pattern-at t) pattern.Post
-pattern-enum-told-2 t c = search needs
-
-pattern-returns-4 : (t : ℕ) → pattern-lts.Need-returns-4 (pattern-claims t) (pattern-at t) pattern.Post
-pattern-returns-4 t c =
-    let a = c .before .before .before .before .before .before .before .before .args in
-    let s = a .body .now in
-    let at = place (a .i) (a .p) (a .n) in
-    let x = c .before .before .before .before .j .given .0 in
-    let next = place (x .0) (x .1 .0) (x .1 .1 .0) in
-    record { past = tt; reads = pattern-other s (a .atoms) at (a .depth) next (λ f m. sym (c .before .before .before .before .j .given .1) ∙ c .before .before .before .before .before .before .atom .ensures .reads f m) (λ z. c .before .if1 .left (c .before .before .ends-of .ensures ∙ z)) (λ z. c .if2 .left (c .before .before .ends-of .ensures ∙ z)) }
-
-pattern-returns-5 : (t : ℕ) → pattern-lts.Need-returns-5 (pattern-claims t) (pattern-at t) pattern.Post
-pattern-returns-5 t c =
-    let a = c .before .before .before .before .args in
-    let s = a .body .now in
-    let at = place (a .i) (a .p) (a .n) in
-    record { past = tt; reads = pattern-none s (a .atoms) at (a .depth) (λ f m. sym (c .enum-told2 .given .1) ∙ c .before .before .atom .ensures .reads f m) }
+pattern-returns-3 : (t : ℕ) → pattern-lts.Need-returns-3 (pattern-claims t) (pattern-at t) pattern.Post pattern-Inv-loop pattern-μ-loop
+pattern-returns-3 t c = going-bad (c .before .before .before .loop .inv) (c .before .before .atom .ensures) (c .enum-told .given .1)
 
 pub +atom+group+pattern-spec : {M : Type 1} → statement M
 +atom+group+pattern-spec = close μ-atom μ-group μ-pattern (λ t. atom-lts.spec (atom-claims t) (atom-at t) atom.Post
@@ -436,16 +243,16 @@ pub +atom+group+pattern-spec : {M : Type 1} → statement M
     (atom-mul-fields t)
     (atom-fields-requires t)
     (atom-is-ordered-requires t)
+    (atom-add-next t)
     (atom-count-length-requires t)
-    (atom-add-m t)
+    (atom-add-next-2 t)
+    (atom-add-next-3 t)
     (atom-add-group t)
-    (atom-add-group-2 t)
-    (atom-add-group-3 t)
     (atom-cast-group t)
     (atom-group-requires t)
-    (atom-enum-known-x t)
+    (atom-enum-known-end t)
     (atom-cast-if5 t)
-    (atom-add-t27 t)
+    (atom-add-after t)
     (atom-returns-2 t)
     (atom-returns-3 t)
     (atom-enum-told t)
@@ -453,47 +260,38 @@ pub +atom+group+pattern-spec : {M : Type 1} → statement M
     (atom-returns-5 t)
     (atom-leaf-at-requires t)
     (atom-enum-known-v t)
-    (atom-add-t29 t)
-    (atom-add-t30 t)
-    (atom-add-t31 t)
+    (atom-add-next-4 t)
+    (atom-add-next-5 t)
     (atom-returns-6 t)
     (atom-enum-told-2 t)
     (atom-returns-7 t)
     (atom-returns-8 t))
-    (λ t. group-lts.spec
-    (pattern-below t, pattern.Post, group-below t, group.Post)
-    (group-at t)
-    group.Post
-    (group-returns t)
+    (λ t. group-lts.spec (group-claims t) (group-at t) group.Post
+    group-Inv-loop
+    group-μ-loop
+    (group-loop-holds t)
     (group-pattern-requires t)
-    (group-enum-known-x t)
-    (group-returns-2 t)
-    (group-add-group t)
-    (group-sub-group t)
-    (group-group-requires t)
+    (group-enum-known-next t)
+    (group-returns t)
+    (group-add-from t)
+    (group-sub-left t)
+    (group-loop-less t)
+    (group-loop-again t)
     (group-enum-told t)
-    (group-returns-3 t)
-    (group-returns-4 t))
-    λ t. pattern-lts.spec (
-      atom-below t,
-      atom.Post,
-      ends-of-reads.Asked,
-      ends-of-reads.Learnt,
-      pattern-below t,
-      pattern.Post,
-    )
-    (pattern-at t)
-    pattern.Post
+    (group-returns-2 t)
+    (group-returns-3 t))
+    λ t. pattern-lts.spec (pattern-claims t) (pattern-at t) pattern.Post
+    pattern-Inv-loop
+    pattern-μ-loop
+    (pattern-loop-holds t)
     (pattern-atom-requires t)
-    (pattern-enum-known-j t)
+    (pattern-enum-known-next t)
     (pattern-ends-of-requires t)
+    (pattern-add-t11 t)
     (pattern-returns t)
-    (pattern-pattern-requires t)
-    (pattern-enum-known-x t)
-    (pattern-add-t19 t)
     (pattern-returns-2 t)
+    (pattern-add-before t)
+    (pattern-loop-less t)
+    (pattern-loop-again t)
     (pattern-enum-told t)
     (pattern-returns-3 t)
-    (pattern-enum-told-2 t)
-    (pattern-returns-4 t)
-    (pattern-returns-5 t)
