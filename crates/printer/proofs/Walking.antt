@@ -47,7 +47,7 @@ or-spelt : {t : Syntax branches} (q : Syntax pattern) (bs : Syntax branches) →
 unfolding print
 or-spelt q bs z = ap (λ (y : Syntax branches). print y) z ∙ sym (append-assoc (print q) (comma-byte ∷ []) (print bs))
 
-module _ (s : Bytes) (A : ℕ) {out : Bytes} {i n : ℕ} where
+module _ {s : Bytes} {A : ℕ} {out : Bytes} {i n : ℕ} where
   -- the lent bytes keep their length
   pub printed-length : {o : Sort} {x : Next} {out′ : Bytes} → Room o s A out i n → Printed o s A out i n x out′ → length out′ ≡ length out
   printed-length g w = puts-length (w .writes _ _ _ (g .tree) (g .set))
@@ -69,7 +69,7 @@ module _ (s : Bytes) (A : ℕ) {out : Bytes} {i n : ℕ} where
       let (a, x, h, v, e) = first-atom s A i _ _ _ (g .tree) (g .set) in
       record { ends = x; pool = g .pool; depth = g .depth; tree = a; set = h; room = omega (arith, g .room, ap length e, length-append (print a) v) }
 
-  module _ (r : Record) (same : r ≡ record-of (its s A i)) {x : Next} {out₁ : Bytes} (w : Printed atom s A out i n x out₁) where
+  module _ {x : Next} {out₁ : Bytes} (w : Printed atom s A out i n x out₁) {r : Record} (same : r ≡ record-of (its s A i)) where
     pub last-printed : r .ends ≡ 1 → Printed pattern s A out i n x out₁
     unfolding print size
     last-printed k =
@@ -109,93 +109,6 @@ module _ (s : Bytes) (A : ℕ) {out : Bytes} {i n : ℕ} where
                 omega (arith, v .passes _ _ _ q g2, w .passes _ _ _ a f, ap (λ (y : Syntax pattern). size y) z);
           }
 
-  -- ---- an atom
-
-  module _ (r : Record) (same : r ≡ record-of (its s A i)) where
-    pub count-room : Room atom s A out i n → Fits (r .low) (high-of (r .high)) × (n + length (count-of r) ≤ length out)
-    unfolding print
-    count-room g =
-        let (b, q, f) = any-view s A r i same _ _ _ (g .tree) (g .set) in
-        (f, omega (arith, g .room, ap (λ (y : Syntax atom). length (print y)) q, length-append (count-of r) (print b)))
-
-    module _ {out₁ : Bytes} {m : ℕ} (p₁ : Puts out n (count-of r) out₁ m) where
-      -- codes
-      pub letters-room : Room atom s A out i n → r .kind ≡ 1 → m + length (print-set all-codes (r .a)) ≤ length out₁
-      unfolding print
-      letters-room g k =
-          let q = codes-view s A r i same _ _ _ (g .tree) (g .set) k in
-          puts-room p₁ (print-set all-codes (r .a)) (omega (arith, g .room, ap (λ (y : Syntax atom). length (print y)) q))
-
-      pub codes-printed : {out₂ : Bytes} {z : ℕ} → r .kind ≡ 1 → Puts out₁ m (print-set all-codes (r .a)) out₂ z → Printed atom s A out i n (record { atom = i + 1; at = z }) out₂
-      unfolding print size
-      codes-printed k p₂ =
-          record {
-            writes = λ e p d t h. puts-as (puts-then p₁ p₂) (sym (ap (λ (y : Syntax atom). print y) (codes-view s A r i same e p d t h k)));
-            passes = λ e p d t h. let q = ap (λ (y : Syntax atom). size y) (codes-view s A r i same e p d t h k) in omega (arith, q);
-          }
-
-      -- a literal
-      module _ (k : r .kind ≡ 3 → ⊥) (l : r .kind ≡ 1 → ⊥) where
-        pub text-in : Room atom s A out i n → record-size * A + r .a + r .b ≤ length s
-        text-in g = text-view s A r i same _ _ _ (g .tree) (g .set) k l .1
-
-        pub literal-room : Room atom s A out i n → m + length (quote-byte ∷ double (value-of s A r) ++ quote-byte ∷ []) ≤ length out₁
-        literal-room g =
-            let q = text-view s A r i same _ _ _ (g .tree) (g .set) k l .0 in
-            puts-room p₁ (quote-byte ∷ double (value-of s A r) ++ quote-byte ∷ []) (omega (arith, g .room, ap length (literal-spelt s A r q)))
-
-        pub literal-printed : {out₂ : Bytes} {z : ℕ} → Puts out₁ m (quote-byte ∷ double (value-of s A r) ++ quote-byte ∷ []) out₂ z → Printed atom s A out i n (record { atom = i + 1; at = z }) out₂
-        unfolding size
-        literal-printed p₂ =
-            record {
-              writes = λ e p d t h. puts-as (puts-then p₁ p₂) (sym (literal-spelt s A r (text-view s A r i same e p d t h k l .0)));
-              passes = λ e p d t h. let q = ap (λ (y : Syntax atom). size y) (text-view s A r i same e p d t h k l .0) in omega (arith, q);
-            }
-
-      -- a group
-      module _ (k : r .kind ≡ 3) where
-        pub open-room : Room atom s A out i n → m + 1 ≤ length out₁
-        unfolding print
-        open-room g =
-            let (bs, q, c, h) = group-view s A r i same _ _ _ (g .tree) (g .set) k in
-            puts-room p₁ (opening-byte ∷ []) (omega (arith, g .room, ap length (group-spelt r bs q), length-append ((count-of r) ++ opening-byte ∷ []) (print bs ++ closing-byte ∷ [])))
-
-        pub inner-room : Room atom s A out i n → RoomFor (r .a) s A (set out₁ m opening-byte) (i + 1) (m + 1)
-        inner-room g =
-            let (bs, q, c, h) = group-view s A r i same _ _ _ (g .tree) (g .set) k in
-            record {
-              all = record {
-                ends = g .ends;
-                pool = g .pool;
-                depth = suc (g .depth);
-                tree = bs;
-                set = h;
-                room = puts-room (puts-more p₁ opening-byte) (print bs) (omega (arith, g .room, ap length (group-spelt r bs q), length-append ((count-of r) ++ opening-byte ∷ []) (print bs ++ closing-byte ∷ []), length-append ((count-of r) ++ opening-byte ∷ []) (print bs), length-append (print bs) (closing-byte ∷ [])));
-              };
-              many = c;
-            }
-
-        module _ {x : Next} {out₂ : Bytes} (w : Branched (r .a) s A (set out₁ m opening-byte) (i + 1) (m + 1) x out₂) where
-          pub close-room : Room atom s A out i n → x .at + 1 ≤ length out₂
-          close-room g =
-              let (bs, q, c, h) = group-view s A r i same _ _ _ (g .tree) (g .set) k in
-              puts-room (puts-then (puts-more p₁ opening-byte) (w .writes _ _ _ bs c h)) (closing-byte ∷ [])
-              (omega (arith, g .room, ap length (group-spelt r bs q ∙ sym (append-assoc ((count-of r) ++ opening-byte ∷ []) (print bs) (closing-byte ∷ [])))))
-
-          pub close-fits : Room atom s A out i n → x .at + 1 ≤ length out
-          close-fits g =
-              let (bs, q, c, h) = group-view s A r i same _ _ _ (g .tree) (g .set) k in
-              omega (arith, close-room g, puts-length (w .writes _ _ _ bs c h), puts-length (puts-more p₁ opening-byte))
-
-          pub group-printed : Printed atom s A out i n (record { atom = x .atom; at = x .at + 1 }) (set out₂ (x .at) closing-byte)
-          unfolding size
-          group-printed =
-              record {
-                writes = λ e p d t f. let (bs, q, c, h) = group-view s A r i same e p d t f k in
-                    puts-as (puts-more (puts-then (puts-more p₁ opening-byte) (w .writes _ _ _ bs c h)) closing-byte) (append-assoc ((count-of r) ++ opening-byte ∷ []) (print bs) (closing-byte ∷ []) ∙ sym (group-spelt r bs q));
-                passes = λ e p d t f. let (bs, q, c, h) = group-view s A r i same e p d t f k in omega (arith, w .passes _ _ _ bs c h, ap (λ (y : Syntax atom). size y) q);
-              }
-
   -- ---- branches
 
   pub branch-room : {k : ℕ} → RoomFor k s A out i n → Room pattern s A out i n
@@ -206,7 +119,7 @@ module _ (s : Bytes) (A : ℕ) {out : Bytes} {i n : ℕ} where
   pub some-branch : {k : ℕ} → RoomFor k s A out i n → 0 < k
   some-branch g = omega (arith, g .many, some-choice (g .all .tree))
 
-  module _ (k : ℕ) {x : Next} {out₁ : Bytes} (w : Printed pattern s A out i n x out₁) where
+  module _ {k : ℕ} {x : Next} {out₁ : Bytes} (w : Printed pattern s A out i n x out₁) where
     pub only-printed : k ≡ 1 → Branched k s A out i n x out₁
     unfolding print size
     only-printed one =
@@ -251,4 +164,98 @@ module _ (s : Bytes) (A : ℕ) {out : Bytes} {i n : ℕ} where
             passes = λ e p d t c h. let (q, bs, z, j, f, g) = or-view s A i e p d t h (λ y. more (sym c ∙ y)) in
                 let g2 = subst (λ (j : ℕ). Set s A e bs j (p + length (pool q)) d) (sym (w .passes _ _ _ q f)) g in
                 omega (arith, v .passes _ _ _ bs (j ∙ ap (λ j. j - 1) c) g2, w .passes _ _ _ q f, ap (λ (y : Syntax branches). size y) z);
+          }
+
+  -- ---- the count of an atom
+
+  pub count-room : Room atom s A out i n → {r : Record} → r ≡ record-of (its s A i) → Fits (r .low) (high-of (r .high)) × (n + length (count-of r) ≤ length out)
+  unfolding print
+  count-room g {r} same =
+      let (b, q, f) = any-view s A r i same _ _ _ (g .tree) (g .set) in
+      (f, omega (arith, g .room, ap (λ (y : Syntax atom). length (print y)) q, length-append (count-of r) (print b)))
+
+-- ---- an atom
+
+-- the record of the atom at i was read, and its count written
+pub record Counted (s : Bytes) (A : ℕ) (out : Bytes) (i n : ℕ) (r : Record) (out₁ : Bytes) (m : ℕ) : Type 0 where
+  pub room : Room atom s A out i n
+  pub same : r ≡ record-of (its s A i)
+  pub puts : Puts out n (count-of r) out₁ m
+
+module _ {s : Bytes} {A : ℕ} {out : Bytes} {i n : ℕ} {r : Record} {out₁ : Bytes} {m : ℕ} (g : Counted s A out i n r out₁ m) where
+  -- codes
+  pub letters-room : r .kind ≡ 1 → m + length (print-set all-codes (r .a)) ≤ length out₁
+  unfolding print
+  letters-room k =
+      let q = codes-view s A r i (g .same) _ _ _ (g .room .tree) (g .room .set) k in
+      puts-room (g .puts) (print-set all-codes (r .a)) (omega (arith, g .room .room, ap (λ (y : Syntax atom). length (print y)) q))
+
+  pub codes-printed : {out₂ : Bytes} {z : ℕ} → r .kind ≡ 1 → Puts out₁ m (print-set all-codes (r .a)) out₂ z → Printed atom s A out i n (record { atom = i + 1; at = z }) out₂
+  unfolding print size
+  codes-printed k p₂ =
+      record {
+        writes = λ e p d t h. puts-as (puts-then (g .puts) p₂) (sym (ap (λ (y : Syntax atom). print y) (codes-view s A r i (g .same) e p d t h k)));
+        passes = λ e p d t h. let q = ap (λ (y : Syntax atom). size y) (codes-view s A r i (g .same) e p d t h k) in omega (arith, q);
+      }
+
+  -- a literal
+  module _ (k : r .kind ≡ 3 → ⊥) (l : r .kind ≡ 1 → ⊥) where
+    pub text-in : record-size * A + r .a + r .b ≤ length s
+    text-in = text-view s A r i (g .same) _ _ _ (g .room .tree) (g .room .set) k l .1
+
+    pub literal-room : m + length (quote-byte ∷ double (value-of s A r) ++ quote-byte ∷ []) ≤ length out₁
+    literal-room =
+        let q = text-view s A r i (g .same) _ _ _ (g .room .tree) (g .room .set) k l .0 in
+        puts-room (g .puts) (quote-byte ∷ double (value-of s A r) ++ quote-byte ∷ []) (omega (arith, g .room .room, ap length (literal-spelt s A r q)))
+
+    pub literal-printed : {out₂ : Bytes} {z : ℕ} → Puts out₁ m (quote-byte ∷ double (value-of s A r) ++ quote-byte ∷ []) out₂ z → Printed atom s A out i n (record { atom = i + 1; at = z }) out₂
+    unfolding size
+    literal-printed p₂ =
+        record {
+          writes = λ e p d t h. puts-as (puts-then (g .puts) p₂) (sym (literal-spelt s A r (text-view s A r i (g .same) e p d t h k l .0)));
+          passes = λ e p d t h. let q = ap (λ (y : Syntax atom). size y) (text-view s A r i (g .same) e p d t h k l .0) in omega (arith, q);
+        }
+
+  -- a group
+  module _ (k : r .kind ≡ 3) where
+    pub open-room : m + 1 ≤ length out₁
+    unfolding print
+    open-room =
+        let (bs, q, c, h) = group-view s A r i (g .same) _ _ _ (g .room .tree) (g .room .set) k in
+        puts-room (g .puts) (opening-byte ∷ []) (omega (arith, g .room .room, ap length (group-spelt r bs q), length-append ((count-of r) ++ opening-byte ∷ []) (print bs ++ closing-byte ∷ [])))
+
+    pub inner-room : RoomFor (r .a) s A (set out₁ m opening-byte) (i + 1) (m + 1)
+    inner-room =
+        let (bs, q, c, h) = group-view s A r i (g .same) _ _ _ (g .room .tree) (g .room .set) k in
+        record {
+          all = record {
+            ends = g .room .ends;
+            pool = g .room .pool;
+            depth = suc (g .room .depth);
+            tree = bs;
+            set = h;
+            room = puts-room (puts-more (g .puts) opening-byte) (print bs) (omega (arith, g .room .room, ap length (group-spelt r bs q), length-append ((count-of r) ++ opening-byte ∷ []) (print bs ++ closing-byte ∷ []), length-append ((count-of r) ++ opening-byte ∷ []) (print bs), length-append (print bs) (closing-byte ∷ [])));
+          };
+          many = c;
+        }
+
+    module _ {x : Next} {out₂ : Bytes} (w : Branched (r .a) s A (set out₁ m opening-byte) (i + 1) (m + 1) x out₂) where
+      pub close-room : x .at + 1 ≤ length out₂
+      close-room =
+          let (bs, q, c, h) = group-view s A r i (g .same) _ _ _ (g .room .tree) (g .room .set) k in
+          puts-room (puts-then (puts-more (g .puts) opening-byte) (w .writes _ _ _ bs c h)) (closing-byte ∷ [])
+          (omega (arith, g .room .room, ap length (group-spelt r bs q ∙ sym (append-assoc ((count-of r) ++ opening-byte ∷ []) (print bs) (closing-byte ∷ [])))))
+
+      pub close-fits : x .at + 1 ≤ length out
+      close-fits =
+          let (bs, q, c, h) = group-view s A r i (g .same) _ _ _ (g .room .tree) (g .room .set) k in
+          omega (arith, close-room, puts-length (w .writes _ _ _ bs c h), puts-length (puts-more (g .puts) opening-byte))
+
+      pub group-printed : Printed atom s A out i n (record { atom = x .atom; at = x .at + 1 }) (set out₂ (x .at) closing-byte)
+      unfolding size
+      group-printed =
+          record {
+            writes = λ e p d t f. let (bs, q, c, h) = group-view s A r i (g .same) e p d t f k in
+                puts-as (puts-more (puts-then (puts-more (g .puts) opening-byte) (w .writes _ _ _ bs c h)) closing-byte) (append-assoc ((count-of r) ++ opening-byte ∷ []) (print bs) (closing-byte ∷ []) ∙ sym (group-spelt r bs q));
+            passes = λ e p d t f. let (bs, q, c, h) = group-view s A r i (g .same) e p d t f k in omega (arith, w .passes _ _ _ bs c h, ap (λ (y : Syntax atom). size y) q);
           }

@@ -58,7 +58,7 @@ table-written table source e = sym (ap (λ o. written-back o source) (bad-is tab
 
 -- ---- a good table
 
-module _ (table : Bytes) (x : Summary) (g : Tree table x) where
+module _ {table : Bytes} {x : Summary} (g : Tree table x) where
   stands : Set (drop header-size table) (x .atoms) 1 (g .tree) 0 0 0
   stands =
       let (source, a, m) = good-exactly table (g .tree) .0 (g .decodes) in

@@ -1,9 +1,6 @@
 // The walk that writes: a cycle of three functions for patterns, atoms and groups.
 use super::parts;
 use pattern::limits::RECORD_SIZE;
-ghost use mathlib.Core.Path.{_≡_};
-ghost use Prim.Native.Nat.{_+_, _*_, _≤_, _<_};
-ghost use lib.ListN.{length};
 ghost use Rattle.pattern.specs.Syntax.{pattern as pattern-sort, atom as atom-sort};
 ghost use Rattle.printer.specs.Trees.{Room, Printed, RoomFor, Branched};
 
@@ -18,12 +15,15 @@ pub fn pattern(body: &[u8], atoms: usize, out: &mut [u8], i: usize, n: usize) ->
     requires { ⌜ Room pattern-sort (now body) atoms (now out) i n ⌝ }
     ensures { λ r. ⌜ Printed pattern-sort (now (body .entry)) atoms (now (out .entry)) i n r (now (out .exit)) ⌝ }
 {
-    let next = atom(body, atoms, out, i, n);
-    let r = table::fields(body, RECORD_SIZE * i);
-    if r.ends == 1 {
-        return next;
+    let mut from = Next { atom: i, at: n };
+    loop {
+        let next = atom(body, atoms, out, from.atom, from.at);
+        let r = table::fields(body, RECORD_SIZE * from.atom);
+        if r.ends == 1 {
+            return next;
+        }
+        from = next;
     }
-    pattern(body, atoms, out, next.atom, next.at)
 }
 
 // Atom i.
@@ -62,11 +62,19 @@ fn group(body: &[u8], atoms: usize, out: &mut [u8], i: usize, n: usize, k: usize
     requires { ⌜ RoomFor k (now body) atoms (now out) i n ⌝ }
     ensures { λ r. ⌜ Branched k (now (body .entry)) atoms (now (out .entry)) i n r (now (out .exit)) ⌝ }
 {
-    let next = pattern(body, atoms, out, i, n);
-    if k == 1 {
-        return next;
+    let mut from = Next { atom: i, at: n };
+    let mut left = k;
+    loop {
+        let next = pattern(body, atoms, out, from.atom, from.at);
+        if left == 1 {
+            return next;
+        }
+        let m = next.at;
+        out[m] = b',';
+        from = Next {
+            atom: next.atom,
+            at: m + 1,
+        };
+        left -= 1;
     }
-    let m = next.at;
-    out[m] = b',';
-    group(body, atoms, out, next.atom, m + 1, k - 1)
 }

@@ -1,9 +1,13 @@
 -- `write_back` meets its contract: each answer is what the test says of the table. Assumes nothing.
 use mathlib.Core.Path.{sym, _∙_}
 use borrow.Author.Needs.{needs}
-use Rattle.printer.proofs.Writing.{good-is, table-written, long, room-written, room-start, kept-length, length-written}
+use Rattle.printer.proofs.Writing.{Tree, good-is, table-written, long, room-written, room-start, kept-length, length-written}
 use Rattle.printer.proofs.write_back.Statement.{statement}
 use Rattle.printer.proofs.write_back.Tie as tie
+
+-- what is known of a good table
+good : (c : tie.After-known-told) → Tree (c .before .before .before .before .before .before .args .table .now) (c .before .s .given .0 .0)
+good c = good-is _ _ (sym (c .before .s .given .1) ∙ c .before .before .before .test .ensures)
 
 test-requires : tie.Need-test-requires
 test-requires c κs = search needs
@@ -12,47 +16,28 @@ enum-known-s : tie.Need-enum-known-s
 enum-known-s c = search needs
 
 returns : tie.Need-returns
-returns c =
-    let x = c .before .before .s .given .0 .0 in
-    let table = c .before .before .before .before .before .before .before .args .table .now in
-    room-written table x (good-is table x (sym (c .before .before .s .given .1) ∙ c .before .before .before .before .test .ensures)) (c .before .before .before .before .before .before .before .args .source .now) (c .if1 .taken)
+returns c = room-written (good (c .before)) (c .before .before .before .before .before .before .before .args .source .now) (c .if1 .taken)
 
 sub-pattern : tie.Need-sub-pattern
-sub-pattern c =
-    let x = c .before .before .s .given .0 .0 in
-    let table = c .before .before .before .before .before .before .before .args .table .now in
-    long table x (good-is table x (sym (c .before .before .s .given .1) ∙ c .before .before .before .before .test .ensures))
+sub-pattern c = long (good (c .before))
 
 part-pattern-start : tie.Need-part-pattern-start
-part-pattern-start c =
-    let x = c .before .before .s .given .0 .0 in
-    let table = c .before .before .before .before .before .before .before .args .table .now in
-    let h = long table x (good-is table x (sym (c .before .before .s .given .1) ∙ c .before .before .before .before .test .ensures)) in
-    search (needs, h)
+part-pattern-start c = search (needs, long (good (c .before)))
 
 part-pattern-end : tie.Need-part-pattern-end
 part-pattern-end c = search needs
 
 pattern-requires : tie.Need-pattern-requires
-pattern-requires c κs =
-    let x = c .before .before .before .before .s .given .0 .0 in
-    let table = c .before .before .before .before .before .before .before .before .before .args .table .now in
-    room-start table x (good-is table x (sym (c .before .before .before .before .s .given .1) ∙ c .before .before .before .before .before .before .test .ensures)) (c .before .before .before .before .before .before .before .before .before .args .source .now) (c .before .before .if1 .left)
+pattern-requires c κs = room-start (good (c .before .before .before)) (c .before .before .before .before .before .before .before .before .before .args .source .now) (c .before .before .if1 .left)
 
 enum-told : tie.Need-enum-told
 enum-told c = search needs
 
 same-length : tie.Need-same-length
-same-length c =
-    let x = c .before .before .before .before .before .before .before .s .given .0 .0 in
-    let table = c .before .before .before .before .before .before .before .before .before .before .before .before .args .table .now in
-    kept-length table x (good-is table x (sym (c .before .before .before .before .before .before .before .s .given .1) ∙ c .before .before .before .before .before .before .before .before .before .test .ensures)) (c .before .before .before .before .before .before .before .before .before .before .before .before .args .source .now) (c .before .before .before .before .before .if1 .left) (c .before .before .pattern .ensures)
+same-length c = kept-length (good (c .before .before .before .before .before .before)) (c .before .before .before .before .before .before .before .before .before .before .before .before .args .source .now) (c .before .before .before .before .before .if1 .left) (c .before .before .pattern .ensures)
 
 returns-2 : tie.Need-returns-2
-returns-2 c =
-    let x = c .before .before .before .before .before .before .before .s .given .0 .0 in
-    let table = c .before .before .before .before .before .before .before .before .before .before .before .before .args .table .now in
-    length-written table x (good-is table x (sym (c .before .before .before .before .before .before .before .s .given .1) ∙ c .before .before .before .before .before .before .before .before .before .test .ensures)) (c .before .before .before .before .before .before .before .before .before .before .before .before .args .source .now) (c .before .before .before .before .before .if1 .left) (c .before .before .pattern .ensures)
+returns-2 c = length-written (good (c .before .before .before .before .before .before)) (c .before .before .before .before .before .before .before .before .before .before .before .before .args .source .now) (c .before .before .before .before .before .if1 .left) (c .before .before .pattern .ensures)
 
 returns-3 : tie.Need-returns-3
 returns-3 c = table-written (c .before .before .before .before .before .args .table .now) (c .before .before .before .before .before .args .source .now) (sym (c .enum-told .given .1) ∙ c .before .before .test .ensures)
