@@ -1,12 +1,14 @@
 -- The reply to a line from what compiling and matching answer. Assumes nothing.
 use mathlib.Core.Path.{_≡_, refl, sym, ap, _∙_}
+use mathlib.Core.Bool.{true, false}
 use mathlib.Core.List.{[], _∷_}
 use Prim.Native.Nat.{ℕ, _+_, _-_, _^_, _≤_, _<_}
 use native.Mathlib.Numerals.{add-one}
 use native.Mathlib.Omega.{arith}
+use lib.Dec.{eqb}
 use lib.ListN.{length, take, drop, replicate, length-append, length-drop, length-replicate}
 use lib.Seq.{take-all}
-use borrow.Author.Tests.{ne-eqb, lt-ltb, le-ltb}
+use borrow.Author.Tests.{eq-eqb, ne-eqb, lt-ltb, le-ltb}
 use Rattle.pattern.specs.Bytes.{Bytes, bytes}
 use Rattle.pattern.specs.Answers.{Answer, refusal, result, Output, compileOf, Matched, matchOf}
 use Rattle.pattern.proofs.Tests.{if-true, if-false}
@@ -17,8 +19,8 @@ use Rattle.lines.specs.Reply.{first, cut-at, cut, verdict-text, match-te
 use Rattle.pattern.specs.Stores.{Puts}
 use Rattle.lines.specs.Stores.{Within}
 use Rattle.matcher.specs.declared.Matched as call
-use Rattle.matcher.specs.declared.Matched.the-variants as variant
-use Rattle.matcher.specs.Answered.{outcome-of}
+use Rattle.matcher.specs.declared.Answer as called
+use Rattle.matcher.specs.Answered.{answer-of as numbers-of, outcome-of}
 use Rattle.compiler.specs.declared.Compiled as compiler
 use Rattle.compiler.specs.declared.Compiled.the-variants as outcome
 use Rattle.compiler.specs.Compiling.{answer-of}
@@ -64,50 +66,27 @@ label-replied table label scratch h m e =
     ∙ ap shown-text (scratch-ignored table label scratch (replicate scratch-size 0) (replicate parts-room unset) budget (h ∙ sym (length-replicate {A = ℕ} scratch-size 0)))
     ∙ sym (shows (matchOf table label (replicate scratch-size 0) (replicate parts-room unset) budget))
 
--- the four answers
-module _ (scratch parts : Bytes) where
-  abbrev matching : Answer → Matched
-  matching a = record { answer = a; scratch = scratch; parts = parts }
-
-  pub yes-text : (trials : ℕ) → matched-text parts ≡ match-text (matching (result 1 trials))
-  unfolding match-text verdict-text
-  yes-text trials = refl
-
-  pub no-text : (trials : ℕ) → 48 ∷ [] ≡ match-text (matching (result 0 trials))
-  unfolding match-text verdict-text bytes
-  no-text trials = refl
-
-  pub exhausted-text : (trials : ℕ) → unmatched-text 15 ≡ match-text (matching (record { number = 15; position = 0; value = 0; trials = trials }))
-  unfolding match-text
-  exhausted-text trials = refl
-
-  pub refusal-text : (number : ℕ) → ¬ (number ≡ 0) → unmatched-text number ≡ match-text (matching (refusal number 0))
-  unfolding match-text
-  refusal-text number f = sym (if-false _ _ _ (ne-eqb number 0 f))
-
-  pub no-refusal-text : (number : ℕ) → number ≡ 0 → 48 ∷ [] ≡ match-text (matching (refusal number 0))
-  unfolding match-text verdict-text bytes
-  no-refusal-text number e = rw e
-
 -- what the matching call answers, under any scratch that is long enough
-module _ (table label scratch : Bytes) (h : length scratch ≡ scratch-size) (r : call.Matched) (s p : Bytes) (e : outcome-of budget r s p ≡ matchOf table label scratch (replicate parts-room unset) budget) where
-  replied-by : (q : call.Matched) → r ≡ q → match-text (outcome-of budget q s p) ≡ label-reply table label
-  replied-by q d = label-replied table label scratch h (outcome-of budget q s p) (ap (λ x. outcome-of budget x s p) (sym d) ∙ e)
+module _ (table label scratch : Bytes) (h : length scratch ≡ scratch-size) (r : call.Matched) (s p : Bytes) (e : outcome-of budget r s p ≡ matchOf table label scratch (replicate parts-room unset) budget)
+    (a : called.Answer) (n : record { number = a .number; position = 0; value = a .value; trials = a .trials } ≡ numbers-of budget r) where
+  replied : match-text (record { answer = record { number = a .number; position = 0; value = a .value; trials = a .trials }; scratch = s; parts = p }) ≡ label-reply table label
+  replied = label-replied table label scratch h _ (ap (λ (x : Answer). record { answer = x; scratch = s; parts = p }) n ∙ e)
 
-  pub yes-reply : (t : ℕ) → r ≡ variant.Yes t → matched-text p ≡ label-reply table label
-  yes-reply t d = yes-text s p t ∙ replied-by (variant.Yes t) d
+  pub unmatched-reply : 0 < a .number → unmatched-text (a .number) ≡ label-reply table label
+  unfolding match-text
+  unmatched-reply k = sym (if-false _ _ _ (ne-eqb (a .number) 0 (λ z. omega arith))) ∙ replied
 
-  pub no-reply : (t : ℕ) → r ≡ variant.No t → 48 ∷ [] ≡ label-reply table label
-  no-reply t d = no-text s p t ∙ replied-by (variant.No t) d
+  module _ (k : a .number ≤ 0) where
+    verdict-reply : (t : Bytes) → (elim (eqb (a .value) 0) [ true ↦ bytes "0" | false ↦ matched-text p ]) ≡ t → t ≡ label-reply table label
+    unfolding match-text verdict-text
+    verdict-reply t f = sym (if-true _ _ _ (eq-eqb (a .number) 0 (omega arith)) ∙ f) ∙ replied
 
-  pub exhausted-reply : r ≡ variant.Exhausted → unmatched-text 15 ≡ label-reply table label
-  exhausted-reply d = exhausted-text s p budget ∙ replied-by variant.Exhausted d
+    pub no-reply : a .value ≡ 0 → 48 ∷ [] ≡ label-reply table label
+    unfolding bytes
+    no-reply z = verdict-reply _ (if-true _ _ _ (eq-eqb (a .value) 0 z))
 
-  pub refusal-reply : (number : ℕ) → r ≡ variant.Refused number → ¬ (number ≡ 0) → unmatched-text number ≡ label-reply table label
-  refusal-reply number d f = refusal-text s p number f ∙ replied-by (variant.Refused number) d
-
-  pub no-refusal-reply : (number : ℕ) → r ≡ variant.Refused number → number ≡ 0 → 48 ∷ [] ≡ label-reply table label
-  no-refusal-reply number d z = no-refusal-text s p number z ∙ replied-by (variant.Refused number) d
+    pub yes-reply : ¬ (a .value ≡ 0) → matched-text p ≡ label-reply table label
+    yes-reply f = verdict-reply _ (if-false _ _ _ (ne-eqb (a .value) 0 f))
 
 -- ---- compiling
 

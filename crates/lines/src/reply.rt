@@ -9,15 +9,11 @@ ghost use Rattle.lines.specs.Stores.{Within};
 use crate::line::tab_at;
 use crate::text;
 use compiler::Compiled;
-use matcher::Matched;
 
 // "lines of at most 1,024 bytes, newline not counted"
 const LINE_LIMIT: usize = 1024;
 
 const BUDGET: u64 = 10000000;
-
-// The number of the refusal that says that the budget is exhausted.
-const EXHAUSTED: u64 = 15;
 
 // A label under a table.
 fn put_label(table: &[u8], label: &[u8], scratch: &mut [u8], out: &mut [u8], at: usize) -> usize
@@ -25,18 +21,14 @@ fn put_label(table: &[u8], label: &[u8], scratch: &mut [u8], out: &mut [u8], at:
     ensures { λ r. ⌜ Within 400 (label-reply (now (table .entry)) (now (label .entry))) (now (out .entry)) at (now (out .exit)) r ⌝ }
 {
     let mut parts = [text::UNSET; 128];
-    match matcher::match_label(table, label, scratch, &mut parts, BUDGET) {
-        Matched::Yes(_) => text::put_matched(&parts, out, at),
-        Matched::No(_) => text::put_byte(b'0', out, at),
-        Matched::Exhausted => text::put_unmatched(EXHAUSTED, out, at),
-        Matched::Refused(number) => {
-            // The answer with number 0 and verdict no is that of a label that doesn't match.
-            if number == 0 {
-                return text::put_byte(b'0', out, at);
-            }
-            text::put_unmatched(number as u64, out, at)
-        }
+    let a = matcher::match_label(table, label, scratch, &mut parts, BUDGET).numbers(BUDGET);
+    if a.number > 0 {
+        return text::put_unmatched(a.number as u64, out, at);
     }
+    if a.value == 0 {
+        return text::put_byte(b'0', out, at);
+    }
+    text::put_matched(&parts, out, at)
 }
 
 // A source and a label.

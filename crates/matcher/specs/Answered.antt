@@ -2,19 +2,22 @@
 use mathlib.Core.Path.{_≡_}
 use Prim.Native.Nat.{ℕ, _*_, _≤_}
 use lib.ListN.{length}
-use Rattle.pattern.specs.Numbers.{label-limit, BUDGET}
+use Rattle.pattern.specs.Numbers.{label-limit, TABLE, LABEL, WORK, PARTS, BUDGET}
 use Rattle.pattern.specs.Bytes.{Bytes}
 use Rattle.pattern.specs.Syntax.{top-size}
 use Rattle.pattern.specs.Decode.{tree-of}
 use Rattle.pattern.specs.Answers.{Answer, refusal, result, work, Matched as Outcome}
 use Rattle.matcher.specs.declared.Matched.{Matched}
-use Rattle.matcher.specs.declared.Matched.the-variants.{Refused, Exhausted, No, Yes}
+use Rattle.matcher.specs.declared.Matched.the-variants.{Table, Label, Work, Parts, Budget, No, Yes}
 use Rattle.matcher.specs.Atoms.{GoodTable, atoms}
 
 -- the paper's numbers for each case: "15 reports the budget as trials, every other refusal 0"
 abbrev pub answer-of : (budget : ℕ) → Matched → Answer
-answer-of budget (Refused number) = refusal number 0
-answer-of budget Exhausted = record { number = BUDGET; position = 0; value = 0; trials = budget }
+answer-of budget Table = refusal TABLE 0
+answer-of budget Label = refusal LABEL 0
+answer-of budget Work = refusal WORK 0
+answer-of budget Parts = refusal PARTS 0
+answer-of budget Budget = record { number = BUDGET; position = 0; value = 0; trials = budget }
 answer-of budget (No trials) = result 0 trials
 answer-of budget (Yes trials) = result 1 trials
 

@@ -2,7 +2,7 @@
 ghost use mathlib.Core.Path.{_≡_};
 ghost use Rattle.pattern.specs.Answers.{matchOf, tried};
 ghost use Rattle.pattern.specs.Decode.{tree-of};
-ghost use Rattle.matcher.specs.Answered.{outcome-of, Running};
+ghost use Rattle.matcher.specs.Answered.{answer-of, outcome-of, Running};
 
 mod atom;
 mod body;
@@ -21,12 +21,62 @@ use parts::write_parts;
 use pattern::limits::LABEL_LIMIT;
 use table::Tested;
 
-// The answer to a match: a refusal from 11 to 14; 15, the budget exhausted; or the verdict with the trials made.
+// The answer to a match: a refusal by its name in the paper, or the verdict with the trials made.
 pub enum Matched {
-    Refused(u8),
-    Exhausted,
+    Table,
+    Label,
+    Work,
+    Parts,
+    Budget,
     No(u64),
     Yes(u64),
+}
+
+// The numbers of an answer; value is the verdict, 1 for yes.
+pub struct Answer {
+    pub number: u32,
+    pub value: u64,
+    pub trials: u64,
+}
+
+// A refusal before any trial.
+fn refused(number: u32) -> Answer
+    ensures { λ r. ⌜ r ≡ record { number = number; value = 0; trials = 0 } ⌝ }
+{
+    Answer {
+        number,
+        value: 0,
+        trials: 0,
+    }
+}
+
+impl Matched {
+    // The paper's numbers for each case.
+    pub fn numbers(self, budget: u64) -> Answer
+        ensures { λ r. ⌜ record { number = r .number; position = 0; value = r .value; trials = r .trials } ≡ answer-of budget self ⌝ }
+    {
+        match self {
+            Matched::Table => refused(11),
+            Matched::Label => refused(12),
+            Matched::Work => refused(13),
+            Matched::Parts => refused(14),
+            Matched::Budget => Answer {
+                number: 15,
+                value: 0,
+                trials: budget,
+            },
+            Matched::No(trials) => Answer {
+                number: 0,
+                value: 0,
+                trials,
+            },
+            Matched::Yes(trials) => Answer {
+                number: 0,
+                value: 1,
+                trials,
+            },
+        }
+    }
 }
 
 // A match where no refusal but 15 can come.
@@ -48,7 +98,7 @@ fn run(
     let t = settle_all(table, label, scratch, w, top, budget);
     if t.stopped {
         clear(scratch, len); // on 15 too
-        return Matched::Exhausted;
+        return Matched::Budget;
     }
     if holds(scratch, w, 1, 0, n) {
         write_parts(table, label, scratch, w, parts);
@@ -70,19 +120,19 @@ pub fn match_label(
     ensures { λ r. ⌜ outcome-of budget r (now (scratch .exit)) (now (parts .exit)) ≡ matchOf (now (table .entry)) (now (label .entry)) (now (scratch .entry)) (now (parts .entry)) budget ⌝ }
 {
     match table::test(table) {
-        Tested::Bad => Matched::Refused(11),
+        Tested::Bad => Matched::Table,
         Tested::Good(s) => {
             let atoms = s.atoms;
             let top = s.top;
             let n = label.len();
             if LABEL_LIMIT < n {
-                return Matched::Refused(12);
+                return Matched::Label;
             }
             if scratch.len() < (2 * atoms + 4) * (n + 1) * (n + 1) {
-                return Matched::Refused(13);
+                return Matched::Work;
             }
             if parts.len() < 2 * top {
-                return Matched::Refused(14);
+                return Matched::Parts;
             }
             run(table, label, scratch, parts, atoms, budget)
         }

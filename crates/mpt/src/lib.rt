@@ -5,7 +5,6 @@ use crate::area::AREA_SIZE;
 use crate::area::put_answer;
 use compiler::Compiled;
 use compiler::compile;
-use matcher::Matched;
 use matcher::match_label;
 use printer::Written;
 use printer::write_back;
@@ -68,22 +67,7 @@ pub extern "C" fn mpt_match(
     if answer.len() < AREA_SIZE {
         return 9;
     }
-    match match_label(table, label, scratch, parts, budget) {
-        Matched::Yes(trials) => {
-            put_answer(answer, 0, 1, trials);
-            0
-        }
-        Matched::No(trials) => {
-            put_answer(answer, 0, 0, trials);
-            0
-        }
-        Matched::Exhausted => {
-            put_answer(answer, 0, 0, budget);
-            15
-        }
-        Matched::Refused(number) => {
-            put_answer(answer, 0, 0, 0);
-            number as u32
-        }
-    }
+    let a = match_label(table, label, scratch, parts, budget).numbers(budget);
+    put_answer(answer, 0, a.value, a.trials);
+    a.number
 }
