@@ -5,9 +5,7 @@ ghost use Rattle.compiler.specs.Bodies.{CodesRead, LiteralRead};
 use crate::cursor::Cursor;
 use crate::cursor::Letter;
 use crate::cursor::Text;
-
-// The bit of every letter other than the seven.
-const OTHER: u8 = 128;
+use pattern::limits::SET_LIMIT;
 
 // The set of a run of code letters, or the place of a letter that is no code.
 pub enum Letters {
@@ -31,7 +29,7 @@ pub fn codes_from(s: &[u8], c: Cursor) -> Letters
         match at.letter(s) {
             Letter::Is(b, next) => {
                 let bit = codes::bit(b);
-                if OTHER <= bit {
+                if SET_LIMIT <= bit {
                     return Letters::Fault(at.at);
                 }
                 set |= bit;

@@ -6,8 +6,8 @@ ghost use Rattle.compiler.specs.Counts.{cap, judge, NumberRead, CountRea
 use crate::cursor::Cursor;
 use crate::cursor::Digit;
 use crate::cursor::Point;
-use crate::refusal;
 use pattern::limits;
+use pattern::refusal;
 use pattern::repeat::Repeat;
 
 // Stands for every number over the limit.

@@ -4,8 +4,8 @@ ghost use Rattle.compiler.specs.Compiling.{answer-of, Emits, emitted};
 use crate::Compiled;
 use crate::copy::copy;
 use crate::copy::put16;
-use crate::refusal;
 use pattern::limits;
+use pattern::refusal;
 
 // A table of these records and this pool, or ROOM at the source's length.
 pub fn emit(

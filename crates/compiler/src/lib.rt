@@ -9,7 +9,6 @@ mod count;
 mod cursor;
 mod emit;
 mod reader;
-pub mod refusal;
 
 use crate::cursor::Cursor;
 use crate::emit::emit;
@@ -17,6 +16,7 @@ use crate::reader::Parsed;
 use crate::reader::State;
 use crate::reader::read_pattern;
 use pattern::limits;
+use pattern::refusal;
 
 // The length of the table, or a refusal and its position.
 pub enum Compiled {

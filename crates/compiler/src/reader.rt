@@ -12,8 +12,9 @@ use crate::count::count;
 use crate::cursor::Class;
 use crate::cursor::Cursor;
 use crate::cursor::Separator;
-use crate::refusal;
+use pattern::kind;
 use pattern::limits;
+use pattern::refusal;
 use pattern::repeat::Repeat;
 
 // How far a reader has come: the place in the source, the atoms so far, and the length of the pool.
@@ -42,7 +43,7 @@ fn coded(s: &[u8], c: Cursor, rep: Repeat, n: usize, p: usize, recs: &mut [u8]) 
 {
     match codes_from(s, c) {
         Letters::Set(set, next) => {
-            put_record(recs, n, 1, next.last(s), rep, set as u16, 0);
+            put_record(recs, n, kind::CODES, next.last(s), rep, set as u16, 0);
             Parsed::Done(State {
                 at: next,
                 atoms: n + 1,
@@ -68,7 +69,15 @@ fn worded(
 {
     match quoted(s, c, p, pool) {
         Literal::Value(next, end) => {
-            put_record(recs, n, 2, next.last(s), rep, p as u16, (end - p) as u16);
+            put_record(
+                recs,
+                n,
+                kind::LITERAL,
+                next.last(s),
+                rep,
+                p as u16,
+                (end - p) as u16,
+            );
             Parsed::Done(State {
                 at: next,
                 atoms: n + 1,
@@ -121,7 +130,15 @@ fn read_atom(s: &[u8], st: State, depth: usize, recs: &mut [u8], pool: &mut [u8]
                 match read_group(s, inner, depth + 1, recs, pool) {
                     Grouped::Done(end, k) => {
                         let stop = end.at;
-                        put_record(recs, n, 3, stop.last(s), rep, k as u16, end.atoms as u16);
+                        put_record(
+                            recs,
+                            n,
+                            kind::GROUP,
+                            stop.last(s),
+                            rep,
+                            k as u16,
+                            end.atoms as u16,
+                        );
                         Parsed::Done(end)
                     }
                     Grouped::Fault(no, pos) => Parsed::Fault(no, pos),

@@ -4,7 +4,7 @@ use mathlib.Core.Option.{Option, none, some}
 use Prim.Native.Nat.{ℕ, zero, suc, _+_, _*_, pred}
 use lib.Dec.{eqb}
 use lib.ListN.{length, getD, take, drop}
-use Rattle.pattern.specs.Numbers.{header-size, record-size, open-high}
+use Rattle.pattern.specs.Numbers.{codes-kind, literal-kind, header-size, record-size, open-high}
 use Rattle.pattern.specs.Bytes.{Bytes, same}
 use Rattle.pattern.specs.Syntax.{pattern, atom, body, branches, Syntax, last, then, repeat, codes, literal, group, only, or, size}
 use Rattle.pattern.specs.Scan.{Outcome, refused, accepted, outcome}
@@ -53,9 +53,9 @@ module _ (s : Bytes) (l : Layout) where
 
     pub body-at : ℕ → Rec → ℕ → Syntax body
     body-at zero r i = codes 0
-    body-at (suc f) r i = elim (eqb (r .kind) 1) [
+    body-at (suc f) r i = elim (eqb (r .kind) codes-kind) [
       | true ↦ codes (r .a)
-      | false ↦ elim (eqb (r .kind) 2) [ true ↦ literal (take (r .b) (drop (l .pool + r .a) s)) | false ↦ group (branches-at f (r .a) (suc i)) ]
+      | false ↦ elim (eqb (r .kind) literal-kind) [ true ↦ literal (take (r .b) (drop (l .pool + r .a) s)) | false ↦ group (branches-at f (r .a) (suc i)) ]
     ]
 
     pub branches-at : (f k i : ℕ) → Syntax branches

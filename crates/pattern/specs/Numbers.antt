@@ -96,6 +96,16 @@ mark = 77 ∷ 80 ∷ 84 ∷ []
 abbrev pub version : ℕ
 version = 1
 
+-- the kinds of a record
+abbrev pub codes-kind : ℕ
+codes-kind = 1
+
+abbrev pub literal-kind : ℕ
+literal-kind = 2
+
+abbrev pub group-kind : ℕ
+group-kind = 3
+
 -- where the records start, and the bytes of each
 abbrev pub header-size : ℕ
 header-size = 8

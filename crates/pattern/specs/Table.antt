@@ -3,7 +3,7 @@ use mathlib.Core.List.{List, [], _∷_, _++_}
 use mathlib.Core.Option.{Option, none, some}
 use Prim.Native.Nat.{ℕ, suc, _+_}
 use lib.ListN.{length}
-use Rattle.pattern.specs.Numbers.{mark, version, open-high}
+use Rattle.pattern.specs.Numbers.{mark, version, codes-kind, literal-kind, group-kind, open-high}
 use Rattle.pattern.specs.Bytes.{Bytes, word}
 use Rattle.pattern.specs.Syntax.{Sort, pattern, branches, body, Syntax, last, then, repeat, codes, literal, group, only, or, size}
 
@@ -39,9 +39,9 @@ pub record Rec : Type 0 where
 
 -- what a record says of the body of the atom with index i, with p bytes in the pool before it: kind, a and b
 unfoldable pub kind-field : Syntax body → ℕ
-kind-field (codes set) = 1
-kind-field (literal value) = 2
-kind-field (group bs) = 3
+kind-field (codes set) = codes-kind
+kind-field (literal value) = literal-kind
+kind-field (group bs) = group-kind
 
 unfoldable pub a-field : Syntax body → (p : ℕ) → ℕ
 a-field (codes set) p = set

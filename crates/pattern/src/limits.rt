@@ -1,7 +1,7 @@
 // The limits and sizes of the paper, each once, and the mark of a table.
 ghost use mathlib.Core.Path.{_≡_};
 ghost use mathlib.Core.List.{[], _++_};
-ghost use Rattle.pattern.specs.Numbers.{source-limit, atom-limit, depth-limit, number-limit, label-limit, header-size, record-size, mark, version};
+ghost use Rattle.pattern.specs.Numbers.{source-limit, atom-limit, depth-limit, number-limit, label-limit, set-limit, header-size, record-size, mark, version};
 ghost use Rattle.pattern.specs.Bytes.{word};
 
 pub const SOURCE_LIMIT: usize = 512;
@@ -13,6 +13,9 @@ pub const DEPTH_LIMIT: usize = 8;
 pub const NUMBER_LIMIT: u16 = 9999;
 
 pub const LABEL_LIMIT: usize = 255;
+
+// Sets of codes are below this; it is the bit of every letter other than the seven.
+pub const SET_LIMIT: u8 = 128;
 
 pub const HEADER_SIZE: usize = 8;
 
@@ -27,13 +30,14 @@ pub struct Limits {
     pub depth: usize,
     pub number: u16,
     pub label: usize,
+    pub set: u8,
     pub header: usize,
     pub record: usize,
 }
 
 // The constants are the paper's numbers.
 pub fn all() -> Limits
-    ensures { λ r. ⌜ r ≡ record { source = source-limit; atoms = atom-limit; depth = depth-limit; number = number-limit; label = label-limit; header = header-size; «record» = record-size } ⌝ }
+    ensures { λ r. ⌜ r ≡ record { source = source-limit; atoms = atom-limit; depth = depth-limit; number = number-limit; label = label-limit; set = set-limit; header = header-size; «record» = record-size } ⌝ }
 {
     Limits {
         source: SOURCE_LIMIT,
@@ -41,6 +45,7 @@ pub fn all() -> Limits
         depth: DEPTH_LIMIT,
         number: NUMBER_LIMIT,
         label: LABEL_LIMIT,
+        set: SET_LIMIT,
         header: HEADER_SIZE,
         record: RECORD_SIZE,
     }

@@ -5,7 +5,7 @@ use mathlib.Core.Option.{Option, none, some}
 use Prim.Native.Nat.{ℕ, zero, suc, _+_, _*_, pred}
 use lib.Dec.{leb, ltb, eqb}
 use lib.ListN.{length, take, drop}
-use Rattle.pattern.specs.Numbers.{source-limit, atom-limit, depth-limit, number-limit, set-limit, record-size, open-high}
+use Rattle.pattern.specs.Numbers.{source-limit, atom-limit, depth-limit, number-limit, set-limit, codes-kind, literal-kind, group-kind, record-size, open-high}
 use Rattle.pattern.specs.Bytes.{Bytes, between}
 use Rattle.pattern.specs.Syntax.{pattern, atom, body, branches, Syntax, last, then, repeat, codes, literal, group, only, or, size}
 use Rattle.pattern.specs.Print.{print}
@@ -56,8 +56,8 @@ module _ (s : Bytes) (A : ℕ) where
   -- a leaf, by its kind, with p bytes of the pool before it
   unfoldable pub leaf : Rec → (p : ℕ) → Option (Syntax body)
   leaf r p =
-      choose (eqb (r .kind) 1) (only-if (a-set (r .a)) (only-if (eqb (r .b) 0) (some (codes (r .a)))))
-      (only-if (eqb (r .kind) 2)
+      choose (eqb (r .kind) codes-kind) (only-if (a-set (r .a)) (only-if (eqb (r .b) 0) (some (codes (r .a)))))
+      (only-if (eqb (r .kind) literal-kind)
       (only-if (eqb (r .a) p)
       (only-if (leb (record-size * A + p + r .b) (length s))
       (only-if (plain (text p (r .b))) (some (literal (text p (r .b))))))))
@@ -81,7 +81,7 @@ module _ (s : Bytes) (A : ℕ) where
         only-if (ltb i A)
         (only-if (ordered (its i .low) (its i .high))
         (after (
-        choose (eqb (its i .kind) 3)
+        choose (eqb (its i .kind) group-kind)
         (only-if (ltb d depth-limit) (after (read-branches f (its i .a) (suc i) p (suc d)) (closed (its i .b) i)))
         (leaf (its i) p)
         ) λ b. some (repeat (its i .low) (high-of (its i .high)) b)))

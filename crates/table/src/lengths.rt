@@ -3,6 +3,7 @@ use pattern::repeat::Repeat;
 ghost use mathlib.Core.Path.{_≡_};
 ghost use Prim.Native.Nat.{_≤_, _<_};
 ghost use lib.ListN.{length};
+ghost use Rattle.pattern.specs.Numbers.{set-limit};
 ghost use Rattle.pattern.specs.Codes.{all-codes};
 ghost use Rattle.pattern.specs.Decode.{high-of};
 ghost use Rattle.pattern.specs.Print.{decimal, print-low, print-count, print-set};
@@ -54,7 +55,7 @@ pub fn count_length(low: u16, high: u16) -> usize
 
 // The letters of a set.
 pub fn letters(set: u16) -> usize
-    requires { ⌜ set < 128 ⌝ }
+    requires { ⌜ set < set-limit ⌝ }
     ensures { λ r. ⌜ (r ≡ length (print-set all-codes set)) × (r ≤ 7) ⌝ }
 {
     let few = (set % 16) as usize;

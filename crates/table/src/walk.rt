@@ -2,9 +2,11 @@
 use super::Record;
 use super::lengths;
 use super::lengths::Text;
+use pattern::kind;
 use pattern::limits::DEPTH_LIMIT;
 use pattern::limits::NUMBER_LIMIT;
 use pattern::limits::RECORD_SIZE;
+use pattern::limits::SET_LIMIT;
 use pattern::repeat::Repeat;
 ghost use mathlib.Core.Path.{_≡_};
 ghost use Prim.Native.Nat.{_+_, _*_, _≤_, _<_};
@@ -60,7 +62,7 @@ fn is_set(a: u16) -> bool
     if a == 0 {
         return false;
     }
-    a < 128
+    a < SET_LIMIT as u16
 }
 
 // The leaf of kind 1.
@@ -100,10 +102,10 @@ fn leaf_at(body: &[u8], atoms: usize, r: Record, p: usize) -> Leaf
     requires { ⌜ LeafReady (now body) atoms p ⌝ }
     ensures { λ x. ⌜ LeafRead (now (body .entry)) atoms p (leaf (now (body .entry)) atoms (as-rec r) p) x ⌝ }
 {
-    if r.kind == 1 {
+    if r.kind == kind::CODES {
         return codes_leaf(body, atoms, r.a, r.b, p);
     }
-    if r.kind == 2 {
+    if r.kind == kind::LITERAL {
         return text_leaf(body, atoms, r.a, r.b, p);
     }
     Leaf::Bad
@@ -157,7 +159,7 @@ fn atom(body: &[u8], atoms: usize, at: Place, depth: usize) -> Passed
         let mut next = at;
         next.atom = i + 1;
         next.source += lengths::count_length(r.low, r.high);
-        if r.kind == 3 {
+        if r.kind == kind::GROUP {
             if depth < DEPTH_LIMIT {
                 next.source += 1;
                 match group(body, atoms, next, depth + 1, r.a as usize) {
