@@ -21,7 +21,7 @@ pub struct Number {
 
 pub enum Counted {
     Repeat(Repeat, Cursor),
-    Fault(u8, usize),
+    Fault(u32, usize),
 }
 
 // The number v and then the digit d.

@@ -21,7 +21,7 @@ use pattern::refusal;
 // The length of the table, or a refusal and its position.
 pub enum Compiled {
     Table(usize),
-    Refused(u8, usize),
+    Refused(u32, usize),
 }
 
 // A refused call has written nothing.

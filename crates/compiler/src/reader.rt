@@ -27,13 +27,13 @@ pub struct State {
 // Where a pattern or an atom ends, or a refusal and its position.
 pub enum Parsed {
     Done(State),
-    Fault(u8, usize),
+    Fault(u32, usize),
 }
 
 // Where a group ends and how many branches it has, or a refusal and its position.
 pub enum Grouped {
     Done(State, usize),
-    Fault(u8, usize),
+    Fault(u32, usize),
 }
 
 // An atom of code letters, after its count.

@@ -6,6 +6,7 @@ use crate::area::put_answer;
 use compiler::Compiled;
 use compiler::compile;
 use matcher::match_label;
+use pattern::refusal;
 use printer::Written;
 use printer::write_back;
 ghost use mathlib.Core.Path.{_≡_};
@@ -16,7 +17,7 @@ pub extern "C" fn mpt_compile(source: &[u8], table: &mut [u8], answer: &mut [u8]
     ensures { λ r. ⌜ record { number = r; bytes = now (table .exit); answer = now (answer .exit) } ≡ compile-call (now (source .entry)) (now (table .entry)) (now (answer .entry)) ⌝ }
 {
     if answer.len() < AREA_SIZE {
-        return 9;
+        return refusal::ANSWER;
     }
     match compile(source, table) {
         Compiled::Table(length) => {
@@ -25,7 +26,7 @@ pub extern "C" fn mpt_compile(source: &[u8], table: &mut [u8], answer: &mut [u8]
         }
         Compiled::Refused(number, position) => {
             put_answer(answer, position as u64, 0, 0);
-            number as u32
+            number
         }
     }
 }
@@ -35,7 +36,7 @@ pub extern "C" fn mpt_write_back(table: &[u8], source: &mut [u8], answer: &mut [
     ensures { λ r. ⌜ record { number = r; bytes = now (source .exit); answer = now (answer .exit) } ≡ write-call (now (table .entry)) (now (source .entry)) (now (answer .entry)) ⌝ }
 {
     if answer.len() < AREA_SIZE {
-        return 9;
+        return refusal::ANSWER;
     }
     match write_back(table, source) {
         Written::Length(length) => {
@@ -44,11 +45,11 @@ pub extern "C" fn mpt_write_back(table: &[u8], source: &mut [u8], answer: &mut [
         }
         Written::Room => {
             put_answer(answer, 0, 0, 0);
-            8
+            refusal::ROOM
         }
         Written::Table => {
             put_answer(answer, 0, 0, 0);
-            11
+            refusal::TABLE
         }
     }
 }
@@ -65,7 +66,7 @@ pub extern "C" fn mpt_match(
     ensures { λ r. ⌜ record { number = r; scratch = now (scratch .exit); parts = now (parts .exit); answer = now (answer .exit) } ≡ match-call (now (table .entry)) (now (label .entry)) (now (scratch .entry)) (now (parts .entry)) budget (now (answer .entry)) ⌝ }
 {
     if answer.len() < AREA_SIZE {
-        return 9;
+        return refusal::ANSWER;
     }
     let a = match_label(table, label, scratch, parts, budget).numbers(budget);
     put_answer(answer, 0, a.value, a.trials);

@@ -1,28 +1,28 @@
 // The refusal numbers of the paper.
-pub const LONG: u8 = 1;
+pub const LONG: u32 = 1;
 
-pub const FORM: u8 = 2;
+pub const FORM: u32 = 2;
 
-pub const CODE: u8 = 3;
+pub const CODE: u32 = 3;
 
-pub const NUMBER: u8 = 4;
+pub const NUMBER: u32 = 4;
 
-pub const RANGE: u8 = 5;
+pub const RANGE: u32 = 5;
 
-pub const ATOMS: u8 = 6;
+pub const ATOMS: u32 = 6;
 
-pub const DEPTH: u8 = 7;
+pub const DEPTH: u32 = 7;
 
-pub const ROOM: u8 = 8;
+pub const ROOM: u32 = 8;
 
-pub const ANSWER: u8 = 9;
+pub const ANSWER: u32 = 9;
 
-pub const TABLE: u8 = 11;
+pub const TABLE: u32 = 11;
 
-pub const LABEL: u8 = 12;
+pub const LABEL: u32 = 12;
 
-pub const WORK: u8 = 13;
+pub const WORK: u32 = 13;
 
-pub const PARTS: u8 = 14;
+pub const PARTS: u32 = 14;
 
-pub const BUDGET: u8 = 15;
+pub const BUDGET: u32 = 15;
