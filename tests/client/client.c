@@ -1,5 +1,5 @@
 /* A C client of libmpt.a: compiles, matches and writes back, and exits 1 on any surprise.
- * cc -Wall -Wextra -Werror -I../../include client.c ../../target/staticlib/libmpt.a -o client */
+ * cc -std=c99 -pedantic -Wall -Wextra -Werror -I../../include client.c ../../target/staticlib/libmpt.a -o client */
 
 #include <stdint.h>
 #include <stdio.h>
@@ -160,6 +160,17 @@ static void short_answers(void)
     }
 }
 
+static void long_answers(void)
+{
+    uint8_t area[ANSWER_LEN + 9];
+    for (size_t len = ANSWER_LEN; len <= sizeof area; len++) {
+        memset(area, DIRT, sizeof area);
+        expect(mpt_compile((const uint8_t *)"2N", 2, table, sizeof table, area, len) == 0, "a long answer area");
+        expect(area[8] == 18 && all_are(area + 9, ANSWER_LEN - 9, 0), "the table length in a long answer area");
+        expect(all_are(area + ANSWER_LEN, sizeof area - ANSWER_LEN, DIRT), "bytes after the answer");
+    }
+}
+
 static void null_pointers(void)
 {
     expect(mpt_compile(NULL, 0, NULL, 0, answer, sizeof answer) == MPT_FORM, "no source");
@@ -184,6 +195,7 @@ int main(void)
     matching();
     writing_back();
     short_answers();
+    long_answers();
     null_pointers();
     printf("no surprise\n");
     return 0;

@@ -4,11 +4,12 @@
 //! compare --replay LINE
 
 mod call;
-mod generate;
-mod random;
+mod cases;
+mod fixed;
+mod tables;
 
 use call::{compare, Call, Case};
-use random::Random;
+use generate::Random;
 use std::collections::BTreeMap;
 use std::process::exit;
 
@@ -125,12 +126,12 @@ impl Tally {
 fn main() {
     let options = options();
     let mut tally = Tally::default();
-    for case in options.short.map_or(Vec::new(), generate::fixed) {
+    for case in options.short.map_or(Vec::new(), fixed::fixed) {
         tally.make(&case, &options);
     }
     for index in 0..options.count {
         let mut random = Random::new(options.seed << 40 ^ index << 2);
-        let case = generate::case(&mut random, options.dearest);
+        let case = cases::case(&mut random, options.dearest);
         tally.make(&case, &options);
     }
     tally.print();

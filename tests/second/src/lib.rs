@@ -1,6 +1,7 @@
 //! The second program: M patterns compiled, written back and matched,
 //! written from the papers alone to be compared with the main one.
 
+pub mod line;
 mod matching;
 mod source;
 mod table;

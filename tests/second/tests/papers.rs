@@ -252,3 +252,18 @@ fn classes_of_codes() {
         );
     }
 }
+
+#[test]
+fn line_tool() {
+    let input = b"2N\t42\n2N\t4x\n2N,\t42";
+    let answers = ["1 2", "0", "R 2 2"];
+    assert_eq!(line::answers(input), answers);
+    assert_eq!(line::answers(&[&input[..], b"\n"].concat()), answers);
+    assert!(line::answers(b"").is_empty());
+    assert_eq!(line::answers(b"\n\t\n"), ["T", "R 2 0"]);
+    assert_eq!(line::answer(&[b'\t'; 1_024]), "R 2 0");
+    assert_eq!(line::answer(&[b'\t'; 1_025]), "L");
+    assert_eq!(line::answer(&[&b"1N\t"[..], &[b'1'; 256]].concat()), "M 12");
+    assert_eq!(line::answer(&[&b"1N\t"[..], &[b'1'; 104]].concat()), "M 13");
+    assert_eq!(line::answer(&[&b".N\t"[..], &[b'1'; 103]].concat()), "M 15");
+}

@@ -1,0 +1,140 @@
+//! (c) and (d): matching.
+
+use crate::medians::medians;
+use crate::tables::table_of;
+use crate::{clock, naive, plain, proved};
+use std::hint::black_box;
+
+/// A way to match: the library, plain Rust, or plain Rust with the unchecked loop.
+type Way = fn(&[u8], &[u8], &mut [u8], &mut [u8], u64) -> Result<plain::Verdict, plain::Refusal>;
+
+/// The trials of a match and the median time of each way, in nanoseconds.
+fn time_match<const WAYS: usize>(
+    table: &[u8],
+    label: &[u8],
+    ways: [Way; WAYS],
+    samples: usize,
+) -> (u64, [f64; WAYS]) {
+    let work = (2 * usize::from(table[5]) + 4) * (label.len() + 1) * (label.len() + 1);
+    let mut scratch = vec![0; work];
+    // Every way gives the same answer and parts.
+    let found = ways.map(|way| {
+        let mut parts = [0; 128];
+        (way(table, label, &mut scratch, &mut parts, u64::MAX), parts)
+    });
+    assert!(found.iter().all(|each| *each == found[0]));
+    let (_, trials) = found[0].0.unwrap();
+    let mut calls = ways.map(|way| {
+        let (mut scratch, mut parts) = (vec![0; work], [0; 128]);
+        move || {
+            let budget = black_box(u64::MAX);
+            _ = black_box(way(
+                table,
+                black_box(label),
+                &mut scratch,
+                &mut parts,
+                budget,
+            ))
+        }
+    });
+    let calls = calls.each_mut().map(|call| call as &mut dyn FnMut());
+    (trials, medians(samples, calls))
+}
+
+pub fn matching(samples: usize, lens: &[usize]) {
+    println!("\n(c) matching, ns a trial");
+    println!(
+        "{:<16}{:>5}{:>12}{:>10}{:>10}{:>10}{:>10}{:>10}",
+        "pattern", "n", "trials", "library", "plain", "unsafe", "ratio", "to unsafe"
+    );
+    let digits = |n: usize| (0..n).map(|at| b'0' + (at % 10) as u8).collect::<Vec<u8>>();
+    let mixed = |n: usize| (0..n).map(|at| b"12ab3c"[at % 6]).collect::<Vec<u8>>();
+    let price = |n: usize| {
+        (0..n)
+            .map(|at| *b"123.45".get(at).unwrap_or(&b'U'))
+            .collect::<Vec<u8>>()
+    };
+    type Label<'l> = &'l dyn Fn(usize) -> Vec<u8>;
+    let rows: [(&str, Label); 4] = [
+        (".E", &digits),
+        (".(.(.N,.A))", &mixed),
+        ("3N1\".\"2N.U", &price),
+        (".N.A.N1\"!\"", &digits),
+    ];
+    for (source, label) in rows {
+        let table = table_of(source.as_bytes());
+        for &n in lens {
+            let ways: [Way; 3] = [
+                proved::match_label,
+                plain::match_label,
+                plain::match_label_unchecked,
+            ];
+            let (trials, times) = time_match(&table, &label(n), ways, samples);
+            let [library, plain, unchecked] = times.map(|time| time / trials as f64);
+            println!(
+                "{source:<16}{n:>5}{trials:>12}{library:>10.3}{plain:>10.3}{unchecked:>10.3}{:>10.2}{:>10.2}",
+                library / plain,
+                library / unchecked
+            );
+        }
+    }
+}
+
+/// `.(.(.(.N,.A)))1"!"` for the backtracking matcher.
+fn group_of_groups() -> Vec<naive::Atom> {
+    use naive::{Atom, Pattern};
+    let any = |body| Atom {
+        low: 0,
+        high: usize::MAX,
+        body,
+    };
+    let digit = any(Pattern::Code(|byte| byte.is_ascii_digit()));
+    let letter = any(Pattern::Code(|byte| byte.is_ascii_alphabetic()));
+    let inner = any(Pattern::Group(vec![vec![digit], vec![letter]]));
+    let middle = any(Pattern::Group(vec![vec![inner]]));
+    let outer = any(Pattern::Group(vec![vec![middle]]));
+    vec![
+        outer,
+        Atom {
+            low: 1,
+            high: 1,
+            body: Pattern::Byte(b'!'),
+        },
+    ]
+}
+
+pub fn groups_of_groups(samples: usize, lens: &[usize]) {
+    let source = ".(.(.(.N,.A)))1\"!\"";
+    println!("\n(d) {source} on digits ended by -!, milliseconds a call");
+    println!(
+        "{:>5}{:>14}{:>14}{:>12}{:>12}{:>8}{:>14}{:>14}",
+        "n", "bound", "trials", "library", "plain", "ratio", "backtracking", "its steps"
+    );
+    let table = table_of(source.as_bytes());
+    let pattern = group_of_groups();
+    let mut stopped = false;
+    for &n in lens {
+        let label = [vec![b'1'; n - 2], b"-!".to_vec()].concat();
+        let ways: [Way; 2] = [proved::match_label, plain::match_label];
+        let (trials, times) = time_match(&table, &label, ways, samples);
+        let [library, plain] = times.map(|time| time / 1e6);
+        let bound = (table[5] as u64) * ((n + 1) * (n + 1) * (n + 2) * (n + 3) / 6) as u64;
+        let ratio = library / plain;
+        print!("{n:>5}{bound:>14}{trials:>14}{library:>12.3}{plain:>12.3}{ratio:>8.2}");
+        if stopped {
+            println!("{:>14}{:>14}", "-", "-");
+            continue;
+        }
+        let start = clock::nanoseconds();
+        let mut search = naive::Search::new(&label, start + 10_000_000_000);
+        assert!(!search.run(&pattern));
+        stopped = search.stopped;
+        let time = (clock::nanoseconds() - start) as f64 / 1e6;
+        let shown = if stopped {
+            "over 10 s".to_string()
+        } else {
+            format!("{time:.3}")
+        };
+        println!("{shown:>14}{:>14}", search.steps);
+    }
+}

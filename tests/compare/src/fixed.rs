@@ -1,0 +1,187 @@
+//! Fixed lists of calls.
+
+use crate::call::{Call, Case};
+use crate::tables::table_of;
+use generate::{Atom, Body, LETTERS};
+
+/// Every byte as a code, in a literal and as a label against every code.
+fn each_byte() -> Vec<Call> {
+    let mut calls = Vec::new();
+    for byte in 0..=255 {
+        for source in [
+            vec![b'1', byte],
+            vec![b'1', b'"', byte, b'"'],
+            vec![byte, b'N'],
+            vec![b'1', b'N', byte],
+        ] {
+            calls.push(Call::Compile {
+                source,
+                table_len: 19,
+            });
+        }
+        for letter in LETTERS {
+            let table = second::compile(&[b'1', *letter], 18).unwrap();
+            calls.push(Call::Match {
+                table,
+                label: vec![byte],
+                scratch_len: 24,
+                parts_len: 2,
+                budget: 4,
+            });
+        }
+    }
+    calls
+}
+
+/// Repeat numbers about each change of their length, as sources and in tables.
+fn each_count() -> Vec<Call> {
+    let numbers = [
+        0, 1, 2, 7, 9, 10, 11, 99, 100, 101, 255, 256, 999, 1_000, 9_998, 9_999, 10_000, 65_534,
+        65_535,
+    ];
+    let mut calls = Vec::new();
+    for low in numbers {
+        for source in [
+            format!("{low}N"),
+            format!("{low}.N"),
+            format!(".{low}N"),
+            format!("000{low}N"),
+        ] {
+            calls.push(Call::Compile {
+                source: source.into_bytes(),
+                table_len: 18,
+            });
+        }
+        for high in numbers {
+            calls.push(Call::Compile {
+                source: format!("{low}.{high}N").into_bytes(),
+                table_len: 18,
+            });
+            let table = table_of(&[Atom {
+                low,
+                high: Some(high),
+                body: Body::Codes(16),
+            }]);
+            calls.push(Call::WriteBack {
+                table,
+                source_len: 10,
+            });
+        }
+    }
+    calls
+}
+
+/// The examples of the papers and what is made of every byte, count, short source and changed table.
+pub fn fixed(longest: usize) -> Vec<Case> {
+    let short = short_sources(longest)
+        .into_iter()
+        .map(|source| Call::Compile {
+            source,
+            table_len: 60,
+        });
+    let changed = changed_tables().into_iter().flat_map(|table| {
+        let label = b"a\"5bc".to_vec();
+        let matched = Call::Match {
+            table: table.clone(),
+            label,
+            scratch_len: 720,
+            parts_len: 6,
+            budget: 9_999,
+        };
+        [
+            Call::WriteBack {
+                table,
+                source_len: 60,
+            },
+            matched,
+        ]
+    });
+    let calls = examples()
+        .into_iter()
+        .chain(each_byte())
+        .chain(each_count())
+        .chain(short)
+        .chain(changed);
+    calls
+        .map(|call| Case {
+            call,
+            answer_len: 32,
+            dirt: 1,
+        })
+        .collect()
+}
+
+/// The matches that the papers name, under an ample budget and under each one up to 4.
+fn examples() -> Vec<Call> {
+    let pairs: [(&[u8], &[u8]); 20] = [
+        (b"3N1\".\"2N.U", b"123.45"),
+        (b"3N1\".\"2N.U", b"123.45a"),
+        (b"1.6N1.2N", b"1234567"),
+        (b".N.N", b"12"),
+        (b"2(1N,1A)", b"a1"),
+        (b"9000(.N)", b"12"),
+        (b"300\"\"", b""),
+        (b"300N", b"12"),
+        (b"1N", b"7"),
+        (b"1N", b"x"),
+        (b"1N1A", b""),
+        (b"0N", b""),
+        (b"1E", b"\xc8"),
+        (b"1\"a\"\"b\"", b"a\"b"),
+        (b".N1N", b"12"),
+        (b".5N", b"123456"),
+        (b".(.N,1A)", b"a"),
+        (b".(.N)", b"12"),
+        (b"2N1(3P2A,2P3A).E", b"12!!abc"),
+        (b"2N1\"-\"1(3N1\"-\"1N,1N1\":\"4N)", b"12-3:4567"),
+    ];
+    let mut calls = Vec::new();
+    for (source, label) in pairs {
+        for budget in [0, 1, 2, 3, 4, u64::MAX] {
+            let table = second::compile(source, 999).unwrap();
+            calls.push(Call::Match {
+                table,
+                label: label.to_vec(),
+                scratch_len: 4_000,
+                parts_len: 20,
+                budget,
+            });
+        }
+    }
+    calls
+}
+
+/// Every source of at most `most` bytes over a small alphabet.
+fn short_sources(most: usize) -> Vec<Vec<u8>> {
+    let alphabet = b"05.Nq\"(,)\x1f";
+    let mut all = vec![Vec::new()];
+    let mut from = 0;
+    for _ in 0..most {
+        let to = all.len();
+        for at in from..to {
+            for &byte in alphabet {
+                let longer = [&all[at][..], &[byte]].concat();
+                all.push(longer);
+            }
+        }
+        from = to;
+    }
+    all
+}
+
+/// A table with one byte changed to each other value, at each place; every cut; a byte more.
+fn changed_tables() -> Vec<Vec<u8>> {
+    let table =
+        second::compile(b"2.(1\"a\"\"\",3.5AN.(.E,1\"\"))1\"bc\".9999L", usize::MAX).unwrap();
+    let mut all = Vec::new();
+    for at in 0..table.len() {
+        for byte in 0..=255 {
+            let mut changed = table.clone();
+            changed[at] = byte;
+            all.push(changed);
+        }
+    }
+    all.extend((0..table.len()).map(|len| table[..len].to_vec()));
+    all.extend((0..=255).map(|byte| [&table[..], &[byte]].concat()));
+    all
+}

@@ -1,0 +1,115 @@
+//! The papers' lines, and each limit from both sides.
+
+/// A source and a label.
+type Pair = (&'static [u8], &'static [u8]);
+
+const PAIRS: [Pair; 31] = [
+    (b"2N", b"42"),
+    (b"2N", b"4x"),
+    (b"2N,", b"42"),
+    (b"3N1\".\"2N.U", b"123.45"),
+    (b"3N1\".\"2N.U", b"123.45a"),
+    (b"1.6N1.2N", b"1234567"),
+    (b".N.N", b"12"),
+    (b"2(1N,1A)", b"a1"),
+    (b"9000(.N)", b"12"),
+    (b"300\"\"", b""),
+    (b"300N", b"12"),
+    (b"1N", b"7"),
+    (b"1N", b"x"),
+    (b"1N1A", b""),
+    (b"0N", b""),
+    (b"1E", b"\xc8"),
+    (b"1\"a\"\"b\"", b"a\"b"),
+    (b".N1N", b"12"),
+    (b".(.N,1A)", b"a"),
+    (b".(.N)", b""),
+    (b".5N", b"123456"),
+    (b".5N", b""),
+    (b"", b"42"),
+    (b"1()", b"x"),
+    (b"1(2N", b"x"),
+    (b"5.3N", b"x"),
+    (b"5..", b"x"),
+    (b"3Q", b"x"),
+    (b"3.10000N", b"x"),
+    (b"9999N", b"x"),
+    (b"0003.0005n", b"1234"),
+];
+
+/// No tab, several tabs, carriage returns, zero bytes, bytes above 127.
+const ODD: [&[u8]; 16] = [
+    b"",
+    b"no tab",
+    b"\t",
+    b"\t\t",
+    b"2N\t4\t2",
+    b"2N1C1N\t42\t7",
+    b"2N\t42\r",
+    b"2N1C\t42\r",
+    b"2N\r\t42",
+    b"\r",
+    b"1C\t\0",
+    b"1\0N\t1",
+    b"\0\0",
+    b".E\t\0\x7f\x80",
+    b"1\"\x80\"\t\x80",
+    b"3N\t123",
+];
+
+fn line(source: &[u8], label: &[u8]) -> Vec<u8> {
+    [source, b"\t", label].concat()
+}
+
+fn nested(depth: usize) -> Vec<u8> {
+    [b"1(".repeat(depth), b"1N".to_vec(), b")".repeat(depth)].concat()
+}
+
+fn literal(len: usize) -> Vec<u8> {
+    [b"1\"".to_vec(), vec![b'x'; len], b"\"".to_vec()].concat()
+}
+
+/// Sources, labels and lines of the greatest length, and of one byte or atom more.
+fn at_limits() -> Vec<Vec<u8>> {
+    let x = |len| vec![b'x'; len];
+    let mut lines = vec![
+        line(&b"1N".repeat(65), b"x"),
+        line(&b"1N".repeat(64), &[b'1'; 64]),
+        line(&b".N".repeat(64), &[b'1'; 21]),
+        line(&nested(9), b"1"),
+        line(&nested(8), b"1"),
+        line(&b"1N".repeat(256), b"x"),
+        line(&b"1N".repeat(257), b"x"),
+        line(&literal(509), b"x"),
+        line(&literal(510), b"x"),
+        line(b".E.E.E", &x(80)),
+        line(b".(.(.(.E)))", &b"ab".repeat(40)),
+        line(b".(.(.N,.A),.E)", &b"ab".repeat(50)),
+    ];
+    lines.extend([255, 256, 1_021, 1_022].map(|len| line(b".E", &x(len))));
+    lines.extend([1_023, 1_024].map(|len| line(&x(len), b"")));
+    lines.extend([1_024, 1_025, 3_000, 70_000].map(x));
+    lines
+}
+
+/// For a pattern the longest label whose trials are within the budget, and one byte more.
+fn at_budget() -> Vec<Vec<u8>> {
+    let mut lines = Vec::new();
+    for source in [".E", "1.N", ".N.N", ".(.N,.A)"] {
+        let digits = |len| line(source.as_bytes(), &vec![b'7'; len]);
+        let over = |len: &usize| second::line::answer(&digits(*len)) == "M 15";
+        let first = (40..104).find(over).unwrap();
+        lines.extend([digits(first - 1), digits(first)]);
+    }
+    lines
+}
+
+pub fn lines() -> Vec<Vec<u8>> {
+    let pairs = PAIRS.iter().map(|(source, label)| line(source, label));
+    let odd = ODD.iter().map(|line| line.to_vec());
+    pairs
+        .chain(odd)
+        .chain(at_limits())
+        .chain(at_budget())
+        .collect()
+}
