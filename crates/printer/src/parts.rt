@@ -9,20 +9,31 @@ ghost use Rattle.pattern.specs.Codes.{all-codes};
 ghost use Rattle.pattern.specs.Within.{Fits};
 ghost use Rattle.pattern.specs.Decode.{high-of};
 ghost use Rattle.pattern.specs.Print.{decimal, print-low, print-count, print-set, double};
+ghost use Rattle.printer.specs.Digits.{digit-at};
 ghost use Rattle.printer.specs.Stores.{Puts};
+
+// The digit of a number at a unit, left out where the number is less than the unit.
+fn digit(out: &mut [u8], n: usize, x: u16, unit: u16) -> usize
+    requires { ⌜ (0 < unit) × (n + length (digit-at x unit) ≤ length (now out)) ⌝ }
+    ensures { λ r. ⌜ Puts (now (out .entry)) n (digit-at x unit) (now (out .exit)) r ⌝ }
+{
+    if x < unit {
+        return n;
+    }
+    out[n] = b'0' + (x / unit % 10) as u8;
+    n + 1
+}
 
 // A number in decimal.
 fn number(out: &mut [u8], n: usize, x: u16) -> usize
     requires { ⌜ (x ≤ number-limit) × (n + length (decimal x) ≤ length (now out)) ⌝ }
     ensures { λ r. ⌜ Puts (now (out .entry)) n (decimal x) (now (out .exit)) r ⌝ }
 {
-    if x < 10 {
-        out[n] = b'0' + x as u8;
-        return n + 1;
-    }
-    let m = number(out, n, x / 10);
-    out[m] = b'0' + (x % 10) as u8;
-    m + 1
+    let hundreds = digit(out, n, x, 1000);
+    let tens = digit(out, hundreds, x, 100);
+    let ones = digit(out, tens, x, 10);
+    out[ones] = b'0' + (x % 10) as u8;
+    ones + 1
 }
 
 // The first number of a count, where 0 is left out.
