@@ -17,10 +17,10 @@ use Rattle.table.specs.Fields.{record-of}
 use Rattle.table.specs.Checked.{its}
 use Rattle.table.specs.declared.Record.{Record}
 use Rattle.table.specs.Standing.{Set}
-use Rattle.printer.specs.Stores.{Puts}
+use Rattle.pattern.specs.Stores.{Puts}
 use Rattle.printer.specs.Trees.{Room, Printed, RoomFor, Branched}
 use Rattle.printer.specs.declared.walk.Next.{Next}
-use Rattle.printer.proofs.Storing.{puts-then, puts-more, puts-length, puts-room, puts-as}
+use Rattle.pattern.proofs.Stores.{puts-then, puts-more, puts-length, puts-room, puts-as}
 use Rattle.printer.proofs.Views.{any-view, group-view, codes-view, text-view, last-view, then-view, first-atom, first-branch, only-view, or-view, atom-in, pattern-in}
 
 -- the count that a record says, and the value of its literal

@@ -20,12 +20,12 @@ use Rattle.table.specs.declared.Tested.the-variants as verdict
 use Rattle.table.proofs.Clean.{spells-clean}
 use Rattle.table.specs.Standing.{Set}
 use Rattle.table.proofs.Whole.{contents, contents-there, set-encode}
-use Rattle.printer.specs.Stores.{Puts}
+use Rattle.pattern.specs.Stores.{Puts}
 use Rattle.printer.specs.Trees.{Room, Printed}
 use Rattle.printer.specs.Outputs.{answer-of, output-of}
 use Rattle.printer.specs.declared.Written.the-variants as written
 use Rattle.printer.specs.declared.walk.Next.{Next}
-use Rattle.printer.proofs.Storing.{puts-length, stored-over}
+use Rattle.pattern.proofs.Stores.{puts-length, stored-over}
 
 -- ---- the test's answer
 

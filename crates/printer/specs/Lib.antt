@@ -1,4 +1,3 @@
 pub mod Digits
-pub mod Stores
 pub mod Trees
 pub mod Outputs

@@ -7,7 +7,7 @@ use Rattle.pattern.specs.Syntax.{Sort, branches, Syntax, size}
 use Rattle.pattern.specs.Table.{choices}
 use Rattle.pattern.specs.Print.{print}
 use Rattle.table.specs.Standing.{Set}
-use Rattle.printer.specs.Stores.{Puts}
+use Rattle.pattern.specs.Stores.{Puts}
 use Rattle.printer.specs.declared.walk.Next.{Next}
 
 -- some tree stands at atom i, and its printed source has room from n on

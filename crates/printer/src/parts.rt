@@ -1,16 +1,15 @@
 // The parts of an atom in the shortest source, each written from a place on; the answer is the place after it.
 use pattern::repeat::Repeat;
-ghost use mathlib.Core.Path.{_≡_};
 ghost use mathlib.Core.List.{[], _∷_, _++_};
-ghost use Prim.Native.Nat.{_+_, _*_, _≤_, _<_};
-ghost use lib.ListN.{length, take, drop};
+ghost use Prim.Native.Nat.{_+_, _≤_, _<_};
+ghost use lib.ListN.{length};
 ghost use Rattle.pattern.specs.Numbers.{number-limit, quote-byte};
 ghost use Rattle.pattern.specs.Codes.{all-codes};
 ghost use Rattle.pattern.specs.Within.{Fits};
 ghost use Rattle.pattern.specs.Decode.{high-of};
 ghost use Rattle.pattern.specs.Print.{decimal, print-low, print-count, print-set, double};
 ghost use Rattle.printer.specs.Digits.{digit-at};
-ghost use Rattle.printer.specs.Stores.{Puts};
+ghost use Rattle.pattern.specs.Stores.{Puts};
 
 // The digit of a number at a unit, left out where the number is less than the unit.
 fn digit(out: &mut [u8], n: usize, x: u16, unit: u16) -> usize

@@ -1,5 +1,6 @@
 // The walk that writes: a cycle of three functions for patterns, atoms and groups.
 use super::parts;
+use pattern::kind;
 use pattern::limits::RECORD_SIZE;
 ghost use Rattle.pattern.specs.Syntax.{pattern as pattern-sort, atom as atom-sort};
 ghost use Rattle.printer.specs.Trees.{Room, Printed, RoomFor, Branched};
@@ -33,7 +34,7 @@ fn atom(body: &[u8], atoms: usize, out: &mut [u8], i: usize, n: usize) -> Next
 {
     let r = table::fields(body, RECORD_SIZE * i);
     let m = parts::count(out, n, r.low, r.high);
-    if r.kind == 3 {
+    if r.kind == kind::GROUP {
         out[m] = b'(';
         let next = group(body, atoms, out, i + 1, m + 1, r.a as usize);
         let z = next.at;
@@ -43,7 +44,7 @@ fn atom(body: &[u8], atoms: usize, out: &mut [u8], i: usize, n: usize) -> Next
             at: z + 1,
         };
     }
-    if r.kind == 1 {
+    if r.kind == kind::CODES {
         return Next {
             atom: i + 1,
             at: parts::letters(out, m, r.a),

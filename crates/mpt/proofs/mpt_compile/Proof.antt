@@ -28,9 +28,6 @@ enum-known-number c = search needs
 put-answer-requires-2 : tie.Need-put-answer-requires-2
 put-answer-requires-2 c κs = search needs
 
-cast-result : tie.Need-cast-result
-cast-result c = search needs
-
 same-length : tie.Need-same-length
 same-length c = search needs
 
@@ -64,7 +61,6 @@ mpt-compile-spec =
     put-answer-requires
     enum-known-number
     put-answer-requires-2
-    cast-result
     same-length
     same-length-2
     returns-2

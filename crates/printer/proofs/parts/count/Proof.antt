@@ -6,7 +6,7 @@ use borrow.Author.Needs.{needs}
 use Rattle.pattern.specs.Print.{decimal}
 use Rattle.table.proofs.Sources.{count-open, count-two}
 use Rattle.printer.proofs.Parting.{exact-given, count-begins, high-small}
-use Rattle.printer.proofs.Storing.{puts-then, puts-more, puts-as, puts-length, puts-room}
+use Rattle.pattern.proofs.Stores.{puts-then, puts-more, puts-as, puts-length, puts-room}
 use Rattle.printer.proofs.parts.count.Statement.{statement}
 use Rattle.printer.proofs.parts.count.Tie as tie
 

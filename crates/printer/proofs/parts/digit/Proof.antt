@@ -3,7 +3,7 @@ use mathlib.Core.Path.{sym, ap}
 use native.Mathlib.Omega.{arith}
 use lib.ListN.{length}
 use borrow.Author.Needs.{needs}
-use Rattle.printer.proofs.Storing.{puts-none, puts-byte, puts-as}
+use Rattle.pattern.proofs.Stores.{puts-none, puts-byte, puts-as}
 use Rattle.printer.proofs.Digits.{digit-none, digit-some}
 use Rattle.printer.proofs.parts.digit.Statement.{statement}
 use Rattle.printer.proofs.parts.digit.Tie as tie

@@ -4,7 +4,7 @@ use native.Mathlib.Omega.{arith}
 use lib.ListN.{length-append, length-set}
 use borrow.Author.Needs.{needs}
 use Rattle.pattern.specs.Print.{double}
-use Rattle.printer.proofs.Storing.{puts-byte, puts-then, puts-more, puts-length, puts-room}
+use Rattle.pattern.proofs.Stores.{puts-byte, puts-then, puts-more, puts-length, puts-room}
 use Rattle.printer.proofs.parts.literal.Statement.{statement}
 use Rattle.printer.proofs.parts.literal.Tie as tie
 

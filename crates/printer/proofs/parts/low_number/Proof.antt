@@ -4,7 +4,7 @@ use native.Mathlib.Omega.{arith}
 use lib.ListN.{length}
 use borrow.Author.Needs.{needs}
 use Rattle.table.proofs.Sources.{low-zero, low-other}
-use Rattle.printer.proofs.Storing.{puts-none, puts-as}
+use Rattle.pattern.proofs.Stores.{puts-none, puts-as}
 use Rattle.printer.proofs.parts.low_number.Statement.{statement}
 use Rattle.printer.proofs.parts.low_number.Tie as tie
 

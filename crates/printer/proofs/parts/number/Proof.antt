@@ -7,8 +7,8 @@ use lib.ListN.{length, length-set}
 use borrow.Author.Needs.{needs}
 use Rattle.pattern.specs.Numbers.{zero-byte}
 use Rattle.printer.specs.Digits.{digit-at}
-use Rattle.printer.specs.Stores.{Puts}
-use Rattle.printer.proofs.Storing.{puts-then, puts-more, puts-length, puts-room, puts-as}
+use Rattle.pattern.specs.Stores.{Puts}
+use Rattle.pattern.proofs.Stores.{puts-then, puts-more, puts-length, puts-room, puts-as}
 use Rattle.printer.proofs.Digits.{decimal-digits, digits-length}
 use Rattle.printer.proofs.parts.number.Statement.{statement}
 use Rattle.printer.proofs.parts.number.Tie as tie

@@ -5,7 +5,7 @@ use native.Mathlib.Omega.{arith}
 use borrow.Author.Needs.{needs}
 use borrow.Fn.Kinds.{In}
 use borrow.Fn.PlainCycle.{Measures, is, falls, and}
-use Rattle.printer.proofs.Storing.{puts-length}
+use Rattle.pattern.proofs.Stores.{puts-length}
 use Rattle.printer.proofs.Walking.{printed-length, branched-length, atom-room, pattern-room, first-room, branch-room, some-branch, comma-room, count-room, Counted, letters-room, codes-printed, text-in, literal-room, literal-printed, open-room, inner-room, close-room, close-fits, group-printed}
 use Rattle.printer.proofs.Loops.{Going, going-start, going-last, going-on, going-more, Branching, branching-start, branching-last, branching-more}
 use Rattle.printer.proofs.walk.atom.Reads as atom
