@@ -3,6 +3,7 @@ ghost use mathlib.Core.Path.{_≡_};
 ghost use Prim.Native.Nat.{_≤_};
 ghost use lib.ListN.{length};
 ghost use Rattle.lines.specs.Sizes.{held-limit, scratch-size};
+ghost use Rattle.mptline.specs.Held.{Holds, Reads};
 use libc::STDIN_FILENO;
 use libc::STDOUT_FILENO;
 use lines::chunk;
@@ -10,7 +11,7 @@ use lines::chunk;
 // How many bytes of a line are held, and whether to go on.
 struct Progress {
     held: usize,
-    open: bool,
+    more: bool,
 }
 
 // Answers the lines of a chunk; a closed output ends it, with nothing held.
@@ -22,7 +23,7 @@ fn answer_all(
     out: &mut [u8],
 ) -> Progress
     requires { ⌜ (length (now line) ≡ held-limit) × (held ≤ held-limit) × (length (now scratch) ≡ scratch-size) × (512 ≤ length (now out)) ⌝ }
-    ensures { λ r. ⌜ r .held ≤ held-limit ⌝ }
+    ensures { λ r. ⌜ Holds (now (chunk .entry)) (now (line .entry)) held (now (line .exit)) r ⌝ }
 {
     let mut from = 0;
     let mut n = held;
@@ -32,7 +33,7 @@ fn answer_all(
         if !io::write_all(STDOUT_FILENO, &out[..end]) {
             return Progress {
                 held: 0,
-                open: false,
+                more: false,
             };
         }
         from = a.next;
@@ -40,7 +41,7 @@ fn answer_all(
     }
     Progress {
         held: n,
-        open: true,
+        more: true,
     }
 }
 
@@ -53,11 +54,11 @@ fn answer_some(
     out: &mut [u8],
 ) -> Progress
     requires { ⌜ (length (now line) ≡ held-limit) × (held ≤ held-limit) × (length (now scratch) ≡ scratch-size) × (512 ≤ length (now out)) ⌝ }
-    ensures { λ r. ⌜ r .held ≤ held-limit ⌝ }
+    ensures { λ r. ⌜ Reads (now (buf .exit)) (now (line .entry)) held (now (line .exit)) r ⌝ }
 {
     let got = libc::read(STDIN_FILENO, buf);
     if got <= 0 {
-        return Progress { held, open: false };
+        return Progress { held, more: false };
     }
     let n = io::count(got, buf);
     answer_all(&buf[..n], line, held, scratch, out)
@@ -73,7 +74,7 @@ fn answer_input(buf: &mut [u8], line: &mut [u8], scratch: &mut [u8], out: &mut [
     while turns > 0 {
         let p = answer_some(buf, line, held, scratch, out);
         held = p.held;
-        if !p.open {
+        if !p.more {
             return held;
         }
         turns -= 1;

@@ -32,7 +32,7 @@ same-length-4 : tie.Need-same-length-4 Inv-loop μ-loop
 same-length-4 c = c .before .before .before .before .before .before .before .before .before .before .answer-some .kept .1 .1 .1 .1 .0 ∙ c .before .before .before .before .before .before .before .before .before .before .before .before .before .before .before .before .loop .inv .4
 
 returns : tie.Need-returns Inv-loop μ-loop
-returns c = c .before .before .before .before .before .before .before .before .before .before .answer-some .ensures
+returns c = c .before .before .before .before .before .before .before .before .before .before .answer-some .ensures .held-fits
 
 sub-turns : tie.Need-sub-turns Inv-loop μ-loop
 sub-turns c = omega arith
@@ -44,7 +44,7 @@ loop-again : tie.Need-loop-again Inv-loop μ-loop
 loop-again c =
     let a = c .before .before .before .before .before .before .before .before .before .before .answer-some in
     let k = c .before .before .before .before .before .before .before .before .before .before .before .before .before .before .before .before .loop in
-    (a .ensures, a .kept .0 ∙ k .inv .1, a .kept .1 .0 ∙ k .inv .2, a .kept .1 .1 .1 .0 ∙ k .inv .3, a .kept .1 .1 .1 .1 .0 ∙ k .inv .4)
+    (a .ensures .held-fits, a .kept .0 ∙ k .inv .1, a .kept .1 .0 ∙ k .inv .2, a .kept .1 .1 .1 .0 ∙ k .inv .3, a .kept .1 .1 .1 .1 .0 ∙ k .inv .4)
 
 same-length-5 : tie.Need-same-length-5 Inv-loop μ-loop
 same-length-5 c = c .before .loop .inv .1
