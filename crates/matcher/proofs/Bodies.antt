@@ -9,29 +9,23 @@ use borrow.Author.Tests.{le-leb, lt-leb}
 use lib.ListN.{length}
 use Rattle.pattern.specs.Decision.{any, made, join}
 use Rattle.matcher.specs.declared.join.Tally.{Tally}
-use Rattle.matcher.specs.declared.fill.Source.the-variants.{Either}
 use Rattle.matcher.specs.Cells.{InRoom, Plane, Kept, Not, on}
 use Rattle.matcher.specs.Joined.{join-trials, Ready, Joined}
-use Rattle.matcher.specs.Filled.{held-in, Fit, Aside, Fillable, Filled}
-use Rattle.matcher.specs.Made.{Gatherable, Gathered, fewer, body-trials, Making, Elsewhere, MadeOf}
+use Rattle.matcher.specs.Added.{Addable, Added}
+use Rattle.matcher.specs.Made.{Gathered, fewer, body-trials, Making, Elsewhere, MadeOf}
 use Rattle.matcher.proofs.Planes.{kept-all, kept-then, kept-less, plane-on, plane-same, plane-flags, plane-kept, room-of, planes-le}
 use Rattle.matcher.proofs.Relations.{join-same, join-trials-same}
 use Rattle.matcher.proofs.Counting.{Counting, count-start, count-step, count-stop, count-end}
 
-module _ (table label s : List ℕ) (w from out : ℕ) (ok : Gatherable table label s w from out) where
-  pub gather-fill : Fillable table label s w (Either from out) out
-  unfolding Fit Aside
-  gather-fill = record { wide = ok .wide; fit = (ok .room-from, ok .room-out); aside = tt; into = ok .room-out }
-
-  pub gather-taken : (low k : ℕ) → low ≤ k → (s′ : List ℕ) → Filled table label s s′ w (Either from out) out → Gathered s s′ w from out low k
-  unfolding held-in
+module _ (s : List ℕ) (w from out : ℕ) where
+  pub gather-taken : (low k : ℕ) → low ≤ k → (s′ : List ℕ) → Added s s′ w from out → Gathered s s′ w from out low k
   gather-taken low k h s′ got = record { plane = plane-same (got .plane) (λ i j hi hj. rw (le-leb low k h)); kept = got .kept }
 
-  pub gather-left : (low k : ℕ) → k < low → Gathered s s w from out low k
-  gather-left low k h = record { plane = plane-same (ok .flags) (λ i j hi hj. rw (lt-leb low k h)); kept = kept-all s w (out + 1) (Not out) }
+  pub gather-left : Addable s w from out → (low k : ℕ) → k < low → Gathered s s w from out low k
+  gather-left ok low k h = record { plane = plane-same (ok .into .flags) (λ i j hi hj. rw (lt-leb low k h)); kept = kept-all s w (out + 1) (Not out) }
 
 -- where k bodies are made, and out has those of fewer than o
-pub record MakeAt (label s₀ : List ℕ) (w top out low times budget trials : ℕ) (s : List ℕ) (spent from to k o : ℕ) : Type 0 where
+pub record MakeAt (s₀ : List ℕ) (w top out low times budget trials : ℕ) (s : List ℕ) (spent from to k o : ℕ) : Type 0 where
   pub counting : Counting (body-trials w (on s₀ w top)) times budget trials spent k
   pub long : length s ≡ length s₀
   pub turns : from + to ≡ 2 * top + 3
@@ -41,11 +35,11 @@ pub record MakeAt (label s₀ : List ℕ) (w top out low times budget trials : �
   pub all : Plane s w out (fewer (on s₀ w top) low o)
   pub kept : Kept s₀ s w (top + 4) (Elsewhere top out)
 
-module _ (label s₀ : List ℕ) (w top out low times budget trials : ℕ) (ok : Making label s₀ w top out) where
+module _ (s₀ : List ℕ) (w top out low times budget trials : ℕ) (ok : Making s₀ w top out) where
   pub make-few : top + 4 ≤ length s₀
   make-few = omega (arith, planes-le w (top + 4) (omega (arith, ok .wide)), ok .room)
 
-  pub make-start : trials ≤ budget → MakeAt label s₀ w top out low times budget trials s₀ trials (top + 1) (top + 2) 0 0
+  pub make-start : trials ≤ budget → MakeAt s₀ w top out low times budget trials s₀ trials (top + 1) (top + 2) 0 0
   unfolding made any
   make-start h = record {
     counting = count-start _ times budget trials h;
@@ -67,18 +61,17 @@ module _ (label s₀ : List ℕ) (w top out low times budget trials : ℕ) (ok :
     make-body k = let below = ok .below in plane-kept k (λ i j l. (λ e. omega arith, λ e. omega arith, λ e. omega arith)) (ok .body)
 
     -- first the gathering
-    module _ (inv : MakeAt label s₀ w top out low times budget trials s spent from to k k) where
-      pub make-gather : (table : List ℕ) → Gatherable table label s w from out
-      make-gather table =
+    module _ (inv : MakeAt s₀ w top out low times budget trials s spent from to k k) where
+      pub make-gather : Addable s w from out
+      make-gather =
           let below = ok .below in
           record {
             wide = ok .wide;
-            room-from = make-room (inv .long) from (omega (arith, inv .turns, inv .to-high));
-            room-out = make-room (inv .long) out (omega arith);
-            flags = plane-flags (inv .all);
+            added = record { room = make-room (inv .long) from (omega (arith, inv .turns, inv .to-high)); flags = plane-flags (inv .bodies) };
+            into = record { room = make-room (inv .long) out (omega arith); flags = plane-flags (inv .all) };
           }
 
-      pub make-gathered : (s′ : List ℕ) → length s′ ≡ length s → Gathered s s′ w from out low k → MakeAt label s₀ w top out low times budget trials s′ spent from to k (suc k)
+      pub make-gathered : (s′ : List ℕ) → length s′ ≡ length s → Gathered s s′ w from out low k → MakeAt s₀ w top out low times budget trials s′ spent from to k (suc k)
       unfolding any
       make-gathered s′ len got =
           let below = ok .below in
@@ -94,7 +87,7 @@ module _ (label s₀ : List ℕ) (w top out low times budget trials : ℕ) (ok :
           }
 
     -- then the join
-    module _ (inv : MakeAt label s₀ w top out low times budget trials s spent from to k (suc k)) where
+    module _ (inv : MakeAt s₀ w top out low times budget trials s spent from to k (suc k)) where
       pub make-ready : Ready s w top from to
       make-ready = record {
         from-left = record { room = make-room (inv .long) top (omega arith); flags = plane-flags (make-body (inv .kept)) };
@@ -134,7 +127,7 @@ module _ (label s₀ : List ℕ) (w top out low times budget trials : ℕ) (ok :
         unfolding made
         one-more = rw add-one
 
-        pub make-step : length s′ ≡ length s → r .stopped ≡ false → MakeAt label s₀ w top out low times budget trials s′ (r .trials) to from (k + 1) (k + 1)
+        pub make-step : length s′ ≡ length s → r .stopped ≡ false → MakeAt s₀ w top out low times budget trials s′ (r .trials) to from (k + 1) (k + 1)
         make-step len e =
             let below = ok .below in
             let z : suc k ≡ k + 1 = omega arith in

@@ -1,6 +1,6 @@
 -- The loops that fill a plane from a source, in plain values. Assumes nothing.
 use mathlib.Core.Path.{_≡_, refl, ap, ap₂, _∙_}
-use mathlib.Core.Bool.{Bool, not, _&&_, _||_}
+use mathlib.Core.Bool.{Bool, not, _&&_}
 use mathlib.Core.List.{List}
 use mathlib.Core.Logic.{⊎-elim}
 use Prim.Native.Nat.{ℕ, suc, _+_, _≤_, _<_}
@@ -9,7 +9,7 @@ use native.Mathlib.Omega.{arith}
 use lib.Dec.{eqb}
 use lib.ListN.{length, set, length-set}
 use Rattle.matcher.specs.declared.fill.Source.{Source}
-use Rattle.matcher.specs.declared.fill.Source.the-variants.{Nothing, Empty, Codes, Literal, Copy, Either, Gate}
+use Rattle.matcher.specs.declared.fill.Source.the-variants.{Nothing, Empty, Codes, Literal, Copy, Gate}
 use Rattle.matcher.specs.Cells.{InRoom, Kept, on, at, cell, bitOf}
 use Rattle.matcher.specs.Filled.{held-in, Fit, Aside, Fillable, FilledColumn, Filled}
 use Rattle.matcher.proofs.Planes.{mark-here, mark-kept, kept-all, kept-then, kept-less}
@@ -25,7 +25,6 @@ module _ (table label : List ℕ) (w : ℕ) where
   held-same s s′ (Codes set) out i j a f g = refl
   held-same s s′ (Literal from to) out i j a f g = refl
   held-same s s′ (Copy p) out i j a f g = ap (λ (v : ℕ). not (eqb v 0)) (f p)
-  held-same s s′ (Either p q) out i j a f g = ap₂ (λ (x y : ℕ). not (eqb x 0) || not (eqb y 0)) (f p) (f q)
   held-same s s′ (Gate p q) out i j a f g = ap₂ (λ (x y : ℕ). not (eqb x 0) && not (eqb y 0)) (f p) (g q a)
 
   fit-long : (s s′ : List ℕ) (source : Source) → length s′ ≡ length s → Fit table s w source → Fit table s′ w source
@@ -35,7 +34,6 @@ module _ (table label : List ℕ) (w : ℕ) where
   fit-long s s′ (Codes set) e f = tt
   fit-long s s′ (Literal from to) e f = f
   fit-long s s′ (Copy p) e f = rw e f
-  fit-long s s′ (Either p q) e (f, g) = (rw e f, rw e g)
   fit-long s s′ (Gate p q) e (f, g) = (rw e f, rw e g)
 
   fillable-long : {s s′ : List ℕ} {source : Source} {out : ℕ} → length s′ ≡ length s → Fillable table label s w source out → Fillable table label s′ w source out
@@ -46,10 +44,6 @@ module _ (table s : List ℕ) (w : ℕ) {source : Source} (a b : ℕ) where
   pub fit-literal : source ≡ Literal a b → Fit table s w source → (a ≤ b) × (b ≤ length table)
   unfolding Fit
   fit-literal e f = rw e at f
-
-  pub fit-either : source ≡ Either a b → Fit table s w source → InRoom s w a × InRoom s w b
-  unfolding Fit
-  fit-either e f = rw e at f
 
   pub fit-gate : source ≡ Gate a b → Fit table s w source → InRoom s w a × InRoom s w b
   unfolding Fit

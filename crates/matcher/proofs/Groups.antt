@@ -21,8 +21,9 @@ use Rattle.pattern.proofs.Nodes.{At, at-branch}
 use Rattle.table.specs.declared.Record.{Record}
 use Rattle.table.specs.Fields.{record-of}
 use Rattle.matcher.specs.declared.fill.Source.{Source}
-use Rattle.matcher.specs.declared.fill.Source.the-variants.{Nothing, Empty, Codes, Literal, Either}
+use Rattle.matcher.specs.declared.fill.Source.the-variants.{Nothing, Empty, Codes, Literal}
 use Rattle.matcher.specs.Cells.{InRoom, Plane, Kept, Not, on}
+use Rattle.matcher.specs.Added.{Addable, Added}
 use Rattle.matcher.specs.Filled.{held-in, Fit, Aside, Fillable, Filled}
 use Rattle.matcher.specs.Atoms.{atoms, node, head, inside, Work, Settled}
 use Rattle.matcher.specs.Bodied.{Bodying, Bodied}
@@ -105,6 +106,12 @@ or-assoc : (a b c : Bool) → (a || b) || c ≡ a || (b || c)
 or-assoc true b c = refl
 or-assoc false b c = refl
 
+or-comm : (a b : Bool) → a || b ≡ b || a
+or-comm true true = refl
+or-comm true false = refl
+or-comm false true = refl
+or-comm false false = refl
+
 some-choices : (bs : Syntax branches) → 1 ≤ choices bs
 unfolding choices
 some-choices (only p) = omega arith
@@ -158,21 +165,18 @@ module _ (table label s₀ s₁ : Bytes) (w top x : ℕ) (ok : Bodying table lab
       pub unite-there : first < atoms table
       unite-there = let (p, a) = first-branch (h .bs) (h .at) in omega (arith, at-size table a, some-pattern p)
 
-      pub unite-fill : Fillable table label s w (Either top (2 * first + 1)) top
-      unfolding Fit Aside
-      unite-fill = record {
-        wide = work .wide;
-        fit = (work-room work top (omega (arith, ok .topmost)), work-room work (2 * first + 1) (omega (arith, unite-there)));
-        aside = tt;
-        into = work-room work top (omega (arith, ok .topmost));
+      pub unite-add : Addable s w (2 * first + 1) top
+      unite-add = record {
+        wide = omega (arith, work .wide);
+        added = record { room = work-room work (2 * first + 1) (omega (arith, unite-there)); flags = plane-flags (inv .settled .rest first (h .ahead) unite-there) };
+        into = record { room = work-room work top (omega (arith, ok .topmost)); flags = h .flags };
       }
 
-      module _ (s′ : Bytes) (len′ : length s′ ≡ length s) (f : Filled table label s s′ w (Either top (2 * first + 1)) top) (first′ : ℕ) (e : first′ ≡ first + size (node table first)) where
+      module _ (s′ : Bytes) (len′ : length s′ ≡ length s) (f : Added s s′ w (2 * first + 1) top) (first′ : ℕ) (e : first′ ≡ first + size (node table first)) where
         -- plane top has the branch p besides
         joined : (p : Syntax pattern) → At (nodes (tree-of table)) first p → Plane s′ w top (λ i j. on s w top i j || decide label p i j)
-        unfolding held-in
         joined p a =
-            plane-same (f .plane) (λ i j hi hj. rw (plane-on (inv .settled .rest first (h .ahead) unite-there) i j hi hj, at-node table a))
+            plane-same (f .plane) (λ i j hi hj. rw (plane-on (inv .settled .rest first (h .ahead) unite-there) i j hi hj, at-node table a) (or-comm (decide label p i j) (on s w top i j)))
 
         after : (bs : Syntax branches) → At (nodes (tree-of table)) first bs → choices bs + k ≡ r .a
             → Same w (λ i j. on s w top i j || decide label bs i j) (decide label (inside (head (node table x))))

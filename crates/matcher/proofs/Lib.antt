@@ -1,4 +1,5 @@
 pub mod Planes
+pub mod Passes
 pub mod Counting
 pub mod Relations
 pub mod Seeking

@@ -55,7 +55,7 @@ module _ (table label s : Bytes) (w top x : ℕ) (ok : Bodying table label s w t
         let b : Plane s₃ w top (decide label (inside (head (node table x)))) = plane-kept (nothing .kept) (λ i j l e. omega arith) (plane-kept (empty .kept) (λ i j l e. omega arith) (body .plane)) in
         record {
           making = record {
-            wide = ok .work .wide;
+            wide = omega (arith, ok .work .wide);
             room = rw (l₃ ∙ l₂ ∙ l₁, ok .topmost) (ok .work .room);
             below = below;
             body = plane-flags b;

@@ -1,6 +1,6 @@
 -- Planes that need no trial: what a source says of a stretch, and what filling a plane from it asks and promises. Assumes nothing.
 use mathlib.Core.Path.{_≡_}
-use mathlib.Core.Bool.{false, _&&_, _||_}
+use mathlib.Core.Bool.{false, _&&_}
 use mathlib.Core.List.{List}
 use Prim.Native.Nat.{ℕ, _+_, _≤_}
 use lib.Dec.{eqb}
@@ -9,7 +9,7 @@ use lib.Seq.{slice}
 use Rattle.pattern.specs.Bytes.{same}
 use Rattle.pattern.specs.Decision.{Rel, one}
 use Rattle.matcher.specs.declared.fill.Source.{Source}
-use Rattle.matcher.specs.declared.fill.Source.the-variants.{Nothing, Empty, Codes, Literal, Copy, Either, Gate}
+use Rattle.matcher.specs.declared.fill.Source.the-variants.{Nothing, Empty, Codes, Literal, Copy, Gate}
 use Rattle.matcher.specs.Cells.{InRoom, Plane, Kept, Not, on, cell, bitOf}
 
 -- the relation that a source stands for
@@ -19,7 +19,6 @@ held-in table label s w Empty i j = eqb i j
 held-in table label s w (Codes set) i j = one set (slice i j label)
 held-in table label s w (Literal from to) i j = same (slice i j label) (slice from to table)
 held-in table label s w (Copy p) i j = on s w p i j
-held-in table label s w (Either p q) i j = on s w p i j || on s w q i j
 held-in table label s w (Gate p q) i j = on s w p i j && on s w q i i
 
 -- a source lies in the table or in scratch
@@ -29,7 +28,6 @@ Fit table s w Empty = Unit {0}
 Fit table s w (Codes set) = Unit {0}
 Fit table s w (Literal from to) = (from ≤ to) × (to ≤ length table)
 Fit table s w (Copy p) = InRoom s w p
-Fit table s w (Either p q) = InRoom s w p × InRoom s w q
 Fit table s w (Gate p q) = InRoom s w p × InRoom s w q
 
 -- a plane may be filled from itself, but for a gate
@@ -39,7 +37,6 @@ Aside Empty out = Unit {0}
 Aside (Codes set) out = Unit {0}
 Aside (Literal from to) out = Unit {0}
 Aside (Copy p) out = Unit {0}
-Aside (Either p q) out = Unit {0}
 Aside (Gate p q) out = q ≡ out → ⊥
 
 pub record Fillable (table label s : List ℕ) (w : ℕ) (source : Source) (out : ℕ) : Type 0 where

@@ -3,6 +3,7 @@ pub mod Budget
 pub mod Seek
 pub mod Joined
 pub mod Filled
+pub mod Added
 pub mod Made
 pub mod Atoms
 pub mod Bodied

@@ -8,15 +8,9 @@ use lib.ListN.{length}
 use Rattle.pattern.specs.Decision.{Rel, any, made}
 use Rattle.pattern.specs.Trials.{sum}
 use Rattle.matcher.specs.declared.join.Tally.{Tally}
-use Rattle.matcher.specs.Cells.{InRoom, Plane, Kept, Not, on}
+use Rattle.matcher.specs.Cells.{Plane, Kept, Not, on}
 use Rattle.matcher.specs.Budget.{Counted}
 use Rattle.matcher.specs.Joined.{join-trials}
-
-pub record Gatherable (table label s : List ℕ) (w from out : ℕ) : Type 0 where
-  pub wide : w ≡ length label + 1
-  pub room-from : InRoom s w from
-  pub room-out : InRoom s w out
-  pub flags : Plane s w out (on s w out)
 
 -- s and s′ are the lists before and after
 pub record Gathered (s s′ : List ℕ) (w from out low k : ℕ) : Type 0 where
@@ -32,8 +26,8 @@ abbrev pub body-trials : ℕ → Rel → ℕ → ℕ
 body-trials w B k = join-trials w B (made B k)
 
 -- plane top has the body, top + 1 the empty stretches, and out nothing yet
-pub record Making (label s : List ℕ) (w top out : ℕ) : Type 0 where
-  pub wide : w ≡ length label + 1
+pub record Making (s : List ℕ) (w top out : ℕ) : Type 0 where
+  pub wide : 1 ≤ w
   pub room : (top + 4) * w * w ≤ length s
   pub below : out < top
   pub body : Plane s w top (on s w top)

@@ -24,7 +24,7 @@ NoPlane q i j = ⊥
 
 -- s and s′ are the lists before and after
 pub record Begun (table label s s′ : Bytes) (w top x : ℕ) : Type 0 where
-  pub making : Making label s′ w top (2 * x)
+  pub making : Making s′ w top (2 * x)
   pub body : Plane s′ w top (decide label (inside (head (node table x))))
   pub kept : Kept s s′ w (top + 4) (Later top x)
 

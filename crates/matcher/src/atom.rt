@@ -50,8 +50,6 @@ fn settle_own(
     let low = r.low as usize;
     let high = r.high as usize;
     let t = make(
-        table,
-        label,
         scratch,
         w,
         top,

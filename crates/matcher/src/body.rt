@@ -3,6 +3,7 @@ ghost use mathlib.Core.Path.{_≡_};
 ghost use Rattle.pattern.specs.Decode.{layout, its};
 ghost use Rattle.matcher.specs.Atoms.{GoodTable};
 ghost use Rattle.matcher.specs.Bodied.{Bodying, Bodied};
+use crate::cells::add;
 use crate::fill::Source;
 use crate::fill::fill;
 use crate::walk::branch_end;
@@ -30,14 +31,7 @@ fn unite(table: &[u8], label: &[u8], scratch: &mut [u8], w: usize, top: usize, x
     let mut first = x + 1;
     let mut k = 0;
     while k < branches {
-        fill(
-            table,
-            label,
-            scratch,
-            w,
-            Source::Either(top, 2 * first + 1),
-            top,
-        );
+        add(scratch, w, 2 * first + 1, top);
         first = branch_end(table, first);
         k += 1;
     }

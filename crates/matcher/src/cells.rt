@@ -3,6 +3,7 @@ ghost use mathlib.Core.Path.{_≡_};
 ghost use Prim.Native.Nat.{_+_, _*_, _<_, _^_};
 ghost use lib.ListN.{set};
 ghost use Rattle.matcher.specs.Cells.{InRoom, at, cell, bitOf};
+ghost use Rattle.matcher.specs.Added.{Addable, Added};
 
 // The index of cell (p, i, j).
 fn place(w: usize, p: usize, i: usize, j: usize) -> usize
@@ -33,4 +34,19 @@ pub fn mark(scratch: &mut [u8], w: usize, p: usize, i: usize, j: usize, b: bool)
 {
     let k = place(w, p, i, j);
     scratch[k] = bit(b);
+}
+
+// Adds what plane from has to plane out: one run over all their cells, which a processor takes many at a time.
+pub fn add(scratch: &mut [u8], w: usize, from: usize, out: usize)
+    requires { ⌜ Addable (now scratch) w from out ⌝ }
+    ensures { λ _. ⌜ Added (now (scratch .entry)) (now (scratch .exit)) w from out ⌝ }
+{
+    let a = place(w, from, 0, 0);
+    let b = place(w, out, 0, 0);
+    let len = w * w;
+    let mut k = 0;
+    while k < len {
+        scratch[b + k] = scratch[a + k] | scratch[b + k];
+        k += 1;
+    }
 }

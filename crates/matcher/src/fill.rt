@@ -11,14 +11,13 @@ use crate::cells::byte;
 use crate::cells::mark;
 
 // What a plane is filled from: no stretch; the empty ones; one byte of a set; the bytes from one place
-// of the table to another; a plane; either of two planes; a plane, where another one has the empty stretch at i.
+// of the table to another; a plane; a plane, where another one has the empty stretch at i.
 pub enum Source {
     Nothing,
     Empty,
     Codes(u16),
     Literal(usize, usize),
     Copy(usize),
-    Either(usize, usize),
     Gate(usize, usize),
 }
 
@@ -80,13 +79,6 @@ fn value(
         Source::Codes(set) => is_one(label, set, i, j),
         Source::Literal(from, to) => is_same(label, i, j, table, from, to),
         Source::Copy(p) => holds(scratch, w, p, i, j),
-        Source::Either(p, q) => {
-            if holds(scratch, w, p, i, j) {
-                true
-            } else {
-                holds(scratch, w, q, i, j)
-            }
-        }
         Source::Gate(p, q) => {
             if holds(scratch, w, p, i, j) {
                 holds(scratch, w, q, i, i)

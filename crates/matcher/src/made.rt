@@ -1,34 +1,23 @@
 // Stretches made of several bodies. Plane top has the body; top + 1 and top + 2 take turns.
 ghost use Prim.Native.Nat.{_≤_};
-ghost use Rattle.matcher.specs.Made.{Gatherable, Gathered, Making, MadeOf};
-use crate::fill::Source;
-use crate::fill::fill;
+ghost use Rattle.matcher.specs.Added.{Addable};
+ghost use Rattle.matcher.specs.Made.{Gathered, Making, MadeOf};
+use crate::cells::add;
 use crate::join::Tally;
 use crate::join::join;
 
 // Adds what plane from has to plane out, if k is at least low.
-fn gather(
-    table: &[u8],
-    label: &[u8],
-    scratch: &mut [u8],
-    w: usize,
-    from: usize,
-    out: usize,
-    low: usize,
-    k: usize,
-)
-    requires { ⌜ Gatherable (now table) (now label) (now scratch) w from out ⌝ }
+fn gather(scratch: &mut [u8], w: usize, from: usize, out: usize, low: usize, k: usize)
+    requires { ⌜ Addable (now scratch) w from out ⌝ }
     ensures { λ _. ⌜ Gathered (now (scratch .entry)) (now (scratch .exit)) w from out low k ⌝ }
 {
     if low <= k {
-        fill(table, label, scratch, w, Source::Either(from, out), out);
+        add(scratch, w, from, out);
     }
 }
 
 // Plane out: the stretches made of low to times bodies. One join for each number of bodies from 1 to times.
 pub fn make(
-    table: &[u8],
-    label: &[u8],
     scratch: &mut [u8],
     w: usize,
     top: usize,
@@ -38,7 +27,7 @@ pub fn make(
     budget: u64,
     trials: u64,
 ) -> Tally
-    requires { ⌜ trials ≤ budget ⌝ ∗ ⌜ Making (now label) (now scratch) w top out ⌝ }
+    requires { ⌜ trials ≤ budget ⌝ ∗ ⌜ Making (now scratch) w top out ⌝ }
     ensures { λ r. ⌜ MadeOf (now (scratch .entry)) (now (scratch .exit)) w top out low times budget trials r ⌝ }
 {
     let mut spent = trials;
@@ -46,7 +35,7 @@ pub fn make(
     let mut to = top + 2;
     let mut k = 0;
     while k < times {
-        gather(table, label, scratch, w, from, out, low, k);
+        gather(scratch, w, from, out, low, k);
         let t = join(scratch, w, top, from, to, budget, spent);
         if t.stopped {
             return t;
@@ -57,7 +46,7 @@ pub fn make(
         to = old;
         k += 1;
     }
-    gather(table, label, scratch, w, from, out, low, times);
+    gather(scratch, w, from, out, low, times);
     Tally {
         trials: spent,
         stopped: false,

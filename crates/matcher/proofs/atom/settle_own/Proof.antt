@@ -32,29 +32,29 @@ make-requires : tie.Need-make-requires
 make-requires c κs = (c .before .before .before .before .before .before .before .before .before .before .before .before .before .pre .0, c .before .before .before .before .before .before .before .before .begin .ensures .making)
 
 same-length : tie.Need-same-length
-same-length c = c .before .before .before .make .kept .1 .1 .0 ∙ c .before .before .before .before .before .before .before .before .before .before .before .before .begin .kept .1 .1 .0
+same-length c = c .before .before .before .make .kept .0 ∙ c .before .before .before .before .before .before .before .before .before .before .before .before .begin .kept .1 .1 .0
 
 returns : tie.Need-returns
 returns c =
-    own-stop _ _ _ _ _ _ _ _ (c .before .before .before .before .before .before .before .before .before .before .before .before .before .before .before .before .before .pre .1) _ (c .before .before .before .before .before .before .before .before .before .before .before .before .begin .kept .1 .1 .0) (c .before .before .before .before .before .before .before .before .before .before .before .before .begin .ensures) _ (c .before .before .before .before .before .before .before .before .before .record-at .ensures) _ (c .before .before .before .make .kept .1 .1 .0) _ _ (c .before .before .before .before .before .lesser .ensures) (c .before .before .before .before .lesser2 .ensures) _ (c .before .before .before .make .ensures) (c .if1 .taken)
+    own-stop _ _ _ _ _ _ _ _ (c .before .before .before .before .before .before .before .before .before .before .before .before .before .before .before .before .before .pre .1) _ (c .before .before .before .before .before .before .before .before .before .before .before .before .begin .kept .1 .1 .0) (c .before .before .before .before .before .before .before .before .before .before .before .before .begin .ensures) _ (c .before .before .before .before .before .before .before .before .before .record-at .ensures) _ (c .before .before .before .make .kept .0) _ _ (c .before .before .before .before .before .lesser .ensures) (c .before .before .before .before .lesser2 .ensures) _ (c .before .before .before .make .ensures) (c .if1 .taken)
 
 fill-requires : tie.Need-fill-requires
 fill-requires c κs =
-    own-gate _ _ _ _ _ _ _ _ (c .before .before .before .before .before .before .before .before .before .before .before .before .before .before .before .before .before .before .before .pre .1) _ (c .before .before .before .before .before .before .before .before .before .before .before .before .before .before .begin .kept .1 .1 .0) (c .before .before .before .before .before .before .before .before .before .before .before .before .before .before .begin .ensures) _ (c .before .before .before .before .before .before .before .before .before .before .before .record-at .ensures) _ (c .before .before .before .before .before .make .kept .1 .1 .0) _ _ (c .before .before .before .before .before .before .before .lesser .ensures) (c .before .before .before .before .before .before .lesser2 .ensures) _ (c .before .before .before .before .before .make .ensures)
+    own-gate _ _ _ _ _ _ _ _ (c .before .before .before .before .before .before .before .before .before .before .before .before .before .before .before .before .before .before .before .pre .1) _ (c .before .before .before .before .before .before .before .before .before .before .before .before .before .before .begin .kept .1 .1 .0) (c .before .before .before .before .before .before .before .before .before .before .before .before .before .before .begin .ensures) _ (c .before .before .before .before .before .before .before .before .before .before .before .record-at .ensures) _ (c .before .before .before .before .before .make .kept .0) _ _ (c .before .before .before .before .before .before .before .lesser .ensures) (c .before .before .before .before .before .before .lesser2 .ensures) _ (c .before .before .before .before .before .make .ensures)
 
 same-length-2 : tie.Need-same-length-2
-same-length-2 c = c .before .before .fill .kept .1 .1 .0 ∙ c .before .before .before .before .before .before .before .before .make .kept .1 .1 .0 ∙ c .before .before .before .before .before .before .before .before .before .before .before .before .before .before .before .before .before .begin .kept .1 .1 .0
+same-length-2 c = c .before .before .fill .kept .1 .1 .0 ∙ c .before .before .before .before .before .before .before .before .make .kept .0 ∙ c .before .before .before .before .before .before .before .before .before .before .before .before .before .before .before .before .before .begin .kept .1 .1 .0
 
 returns-2 : tie.Need-returns-2
 returns-2 c =
-    own-high _ _ _ _ _ _ _ _ (c .before .before .before .before .before .before .before .before .before .before .before .before .before .before .before .before .before .before .before .before .before .before .pre .1) _ (c .before .before .before .before .before .before .before .before .before .before .before .before .before .before .before .before .before .begin .kept .1 .1 .0) (c .before .before .before .before .before .before .before .before .before .before .before .before .before .before .before .before .before .begin .ensures) _ (c .before .before .before .before .before .before .before .before .before .before .before .before .before .before .record-at .ensures) _ (c .before .before .before .before .before .before .before .before .make .kept .1 .1 .0) _ _ (c .before .before .before .before .before .before .before .before .before .before .lesser .ensures) (c .before .before .before .before .before .before .before .before .before .lesser2 .ensures) _ (c .before .before .before .before .before .before .before .before .make .ensures) (c .before .before .before .before .before .if1 .left) (c .before .before .before .before .if2 .taken) _ (c .before .before .fill .ensures)
+    own-high _ _ _ _ _ _ _ _ (c .before .before .before .before .before .before .before .before .before .before .before .before .before .before .before .before .before .before .before .before .before .before .pre .1) _ (c .before .before .before .before .before .before .before .before .before .before .before .before .before .before .before .before .before .begin .kept .1 .1 .0) (c .before .before .before .before .before .before .before .before .before .before .before .before .before .before .before .before .before .begin .ensures) _ (c .before .before .before .before .before .before .before .before .before .before .before .before .before .before .record-at .ensures) _ (c .before .before .before .before .before .before .before .before .make .kept .0) _ _ (c .before .before .before .before .before .before .before .before .before .before .lesser .ensures) (c .before .before .before .before .before .before .before .before .before .lesser2 .ensures) _ (c .before .before .before .before .before .before .before .before .make .ensures) (c .before .before .before .before .before .if1 .left) (c .before .before .before .before .if2 .taken) _ (c .before .before .fill .ensures)
 
 same-length-3 : tie.Need-same-length-3
-same-length-3 c = c .before .before .before .before .make .kept .1 .1 .0 ∙ c .before .before .before .before .before .before .before .before .before .before .before .before .before .begin .kept .1 .1 .0
+same-length-3 c = c .before .before .before .before .make .kept .0 ∙ c .before .before .before .before .before .before .before .before .before .before .before .before .before .begin .kept .1 .1 .0
 
 returns-3 : tie.Need-returns-3
 returns-3 c =
-    own-low _ _ _ _ _ _ _ _ (c .before .before .before .before .before .before .before .before .before .before .before .before .before .before .before .before .before .before .pre .1) _ (c .before .before .before .before .before .before .before .before .before .before .before .before .before .begin .kept .1 .1 .0) (c .before .before .before .before .before .before .before .before .before .before .before .before .before .begin .ensures) _ (c .before .before .before .before .before .before .before .before .before .before .record-at .ensures) _ (c .before .before .before .before .make .kept .1 .1 .0) _ _ (c .before .before .before .before .before .before .lesser .ensures) (c .before .before .before .before .before .lesser2 .ensures) _ (c .before .before .before .before .make .ensures) (c .before .if1 .left) (c .if2 .left)
+    own-low _ _ _ _ _ _ _ _ (c .before .before .before .before .before .before .before .before .before .before .before .before .before .before .before .before .before .before .pre .1) _ (c .before .before .before .before .before .before .before .before .before .before .before .before .before .begin .kept .1 .1 .0) (c .before .before .before .before .before .before .before .before .before .before .before .before .before .begin .ensures) _ (c .before .before .before .before .before .before .before .before .before .before .record-at .ensures) _ (c .before .before .before .before .make .kept .0) _ _ (c .before .before .before .before .before .before .lesser .ensures) (c .before .before .before .before .before .lesser2 .ensures) _ (c .before .before .before .before .make .ensures) (c .before .if1 .left) (c .if2 .left)
 
 pub settle-own-spec : {M : Type 1} → statement M
 settle-own-spec =

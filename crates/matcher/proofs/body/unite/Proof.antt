@@ -7,7 +7,7 @@ use denote.Ref.{now}
 use Rattle.table.specs.declared.Record.{Record}
 use Rattle.matcher.specs.Atoms.{atoms}
 use Rattle.matcher.specs.Filled.{Fit, Aside}
-use Rattle.matcher.proofs.Groups.{work-few, body-fill, UniteAt, unite-start, unite-there, unite-fill, unite-step, unite-end}
+use Rattle.matcher.proofs.Groups.{work-few, body-fill, UniteAt, unite-start, unite-there, unite-add, unite-step, unite-end}
 use Rattle.matcher.proofs.body.unite.Statement.{statement}
 use Rattle.matcher.proofs.body.unite.Tie as tie
 
@@ -38,25 +38,25 @@ loop-holds c =
     unite-start _ _ _ _ _ _ _ (p .0) (c .before .before .fill .kept .1 .1 .0) (c .before .before .fill .ensures) _ got (λ e. p .1 .0 (sym kind ∙ e)) (λ e. p .1 .1 (sym kind ∙ e))
 
 -- the branch that is next begins in the table
-there : (c : tie.After-fill-arg2 Inv-loop μ-loop) → c .before .before .loop .first < atoms (now (c .before .before .before .before .before .before .before .before .before .before .before .before .args .table))
+there : (c : tie.After-add-arg Inv-loop μ-loop) → c .before .before .loop .first < atoms (now (c .before .before .before .before .before .before .before .before .before .before .before .before .args .table))
 there c =
     let p = c .before .before .before .before .before .before .before .before .before .before .before .before .pre in
     let got = c .before .before .before .before .before .before .before .before .record-at .ensures in
     let kind = ap (λ (z : Record). z .kind) got in
     unite-there _ _ _ _ _ _ _ (p .0) (c .before .before .before .before .before .fill .kept .1 .1 .0) (c .before .before .before .before .before .fill .ensures) _ got (λ e. p .1 .0 (sym kind ∙ e)) (λ e. p .1 .1 (sym kind ∙ e)) _ _ _ (c .before .before .loop .inv) (c .before .loop-test .taken)
 
-mul-t19 : tie.Need-mul-t19 Inv-loop μ-loop
-mul-t19 c = omega (arith, there c, work-few (c .before .before .before .before .before .before .before .before .before .before .before .before .pre .0 .work))
+mul-add : tie.Need-mul-add Inv-loop μ-loop
+mul-add c = omega (arith, there c, work-few (c .before .before .before .before .before .before .before .before .before .before .before .before .pre .0 .work))
 
-add-t20 : tie.Need-add-t20 Inv-loop μ-loop
-add-t20 c = omega (arith, there c, work-few (c .before .before .before .before .before .before .before .before .before .before .before .before .pre .0 .work))
+add-add : tie.Need-add-add Inv-loop μ-loop
+add-add c = omega (arith, there c, work-few (c .before .before .before .before .before .before .before .before .before .before .before .before .pre .0 .work))
 
-fill-requires-2 : tie.Need-fill-requires-2 Inv-loop μ-loop
-fill-requires-2 c κs =
+add-requires : tie.Need-add-requires Inv-loop μ-loop
+add-requires c κs =
     let p = c .before .before .before .before .before .before .before .before .before .before .before .before .pre in
     let got = c .before .before .before .before .before .before .before .before .record-at .ensures in
     let kind = ap (λ (z : Record). z .kind) got in
-    unite-fill _ _ _ _ _ _ _ (p .0) (c .before .before .before .before .before .fill .kept .1 .1 .0) (c .before .before .before .before .before .fill .ensures) _ got (λ e. p .1 .0 (sym kind ∙ e)) (λ e. p .1 .1 (sym kind ∙ e)) _ _ _ (c .before .before .loop .inv) (c .before .loop-test .taken)
+    unite-add _ _ _ _ _ _ _ (p .0) (c .before .before .before .before .before .fill .kept .1 .1 .0) (c .before .before .before .before .before .fill .ensures) _ got (λ e. p .1 .0 (sym kind ∙ e)) (λ e. p .1 .1 (sym kind ∙ e)) _ _ _ (c .before .before .loop .inv) (c .before .loop-test .taken)
 
 branch-end-requires : tie.Need-branch-end-requires Inv-loop μ-loop
 branch-end-requires c κs = (c .before .before .before .before .before .before .before .before .before .before .before .before .before .before .before .pre .0 .work .good, there (c .before .before .before))
@@ -73,7 +73,7 @@ loop-again c =
     let got = c .before .before .before .before .before .before .before .before .before .before .before .before .record-at .ensures in
     let kind = ap (λ (z : Record). z .kind) got in
     unite-step _ _ _ _ _ _ _ (p .0) (c .before .before .before .before .before .before .before .before .before .fill .kept .1 .1 .0) (c .before .before .before .before .before .before .before .before .before .fill .ensures) _ got (λ e. p .1 .0 (sym kind ∙ e)) (λ e. p .1 .1 (sym kind ∙ e)) _ _ _ (c .before .before .before .before .before .before .loop .inv) (c .before .before .before .before .before .loop-test .taken)
-    _ (c .before .before .before .fill2 .kept .1 .1 .0) (c .before .before .before .fill2 .ensures) _ (c .branch-end .ensures)
+    _ (c .before .before .before .add .kept .0) (c .before .before .before .add .ensures) _ (c .branch-end .ensures)
 
 same-length : tie.Need-same-length Inv-loop μ-loop
 same-length c = c .before .loop .inv .long ∙ c .before .before .before .before .fill .kept .1 .1 .0
@@ -88,4 +88,4 @@ returns c =
 pub unite-spec : {M : Type 1} → statement M
 unite-spec =
     tie.close
-    (tie.spec Inv-loop μ-loop record-at-requires cast-branches fill-requires add-first loop-holds mul-t19 add-t20 fill-requires-2 branch-end-requires add-k loop-less loop-again same-length returns)
+    (tie.spec Inv-loop μ-loop record-at-requires cast-branches fill-requires add-first loop-holds mul-add add-add add-requires branch-end-requires add-k loop-less loop-again same-length returns)

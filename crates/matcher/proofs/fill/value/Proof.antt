@@ -2,7 +2,7 @@
 use mathlib.Core.Path.{sym, _∙_}
 use borrow.Author.Needs.{needs}
 use Rattle.matcher.specs.Filled.{held-in}
-use Rattle.matcher.proofs.Filling.{fit-literal, fit-copy, fit-either, fit-gate}
+use Rattle.matcher.proofs.Filling.{fit-literal, fit-copy, fit-gate}
 use Rattle.matcher.proofs.fill.value.Statement.{statement}
 use Rattle.matcher.proofs.fill.value.Tie as tie
 
@@ -34,19 +34,10 @@ enum-known-source-4 : tie.Need-enum-known-source-4
 enum-known-source-4 c = search needs
 
 holds-requires-2 : tie.Need-holds-requires-2
-holds-requires-2 c κs = (search needs, (search needs, fit-either _ _ _ _ _ (c .before .source4 .given .1) (c .before .before .before .before .before .before .pre .1 .1 .1) .0))
+holds-requires-2 c κs = (search needs, (search needs, fit-gate _ _ _ _ _ (c .before .source4 .given .1) (c .before .before .before .before .before .before .pre .1 .1 .1) .0))
 
 holds-requires-3 : tie.Need-holds-requires-3
-holds-requires-3 c κs = (search needs, (search needs, fit-either _ _ _ _ _ (c .before .before .before .source4 .given .1) (c .before .before .before .before .before .before .before .before .pre .1 .1 .1) .1))
-
-enum-known-source-5 : tie.Need-enum-known-source-5
-enum-known-source-5 c = search needs
-
-holds-requires-4 : tie.Need-holds-requires-4
-holds-requires-4 c κs = (search needs, (search needs, fit-gate _ _ _ _ _ (c .before .source5 .given .1) (c .before .before .before .before .before .before .pre .1 .1 .1) .0))
-
-holds-requires-5 : tie.Need-holds-requires-5
-holds-requires-5 c κs = (search needs, (search needs, fit-gate _ _ _ _ _ (c .before .before .before .source5 .given .1) (c .before .before .before .before .before .before .before .before .pre .1 .1 .1) .1))
+holds-requires-3 c κs = (search needs, (search needs, fit-gate _ _ _ _ _ (c .before .before .before .source4 .given .1) (c .before .before .before .before .before .before .before .before .pre .1 .1 .1) .1))
 
 returns : tie.Need-returns
 unfolding held-in
@@ -70,20 +61,12 @@ returns-5 c = rw (c .before .before .source3 .given .1) (c .holds .ensures)
 
 returns-6 : tie.Need-returns-6
 unfolding held-in
-returns-6 c = rw (c .before .before .before .source4 .given .1, sym (c .before .holds2 .ensures) ∙ c .if1 .taken)
+returns-6 c = rw (c .before .before .before .before .source4 .given .1, sym (c .before .before .holds2 .ensures) ∙ c .before .if1 .taken) (c .holds3 .ensures)
 
 returns-7 : tie.Need-returns-7
 unfolding held-in
-returns-7 c = rw (c .before .before .before .before .source4 .given .1, sym (c .before .before .holds2 .ensures) ∙ c .before .if1 .left) (c .holds3 .ensures)
-
-returns-8 : tie.Need-returns-8
-unfolding held-in
-returns-8 c = rw (c .before .before .before .before .source5 .given .1, sym (c .before .before .holds4 .ensures) ∙ c .before .if2 .taken) (c .holds5 .ensures)
-
-returns-9 : tie.Need-returns-9
-unfolding held-in
-returns-9 c = rw (c .before .before .before .source5 .given .1, sym (c .before .holds4 .ensures) ∙ c .if2 .left)
+returns-7 c = rw (c .before .before .before .source4 .given .1, sym (c .before .holds2 .ensures) ∙ c .if1 .left)
 
 pub value-spec : {M : Type 1} → statement M
 value-spec =
-    tie.close (tie.spec enum-told enum-told-2 enum-known-source is-one-requires enum-known-source-2 is-same-requires enum-known-source-3 holds-requires enum-known-source-4 holds-requires-2 holds-requires-3 enum-known-source-5 holds-requires-4 holds-requires-5 returns returns-2 returns-3 returns-4 returns-5 returns-6 returns-7 returns-8 returns-9)
+    tie.close (tie.spec enum-told enum-told-2 enum-known-source is-one-requires enum-known-source-2 is-same-requires enum-known-source-3 holds-requires enum-known-source-4 holds-requires-2 holds-requires-3 returns returns-2 returns-3 returns-4 returns-5 returns-6 returns-7)

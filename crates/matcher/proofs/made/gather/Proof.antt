@@ -1,20 +1,20 @@
 -- `matcher::made::gather` meets its contract. Assumes nothing.
 use borrow.Author.Needs.{needs}
-use Rattle.matcher.proofs.Bodies.{gather-fill, gather-taken, gather-left}
+use Rattle.matcher.proofs.Bodies.{gather-taken, gather-left}
 use Rattle.matcher.proofs.made.gather.Statement.{statement}
 use Rattle.matcher.proofs.made.gather.Tie as tie
 
-fill-requires : tie.Need-fill-requires
-fill-requires c κs = gather-fill _ _ _ _ _ _ (c .before .before .before .before .before .pre)
+add-requires : tie.Need-add-requires
+add-requires c κs = search needs
 
 same-length : tie.Need-same-length
 same-length c = search needs
 
 returns : tie.Need-returns
-returns c = gather-taken _ _ _ _ _ _ (c .before .before .before .before .before .before .before .before .pre) _ _ (c .before .before .before .before .if1 .taken) _ (c .before .before .fill .ensures)
+returns c = gather-taken _ _ _ _ _ _ (c .before .before .before .before .if1 .taken) _ (c .before .before .add .ensures)
 
 returns-2 : tie.Need-returns-2
-returns-2 c = gather-left _ _ _ _ _ _ (c .before .before .before .before .pre) _ _ (c .if1 .left)
+returns-2 c = gather-left _ _ _ _ (c .before .before .pre) _ _ (c .if1 .left)
 
 pub gather-spec : {M : Type 1} → statement M
-gather-spec = tie.close (tie.spec fill-requires same-length returns returns-2)
+gather-spec = tie.close (tie.spec add-requires same-length returns returns-2)
