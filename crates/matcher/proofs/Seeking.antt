@@ -1,7 +1,7 @@
 -- The search for an end, step by step, and what it comes to by the paper's count. Assumes nothing.
-use mathlib.Core.Path.{_≡_, refl}
+use mathlib.Core.Path.{_≡_, refl, _∙_}
 use mathlib.Core.Bool.{Bool, true, false, cond, _||_}
-use Prim.Native.Nat.{ℕ, zero, suc, _+_, _-_, _≤_, _<_}
+use Prim.Native.Nat.{ℕ, zero, suc, _+_, _-_, _≤_}
 use native.Mathlib.Omega.{arith}
 use borrow.Author.Tests.{eq-eqb, ne-eqb, eqb-true, eqb-false}
 use lib.Dec.{eqb}
@@ -13,30 +13,31 @@ use Rattle.matcher.specs.Budget.{Counted}
 use Rattle.matcher.specs.Seek.{seek, trialsOf, stoppedOf, foundOf}
 use Rattle.matcher.proofs.Counting.{counted-whole, counted-over}
 
-module _ (p : ℕ → Bool) (i budget m t : ℕ) where
-  pub seek-none : m ≤ i → seek p i budget (m - i) t ≡ Missing t
+-- m is the end to try
+module _ (p : ℕ → Bool) (i budget m t : ℕ) (h : i ≤ m) where
+  left : suc m - i ≡ suc (m - i)
+  left = omega arith
+
+  pub seek-stop : t ≡ budget → seek p i budget (suc m - i) t ≡ Stopped
   unfolding seek
-  seek-none h = let e : m - i ≡ 0 = omega arith in rw e
+  seek-stop e = rw (left, eq-eqb t budget e)
 
-  module _ (h : i < m) where
-    left : m - i ≡ suc (m - 1 - i)
-    left = omega arith
-
-    here : i + (m - 1 - i) ≡ m - 1
-    here = omega arith
-
-    pub seek-stop : t ≡ budget → seek p i budget (m - i) t ≡ Stopped
+  module _ (n : t ≡ budget → ⊥) where
+    pub seek-hit : p (m - i) ≡ true → seek p i budget (suc m - i) t ≡ Found m (t + 1)
     unfolding seek
-    seek-stop e = rw (left, eq-eqb t budget e)
+    seek-hit e = let here : i + (m - i) ≡ m = omega arith in rw (left, here, ne-eqb t budget n, e)
 
-    module _ (n : t ≡ budget → ⊥) where
-      pub seek-hit : p (m - 1 - i) ≡ true → seek p i budget (m - i) t ≡ Found (m - 1) (t + 1)
+    module _ (e : p (m - i) ≡ false) where
+      miss : seek p i budget (suc m - i) t ≡ seek p i budget (m - i) (t + 1)
       unfolding seek
-      seek-hit e = rw (left, here, ne-eqb t budget n, e)
+      miss = rw (left, ne-eqb t budget n, e)
 
-      pub seek-miss : p (m - 1 - i) ≡ false → seek p i budget (m - i) t ≡ seek p i budget (m - 1 - i) (t + 1)
+      pub seek-none : m ≡ i → seek p i budget (suc m - i) t ≡ Missing (t + 1)
       unfolding seek
-      seek-miss e = rw (left, ne-eqb t budget n, e)
+      seek-none z = let o : m - i ≡ 0 = omega arith in miss ∙ rw o
+
+      pub seek-miss : (m ≡ i → ⊥) → seek p i budget (suc m - i) t ≡ seek p i budget (suc (m - 1) - i) (t + 1)
+      seek-miss z = let o : suc (m - 1) - i ≡ m - i = omega arith in rw o miss
 
 -- what an answer says, where the trials come to total and found says whether an end holds
 pub record Says (budget total : ℕ) (found : Bool) (r : Search) : Type 0 where

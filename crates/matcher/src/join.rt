@@ -67,19 +67,19 @@ fn search_end(
     ensures { λ r. ⌜ r ≡ seek (trial (on (now (scratch .entry)) w left) (on (now (scratch .entry)) w right) i j) i budget (suc j - i) trials ⌝ }
 {
     let mut spent = trials;
-    let mut m = j + 1;
+    let mut m = j;
     loop {
-        if m <= i {
-            break Search::Missing(spent);
-        }
         if spent == budget {
             break Search::Stopped;
         }
         spent += 1;
-        m -= 1;
         if byte(scratch, w, left, i, m) & byte(scratch, w, right, m, j) != 0 {
             break Search::Found(m, spent);
         }
+        if m == i {
+            break Search::Missing(spent);
+        }
+        m -= 1;
     }
 }
 
