@@ -12,7 +12,7 @@ use Rattle.pattern.specs.Numbers.{depth-limit, FORM, DEPTH}
 use Rattle.pattern.specs.Bytes.{Bytes, between}
 use Rattle.pattern.specs.Syntax.{pattern, atom, body, Syntax, last, then, repeat, codes, literal, group, only}
 use Rattle.pattern.specs.Spelling.{Starter, letter, quote, opening, Ender, closing, comma, neither, Mark, Kind, counts, starts, ends, kind}
-use Rattle.pattern.specs.Reading.{Run, empty, first, pointed, second, counting, inside, after, Around, top, within, join, fork, next, State, enter, extend, leave, grow, counted, move, step, finish}
+use Rattle.pattern.specs.Reading.{Run, empty, first, pointed, second, counting, inside, after, Around, top, within, chain, fork, next, State, enter, extend, leave, grow, counted, move, step, finish}
 use Rattle.pattern.specs.Scan.{low, high, depth, body-begins, begins, begun, refuse, fault, Outcome, refused, accepted, scan}
 use Rattle.pattern.proofs.Tests.{le-or-lt}
 use Rattle.pattern.proofs.Notation.{kind-byte}
@@ -138,12 +138,12 @@ module _ (s : Bytes) (j m : ℕ) (w : j < length s) (e : Ender) (f : kind-at s j
 module _ (s : Bytes) (j m : ℕ) (t : Syntax pattern) (k : Around) (l : ℕ) (h : Option ℕ) (others : List (Syntax pattern)) where
   -- a closing bracket after a branch
   pub closes : j < length s → 41 ≡ getD s j 0 → scanned s (ended (within k l h others []) t) j m ≡ scanned s (after l h (group (fork others (only t))), k) (suc j) m
-  unfolding kind between join
+  unfolding kind between chain
   closes w e = branch-next s j m w closing (ap kind (sym e)) t (within k l h others []) _ (rw e at (ended-closes k l h others t []))
 
   -- a comma
   pub parts : j < length s → 44 ≡ getD s j 0 → scanned s (ended (within k l h others []) t) j m ≡ scanned s (counting empty, within k l h (t ∷ others) []) (suc j) m
-  unfolding kind between join
+  unfolding kind between chain
   parts w e = branch-next s j m w comma (ap kind (sym e)) t (within k l h others []) _ (rw e at (ended-parts k l h others t []))
 
 -- the byte does not end a branch here: at the top nothing does
@@ -211,11 +211,11 @@ pub whole-form : (s : Bytes) (j m : ℕ) (t : Syntax pattern) → Settled s j (t
 unfolding Ends-not
 whole-form s j m t o f w = rests s j w t (top []) m o f tt
 
-ended-accepts : (t : Syntax pattern) (before : List (Syntax atom)) (i n : ℕ) → scan (ended (top before) t) i n [] ≡ accepted (join before t)
-unfolding ended scan finish next join
+ended-accepts : (t : Syntax pattern) (before : List (Syntax atom)) (i n : ℕ) → scan (ended (top before) t) i n [] ≡ accepted (chain before t)
+unfolding ended scan finish next chain
 ended-accepts (last (repeat l h b)) before i n = refl
 ended-accepts (then a t) before i n = ended-accepts t (a ∷ before) i n
 
 pub whole-accepted : (s : Bytes) (m : ℕ) (t : Syntax pattern) → scanned s (ended (top []) t) (length s) m ≡ accepted t
-unfolding join
+unfolding chain
 whole-accepted s m t = rw drop-length (ended-accepts t [] (length s) m)

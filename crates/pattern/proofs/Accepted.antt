@@ -15,12 +15,12 @@ use Rattle.pattern.specs.Codes.{bit}
 use Rattle.pattern.specs.Syntax.{pattern, atom, body, branches, Syntax, last, then, repeat, codes, literal, group, only, or, size}
 use Rattle.pattern.specs.Meaning.{UpTo}
 use Rattle.pattern.specs.Spelling.{Starter, letter, quote, opening, Ender, closing, comma, neither, Mark, digit, point, Kind, counts, starts, ends, kind, Text, plain, quoting, barred, text, Spells}
-use Rattle.pattern.specs.Reading.{Run, empty, first, pointed, second, Place, counting, inside, after, Around, top, within, join, fork, next, State, enter, extend, leave, quoted, grow, counted, move, step, finish, read-from, start, read}
+use Rattle.pattern.specs.Reading.{Run, empty, first, pointed, second, Place, counting, inside, after, Around, top, within, chain, fork, next, State, enter, extend, leave, quoted, grow, counted, move, step, finish, read-from, start, read}
 use Rattle.pattern.specs.Places.{before-size, others-size, around-size, begun-at}
 use Rattle.pattern.specs.Scan.{low, high, ahead, depth, body-begins, an-atom, begins, begun, large, falls, refuse, atom-fault, fault, Outcome, refused, accepted, scan, outcome}
 use Rattle.pattern.specs.Within.{Small, Fits, Good, Limited}
 use Rattle.pattern.proofs.Tests.{Decides, On, le-or-lt, leb-decides, both, no-test}
-use Rattle.pattern.proofs.Begun.{join-size, next-size, leave-count, move-count}
+use Rattle.pattern.proofs.Begun.{chain-size, next-size, leave-count, move-count}
 use Rattle.pattern.proofs.Form.{form}
 
 -- how far the count at a place was looked at: its longest run has no fault yet, none but perhaps a large second number, or none
@@ -52,11 +52,11 @@ Placed (after l h b) k s = Fits l h × Good (depth k) b
 abbrev Holds : State → Bytes → Type 0
 Holds q s = (begun-at (q .0) (q .1) ≤ atom-limit) × Holding (q .1) × Placed (q .0) (q .1) s
 
-join-good : (d : ℕ) (before : List (Syntax atom)) (p : Syntax pattern) → (Befores d before × Good d p) ↔ Good d (join before p)
-unfolding Befores join Good
-join-good d [] p = (λ h. h .1, λ h. (tt, h))
-join-good d (a ∷ before) p =
-    (λ ((x, y), z). join-good d before (then a p) .0 (x, (y, z)), λ h. let (x, (y, z)) = join-good d before (then a p) .1 h in ((x, y), z))
+chain-good : (d : ℕ) (before : List (Syntax atom)) (p : Syntax pattern) → (Befores d before × Good d p) ↔ Good d (chain before p)
+unfolding Befores chain Good
+chain-good d [] p = (λ h. h .1, λ h. (tt, h))
+chain-good d (a ∷ before) p =
+    (λ ((x, y), z). chain-good d before (then a p) .0 (x, (y, z)), λ h. let (x, (y, z)) = chain-good d before (then a p) .1 h in ((x, y), z))
 
 fork-good : (d : ℕ) (others : List (Syntax pattern)) (bs : Syntax branches) → (Forks d others × Good d bs) ↔ Good d (fork others bs)
 unfolding Forks fork Good
@@ -214,18 +214,18 @@ leave-holds (top before) l h b x s = tt
 leave-holds (within k u v others before) l h b closing s =
     let a : Syntax pattern = last (repeat l h b) in
     let d : ℕ = suc (depth k) in
-    let e : begun-at (after u v (group (fork others (only (join before a))))) k ≡ begun-at (after l h b) (within k u v others before) =
+    let e : begun-at (after u v (group (fork others (only (chain before a))))) k ≡ begun-at (after l h b) (within k u v others before) =
     leave-count (within k u v others before) l h b closing in
-    let i = join-good d before a in
-    let j = fork-good d others (only (join before a)) in (
+    let i = chain-good d before a in
+    let j = fork-good d others (only (chain before a)) in (
       λ (n, (x, y, z, w, t), g). (omega arith, x, (y, (z, j .0 (w, i .0 (t, g))))),
       λ (n, x, (y, (z, f))). let (w, o) = j .1 f in let (t, g) = i .1 o in (omega arith, (x, y, z, w, t), g),
     )
 leave-holds (within k u v others before) l h b comma s =
     let a : Syntax pattern = last (repeat l h b) in
-    let e : begun-at (counting empty) (within k u v (join before a ∷ others) []) ≡ begun-at (after l h b) (within k u v others before) =
+    let e : begun-at (counting empty) (within k u v (chain before a ∷ others) []) ≡ begun-at (after l h b) (within k u v others before) =
     leave-count (within k u v others before) l h b comma in
-    let i = join-good (suc (depth k)) before a in (
+    let i = chain-good (suc (depth k)) before a in (
       λ (n, (x, y, z, w, t), g). (omega arith, (x, y, z, (w, i .0 (t, g)), tt), tt),
       λ (n, (x, y, z, (w, f), o), p). let (t, g) = i .1 f in (omega arith, (x, y, z, w, t), g),
     )
@@ -298,8 +298,8 @@ finish-holds (counting r) k = tt
 finish-holds (inside l h value) k = tt
 finish-holds (after l h b) (top before) =
     let a : Syntax pattern = last (repeat l h b) in
-    let e = join-size before a in
-    let i = join-good 0 before a in (
+    let e = chain-size before a in
+    let i = chain-good 0 before a in (
       λ (n, x, y). record { tree = i .0 (x, y); atoms = omega arith },
       λ t. let (x, y) = i .1 (t .tree) in (omega (arith, t .atoms), x, y),
     )

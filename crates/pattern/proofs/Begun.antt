@@ -7,15 +7,15 @@ use native.Mathlib.Omega.{arith}
 use Rattle.pattern.specs.Bytes.{Bytes}
 use Rattle.pattern.specs.Syntax.{pattern, atom, body, branches, Syntax, last, then, repeat, codes, literal, group, only, or, size}
 use Rattle.pattern.specs.Spelling.{Starter, letter, quote, opening, Ender, closing, comma, neither, Mark, digit, point, Kind, counts, starts, ends, Text, plain, quoting, barred, text}
-use Rattle.pattern.specs.Reading.{Run, empty, first, pointed, second, Place, counting, inside, after, Around, top, within, join, fork, next, enter, extend, leave, quoted, grow, counted, move}
+use Rattle.pattern.specs.Reading.{Run, empty, first, pointed, second, Place, counting, inside, after, Around, top, within, chain, fork, next, enter, extend, leave, quoted, grow, counted, move}
 use Rattle.pattern.specs.Places.{before-size, others-size, around-size, begun-at}
 use Rattle.pattern.specs.Scan.{body-begins, begins, begun}
 use Rattle.pattern.proofs.Tests.{On}
 
-pub join-size : (before : List (Syntax atom)) (p : Syntax pattern) → size (join before p) ≡ before-size before + size p
-unfolding before-size join size
-join-size [] p = omega arith
-join-size (a ∷ before) p = omega (arith, join-size before (then a p))
+pub chain-size : (before : List (Syntax atom)) (p : Syntax pattern) → size (chain before p) ≡ before-size before + size p
+unfolding before-size chain size
+chain-size [] p = omega arith
+chain-size (a ∷ before) p = omega (arith, chain-size before (then a p))
 
 pub fork-size : (others : List (Syntax pattern)) (bs : Syntax branches) → size (fork others bs) ≡ others-size others + size bs
 unfolding others-size fork size
@@ -59,8 +59,8 @@ pub leave-count : (k : Around) (l : ℕ) (h : Option ℕ) (b : Syntax body) (x :
 unfolding leave begun-at around-size size before-size others-size
 leave-count (top before) l h b x = tt
 leave-count (within k u v others before) l h b closing =
-    omega (arith, fork-size others (only (join before (last (repeat l h b)))), join-size before (last (repeat l h b)))
-leave-count (within k u v others before) l h b comma = omega (arith, join-size before (last (repeat l h b)))
+    omega (arith, fork-size others (only (chain before (last (repeat l h b)))), chain-size before (last (repeat l h b)))
+leave-count (within k u v others before) l h b comma = omega (arith, chain-size before (last (repeat l h b)))
 leave-count (within k u v others before) l h b neither = tt
 
 quoted-count : (l : ℕ) (h : Option ℕ) (value : Bytes) (k : Around) (x : Text) (c : ℕ) → On (quoted l h value k x c) (λ q. begun-at (q .0) (q .1) ≡ suc (around-size k))

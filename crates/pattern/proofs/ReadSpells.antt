@@ -7,15 +7,15 @@ use Rattle.pattern.specs.Bytes.{Bytes}
 use Rattle.pattern.specs.Syntax.{pattern, atom, body, branches, Syntax, last, then, repeat, codes, literal, group, only, or}
 use Rattle.pattern.specs.Meaning.{Cut}
 use Rattle.pattern.specs.Spelling.{Starter, letter, quote, opening, Ender, closing, comma, neither, Mark, digit, point, Kind, counts, starts, ends, kind, Text, plain, quoting, barred, text, Number, missing, given, Count, exact, from, range, Letters, start as opened, byte, quote as doubled, Spells}
-use Rattle.pattern.specs.Reading.{Run, empty, first, pointed, second, Place, counting, inside, after, Around, top, within, join, fork, next, State, enter, extend, leave, quoted, grow, counted, move, step, finish, read-from, start, read}
+use Rattle.pattern.specs.Reading.{Run, empty, first, pointed, second, Place, counting, inside, after, Around, top, within, chain, fork, next, State, enter, extend, leave, quoted, grow, counted, move, step, finish, read-from, start, read}
 use Rattle.pattern.specs.Places.{place-after, Before, Others, Opens, Runs, Stands, Spelt}
 use Rattle.pattern.proofs.Tests.{On}
 use Rattle.pattern.proofs.Notation.{Byte, kind-byte, TextByte, text-byte}
 
-join-spells : (before : List (Syntax atom)) (p : Syntax pattern) (u w : Bytes) → Before before u → Spells p w → Spells (join before p) (u ++ w)
-unfolding Before join Spells Cut
-join-spells [] p u w e h = rw e h
-join-spells (a ∷ before) p u w (x, y, e, b, s) h = rw (e, append-assoc) (join-spells before (then a p) x (y ++ w) b (y, w, refl, s, h))
+chain-spells : (before : List (Syntax atom)) (p : Syntax pattern) (u w : Bytes) → Before before u → Spells p w → Spells (chain before p) (u ++ w)
+unfolding Before chain Spells Cut
+chain-spells [] p u w e h = rw e h
+chain-spells (a ∷ before) p u w (x, y, e, b, s) h = rw (e, append-assoc) (chain-spells before (then a p) x (y ++ w) b (y, w, refl, s, h))
 
 fork-spells : (others : List (Syntax pattern)) (bs : Syntax branches) (u w : Bytes) → Others others u → Spells bs w → Spells (fork others bs) (u ++ w)
 unfolding Others fork Spells Cut
@@ -81,13 +81,13 @@ leave-lands (within k low high others before) a closing c u w d (x, y, z, v, e, 
   y ++ (40 ∷ (z ++ (v ++ w)) ++ 41 ∷ []),
   rw (e, d) (simp append-assoc),
   f,
-  (y, 40 ∷ (z ++ (v ++ w)) ++ 41 ∷ [], refl, g, (z ++ (v ++ w), refl, fork-spells others (only (join before (last a))) z (v ++ w) o (join-spells before (last a) v w b s))),
+  (y, 40 ∷ (z ++ (v ++ w)) ++ 41 ∷ [], refl, g, (z ++ (v ++ w), refl, fork-spells others (only (chain before (last a))) z (v ++ w) o (chain-spells before (last a) v w b s))),
 )
 leave-lands (within k low high others before) a comma c u w d (x, y, z, v, e, f, g, o, b) s = (
   (u ++ w) ++ c ∷ [],
   [],
   simp append-nil,
-  (x, y, z ++ (v ++ w) ++ 44 ∷ [], [], rw (e, d) (simp (append-assoc, append-nil)), f, g, (z, v ++ w, refl, o, join-spells before (last a) v w b s), refl),
+  (x, y, z ++ (v ++ w) ++ 44 ∷ [], [], rw (e, d) (simp (append-assoc, append-nil)), f, g, (z, v ++ w, refl, o, chain-spells before (last a) v w b s), refl),
   (refl, refl),
 )
 leave-lands (within k low high others before) a neither c u w d h s = tt
@@ -119,7 +119,7 @@ finish-spells : (p : Place) (k : Around) (u : Bytes) → Spelt p k u → On (fin
 unfolding finish Spelt Cut Stands Spells
 finish-spells (counting r) k u h = tt
 finish-spells (inside low high value) k u h = tt
-finish-spells (after low high b) (top before) u (x, y, f, h, g) = rw f (join-spells before (last (repeat low high b)) x y h g)
+finish-spells (after low high b) (top before) u (x, y, f, h, g) = rw f (chain-spells before (last (repeat low high b)) x y h g)
 finish-spells (after low high b) (within k l h others before) u g = tt
 
 -- a place that is reached spells what was read

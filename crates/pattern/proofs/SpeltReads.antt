@@ -9,7 +9,7 @@ use Rattle.pattern.specs.Bytes.{Bytes, between}
 use Rattle.pattern.specs.Syntax.{Sort, pattern, atom, body, branches, Syntax, last, then, repeat, codes, literal, group, only, or}
 use Rattle.pattern.specs.Meaning.{Cut}
 use Rattle.pattern.specs.Spelling.{Starter, letter, quote, opening, Mark, digit, point, counts, starts, kind, text, Number, Low, missing, given, Count, exact, from, range, Letters, Quoted, start as opened, byte, quote as doubled, Spells}
-use Rattle.pattern.specs.Reading.{empty, first, pointed, second, Place, counting, inside, after, Around, top, within, join, fork, next, State, enter, extend, leave, quoted, grow, counted, move, step, finish, read-from, start, read}
+use Rattle.pattern.specs.Reading.{empty, first, pointed, second, Place, counting, inside, after, Around, top, within, chain, fork, next, State, enter, extend, leave, quoted, grow, counted, move, step, finish, read-from, start, read}
 use Rattle.pattern.specs.Places.{place-after, Before, Others, Opens, Runs, Stands, Spelt}
 use Rattle.pattern.proofs.ReadSpells.{read-on, read-after, reached-spells}
 
@@ -104,19 +104,19 @@ quoted-leads r (byte h c d) = quoted-leads r h ⨾ by-step c (rw d)
 quoted-leads r (doubled h) = rw append-assoc at (quoted-leads r h ⨾ by-step 34 refl ⨾ by-step 34 refl)
 
 pub ended-closes : (k : Around) (low : ℕ) (high : Option ℕ) (others : List (Syntax pattern)) (p : Syntax pattern) (before : List (Syntax atom))
-    → step (ended (within k low high others before) p) 41 ≡ some (after low high (group (fork others (only (join before p)))), k)
-unfolding ended step move kind between leave next join
+    → step (ended (within k low high others before) p) 41 ≡ some (after low high (group (fork others (only (chain before p)))), k)
+unfolding ended step move kind between leave next chain
 ended-closes k low high others (last (repeat l h b)) before = refl
 ended-closes k low high others (then a p) before = ended-closes k low high others p (a ∷ before)
 
 pub ended-parts : (k : Around) (low : ℕ) (high : Option ℕ) (others : List (Syntax pattern)) (p : Syntax pattern) (before : List (Syntax atom))
-    → step (ended (within k low high others before) p) 44 ≡ some (counting empty, within k low high (join before p ∷ others) [])
-unfolding ended step move kind between leave next join
+    → step (ended (within k low high others before) p) 44 ≡ some (counting empty, within k low high (chain before p ∷ others) [])
+unfolding ended step move kind between leave next chain
 ended-parts k low high others (last (repeat l h b)) before = refl
 ended-parts k low high others (then a p) before = ended-parts k low high others p (a ∷ before)
 
-ended-finishes : (p : Syntax pattern) (before : List (Syntax atom)) → read-from (ended (top before) p) [] ≡ some (join before p)
-unfolding ended read-from finish next join
+ended-finishes : (p : Syntax pattern) (before : List (Syntax atom)) → read-from (ended (top before) p) [] ≡ some (chain before p)
+unfolding ended read-from finish next chain
 ended-finishes (last (repeat l h b)) before = refl
 ended-finishes (then a p) before = ended-finishes p (a ∷ before)
 
@@ -129,7 +129,7 @@ Follows {s = branches} bs w = (q : State) (k : Around) (low : ℕ) (high : Optio
     → Leads q (w ++ 41 ∷ []) (after low high (group (fork others bs)), k)
 
 follows : {s : Sort} (x : Syntax s) (w : Bytes) → Spells x w → Follows x w
-unfolding Spells Cut ended step enter move quoted text kind between join fork
+unfolding Spells Cut ended step enter move quoted text kind between chain fork
 follows (last a) w h = follows a w h
 follows (then (repeat low high b) p) w (x, y, e, h, g) = λ q k r.
     rw e (follows (repeat low high b) x h q k r ⨾ follows p y g (after low high b, k) (next k (repeat low high b)) (ready-next low high b k))
@@ -147,7 +147,7 @@ follows (or p bs) w (x, y, e, h, g) = λ q k low high others r.
 
 -- a source that spells a tree is read as that tree
 pub complete : (t : Syntax pattern) (s : Bytes) → Spells t s → read s ≡ some t
-unfolding read join
+unfolding read chain
 complete t s h = rw append-nil at (reads-on (follows t s h start (top []) (ready (top []))) []) ∙ ended-finishes t []
 
 -- ---- places
@@ -170,7 +170,7 @@ all-before (repeat low high b ∷ before) k n u w r (x, y, e, h, s) =
 
 all-others : (k : Around) (low : ℕ) (high : Option ℕ) (others : List (Syntax pattern)) (u w : Bytes)
     → Leads start u (counting empty, within k low high [] []) → Others others w → Leads start (u ++ w) (counting empty, within k low high others [])
-unfolding Others join
+unfolding Others chain
 all-others k low high [] u w r e = rw (e, append-nil) r
 all-others k low high (p ∷ others) u w r (x, y, e, o, s) =
     let i : Around = within k low high others [] in

@@ -27,9 +27,9 @@ pub data Around : Type 0 where
   within : Around → (low : ℕ) (high : Option ℕ) (others : List (Syntax pattern)) (before : List (Syntax atom)) → Around
 
 -- the pattern of the atoms before and then p
-unfoldable pub join : List (Syntax atom) → Syntax pattern → Syntax pattern
-join [] p = p
-join (a ∷ before) p = join before (then a p)
+unfoldable pub chain : List (Syntax atom) → Syntax pattern → Syntax pattern
+chain [] p = p
+chain (a ∷ before) p = chain before (then a p)
 
 -- the branches before and then bs
 unfoldable pub fork : List (Syntax pattern) → Syntax branches → Syntax branches
@@ -63,8 +63,8 @@ extend low high (group bs) k b c = none
 -- a branch ends
 unfoldable pub leave : Around → Syntax atom → Ender → Option State
 leave (top before) a e = none
-leave (within k low high others before) a closing = some (after low high (group (fork others (only (join before (last a))))), k)
-leave (within k low high others before) a comma = some (counting empty, within k low high (join before (last a) ∷ others) [])
+leave (within k low high others before) a closing = some (after low high (group (fork others (only (chain before (last a))))), k)
+leave (within k low high others before) a comma = some (counting empty, within k low high (chain before (last a) ∷ others) [])
 leave (within k low high others before) a neither = none
 
 -- a byte of a literal
@@ -108,7 +108,7 @@ step q c = move (q .0) (q .1) (kind c) c
 unfoldable pub finish : Place → Around → Option (Syntax pattern)
 finish (counting r) k = none
 finish (inside low high value) k = none
-finish (after low high b) (top before) = some (join before (last (repeat low high b)))
+finish (after low high b) (top before) = some (chain before (last (repeat low high b)))
 finish (after low high b) (within k l h others before) = none
 
 -- the tree of a source, its rest read from a place on
