@@ -6,6 +6,7 @@ pub mod Chunks
 pub mod Refusals
 pub mod Replies
 pub mod Told
+pub mod Scratch
 pub mod Ends
 pub mod Rooms
 pub mod Cuts

@@ -6,7 +6,7 @@ use Prim.Native.Nat.{ℕ, _+_, _-_, _^_, _≤_, _<_}
 use native.Mathlib.Numerals.{add-one}
 use native.Mathlib.Omega.{arith}
 use lib.Dec.{eqb}
-use lib.ListN.{length, take, drop, replicate, length-append, length-drop, length-replicate}
+use lib.ListN.{length, take, drop, replicate, length-append, length-drop}
 use lib.Seq.{take-all}
 use borrow.Author.Tests.{eq-eqb, ne-eqb, lt-ltb, le-ltb}
 use Rattle.pattern.specs.Bytes.{Bytes, bytes}
@@ -15,7 +15,7 @@ use Rattle.pattern.proofs.Tests.{if-true, if-false}
 use Rattle.pattern.proofs.Calls.{shown, scratch-ignored}
 use Rattle.lines.specs.Sizes.{line-limit, scratch-size, budget, table-room, parts-room, unset, tab-byte}
 use Rattle.lines.specs.Text.{decimal, coded-text, refused-text, unmatched-text, matched-text}
-use Rattle.lines.specs.Reply.{first, cut-at, cut, verdict-text, match-text, label-reply, table-reply, source-reply, cut-reply, reply}
+use Rattle.lines.specs.Reply.{first, cut-at, cut, verdict-text, match-text, zeros, label-reply, table-reply, source-reply, cut-reply, reply}
 use Rattle.pattern.specs.Stores.{Puts}
 use Rattle.lines.specs.Stores.{Within}
 use Rattle.matcher.specs.declared.Matched as call
@@ -25,6 +25,7 @@ use Rattle.compiler.specs.declared.Compiled as compiler
 use Rattle.compiler.specs.declared.Compiled.the-variants as outcome
 use Rattle.compiler.specs.Compiling.{answer-of}
 use Rattle.lines.proofs.Decimals.{decimal-short}
+use Rattle.lines.proofs.Scratch.{zeros-length}
 use Rattle.lines.proofs.Refusals.{compile-fits, compile-refuses}
 
 -- what is stored is another text if the two are the same
@@ -63,8 +64,8 @@ pub label-replied : (table label scratch : Bytes) → length scratch ≡ scratch
 unfolding label-reply
 label-replied table label scratch h m e =
     ap match-text e ∙ shows (matchOf table label scratch (replicate parts-room unset) budget)
-    ∙ ap shown-text (scratch-ignored table label scratch (replicate scratch-size 0) (replicate parts-room unset) budget (h ∙ sym (length-replicate {A = ℕ} scratch-size 0)))
-    ∙ sym (shows (matchOf table label (replicate scratch-size 0) (replicate parts-room unset) budget))
+    ∙ ap shown-text (scratch-ignored table label scratch zeros (replicate parts-room unset) budget (h ∙ sym zeros-length))
+    ∙ sym (shows (matchOf table label zeros (replicate parts-room unset) budget))
 
 -- what the matching call answers, under any scratch that is long enough
 module _ (table label scratch : Bytes) (h : length scratch ≡ scratch-size) (r : call.Matched) (s p : Bytes) (e : outcome-of budget r s p ≡ matchOf table label scratch (replicate parts-room unset) budget)

@@ -29,9 +29,13 @@ verdict-text m = elim (eqb (m .answer .value) 0) [ true ↦ bytes "0" | false �
 unfoldable pub match-text : Matched → Bytes
 match-text m = elim (eqb (m .answer .number) 0) [ true ↦ verdict-text m | false ↦ unmatched-text (m .answer .number) ]
 
+-- the scratch bytes before the first label; "Patient data stays in no buffer": they are the same before each
+unfoldable pub zeros : Bytes
+zeros = replicate scratch-size 0
+
 -- a label matched against a table
 unfoldable pub label-reply : (table label : Bytes) → Bytes
-label-reply table label = match-text (matchOf table label (replicate scratch-size 0) (replicate parts-room unset) budget)
+label-reply table label = match-text (matchOf table label zeros (replicate parts-room unset) budget)
 
 -- a label matched against what compiling gave
 unfoldable pub table-reply : Output → (label : Bytes) → Bytes

@@ -1,10 +1,10 @@
 // The replies to the lines of an input, chunk by chunk.
 ghost use mathlib.Core.Path.{_≡_};
 ghost use Prim.Native.Nat.{_≤_};
-ghost use lib.ListN.{length, take};
+ghost use lib.ListN.{length};
 ghost use Rattle.lines.specs.Sizes.{held-limit, scratch-size};
-ghost use Rattle.lines.specs.Output.{last-line, replies, first-line};
-ghost use Rattle.lines.specs.Chunk.{Answers};
+ghost use Rattle.lines.specs.Output.{first-line};
+ghost use Rattle.lines.specs.Chunk.{Answers, Finishes};
 use crate::line::take_line;
 use crate::reply::answer_line;
 
@@ -28,7 +28,7 @@ pub fn answer_chunk(
     out: &mut [u8],
 ) -> Answered
     requires { ⌜ (from ≤ length (now chunk)) × (length (now line) ≡ held-limit) × (held ≤ held-limit) × (length (now scratch) ≡ scratch-size) × (512 ≤ length (now out)) ⌝ }
-    ensures { λ r. ⌜ Answers (now (chunk .entry)) from (now (line .entry)) held (now (line .exit)) (now (out .exit)) r ⌝ }
+    ensures { λ r. ⌜ Answers (now (chunk .entry)) from (now (line .entry)) held (now (scratch .entry)) (now (line .exit)) (now (scratch .exit)) (now (out .exit)) r ⌝ }
 {
     let mut next = from;
     let mut n = held;
@@ -51,7 +51,7 @@ pub fn answer_chunk(
 // Answers a last line without a newline, if it has bytes.
 pub fn answer_last(line: &[u8], scratch: &mut [u8], out: &mut [u8]) -> usize
     requires { ⌜ (length (now scratch) ≡ scratch-size) × (512 ≤ length (now out)) ⌝ }
-    ensures { λ r. ⌜ (take r (now (out .exit)) ≡ replies (last-line (now (line .entry)))) × (r ≤ length (now (out .exit))) ⌝ }
+    ensures { λ r. ⌜ Finishes (now (line .entry)) (now (scratch .entry)) (now (scratch .exit)) (now (out .exit)) r ⌝ }
 {
     if line.len() == 0 {
         return 0;

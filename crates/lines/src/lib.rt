@@ -1,5 +1,5 @@
 // What the line tool answers to a line, and how it takes lines out of chunks of input.
 pub mod chunk;
-pub mod line;
-pub mod reply;
-pub mod text;
+mod line;
+mod reply;
+mod text;

@@ -5,7 +5,7 @@ ghost use Prim.Native.Nat.{_+_, _≤_};
 ghost use lib.ListN.{length};
 ghost use Rattle.lines.specs.Sizes.{scratch-size, newline-byte};
 ghost use Rattle.lines.specs.Reply.{label-reply, source-reply, reply};
-ghost use Rattle.lines.specs.Stores.{Within};
+ghost use Rattle.lines.specs.Stores.{Replied};
 use crate::line::tab_at;
 use crate::text;
 use compiler::Compiled;
@@ -18,7 +18,7 @@ const BUDGET: u64 = 10000000;
 // A label under a table.
 fn put_label(table: &[u8], label: &[u8], scratch: &mut [u8], out: &mut [u8], at: usize) -> usize
     requires { ⌜ (length (now scratch) ≡ scratch-size) × (at + 400 ≤ length (now out)) ⌝ }
-    ensures { λ r. ⌜ Within 400 (label-reply (now (table .entry)) (now (label .entry))) (now (out .entry)) at (now (out .exit)) r ⌝ }
+    ensures { λ r. ⌜ Replied 400 (label-reply (now (table .entry)) (now (label .entry))) (now (scratch .entry)) (now (out .entry)) at (now (scratch .exit)) (now (out .exit)) r ⌝ }
 {
     let mut parts = [text::UNSET; 128];
     let a = matcher::match_label(table, label, scratch, &mut parts, BUDGET).numbers(BUDGET);
@@ -34,7 +34,7 @@ fn put_label(table: &[u8], label: &[u8], scratch: &mut [u8], out: &mut [u8], at:
 // A source and a label.
 fn put_cut(source: &[u8], label: &[u8], scratch: &mut [u8], out: &mut [u8], at: usize) -> usize
     requires { ⌜ (length (now scratch) ≡ scratch-size) × (at + 400 ≤ length (now out)) ⌝ }
-    ensures { λ r. ⌜ Within 400 (source-reply (now (source .entry)) (now (label .entry))) (now (out .entry)) at (now (out .exit)) r ⌝ }
+    ensures { λ r. ⌜ Replied 400 (source-reply (now (source .entry)) (now (label .entry))) (now (scratch .entry)) (now (out .entry)) at (now (scratch .exit)) (now (out .exit)) r ⌝ }
 {
     let mut table = [0u8; 1160];
     match compiler::compile(source, &mut table) {
@@ -47,7 +47,7 @@ fn put_cut(source: &[u8], label: &[u8], scratch: &mut [u8], out: &mut [u8], at: 
 
 fn put_reply(line: &[u8], scratch: &mut [u8], out: &mut [u8], at: usize) -> usize
     requires { ⌜ (length (now scratch) ≡ scratch-size) × (at + 400 ≤ length (now out)) ⌝ }
-    ensures { λ r. ⌜ Within 400 (reply (now (line .entry))) (now (out .entry)) at (now (out .exit)) r ⌝ }
+    ensures { λ r. ⌜ Replied 400 (reply (now (line .entry))) (now (scratch .entry)) (now (out .entry)) at (now (scratch .exit)) (now (out .exit)) r ⌝ }
 {
     if LINE_LIMIT < line.len() {
         return text::put_byte(b'L', out, at);
@@ -62,7 +62,7 @@ fn put_reply(line: &[u8], scratch: &mut [u8], out: &mut [u8], at: usize) -> usiz
 // The reply and its newline.
 pub fn answer_line(line: &[u8], scratch: &mut [u8], out: &mut [u8], at: usize) -> usize
     requires { ⌜ (length (now scratch) ≡ scratch-size) × (at + 401 ≤ length (now out)) ⌝ }
-    ensures { λ r. ⌜ Within 401 (reply (now (line .entry)) ++ newline-byte ∷ []) (now (out .entry)) at (now (out .exit)) r ⌝ }
+    ensures { λ r. ⌜ Replied 401 (reply (now (line .entry)) ++ newline-byte ∷ []) (now (scratch .entry)) (now (out .entry)) at (now (scratch .exit)) (now (out .exit)) r ⌝ }
 {
     let end = put_reply(line, scratch, out, at);
     text::put_byte(b'\n', out, end)

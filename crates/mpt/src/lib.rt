@@ -1,5 +1,5 @@
 // The calls from C. Each returns the refusal number, 0 for none; the numbers of its answer go to the answer area.
-pub mod area;
+mod area;
 
 use crate::area::AREA_SIZE;
 use crate::area::put_answer;

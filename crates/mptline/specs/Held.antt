@@ -1,4 +1,4 @@
--- What is held of a line after bytes are answered. Assumes nothing.
+-- What is held of a line after bytes are answered, and that zeros in scratch stay. Assumes nothing.
 use mathlib.Core.Path.{_≡_}
 use mathlib.Core.Logic.{_⊎_}
 use mathlib.Core.Bool.{Bool, true, false}
@@ -6,6 +6,7 @@ use mathlib.Core.List.{List, []}
 use Prim.Native.Nat.{ℕ, _≤_}
 use lib.ListN.{length, take}
 use Rattle.lines.specs.Sizes.{held-limit}
+use Rattle.lines.specs.Reply.{zeros}
 use Rattle.lines.specs.Output.{kept}
 use Rattle.mptline.specs.declared.Progress.{Progress}
 
@@ -15,12 +16,19 @@ left-over true held chunk = kept held chunk
 left-over false held chunk = []
 
 -- a whole chunk is answered, or the output is closed
-pub record Holds (chunk line : List ℕ) (held : ℕ) (line′ : List ℕ) (r : Progress) : Type 0 where
+pub record Holds (chunk line : List ℕ) (held : ℕ) (scratch line′ scratch′ : List ℕ) (r : Progress) : Type 0 where
   pub holds : take (r .held) line′ ≡ left-over (r .more) (take held line) chunk
   pub held-fits : r .held ≤ held-limit
+  pub clean : scratch ≡ zeros → scratch′ ≡ zeros
 
 -- the first bytes of the buffer are answered, or there are none and the held ones stay
-pub record Reads (buf′ line : List ℕ) (held : ℕ) (line′ : List ℕ) (r : Progress) : Type 0 where
+pub record Reads (buf′ line : List ℕ) (held : ℕ) (scratch line′ scratch′ : List ℕ) (r : Progress) : Type 0 where
   pub holds : ((n : ℕ) × (n ≤ length buf′) × (take (r .held) line′ ≡ left-over (r .more) (take held line) (take n buf′)))
       ⊎ ((r .more ≡ false) × (take (r .held) line′ ≡ take held line))
   pub held-fits : r .held ≤ held-limit
+  pub clean : scratch ≡ zeros → scratch′ ≡ zeros
+
+-- the input has ended, or the output is closed; what was read is not known here
+pub record Ended (held : ℕ) (scratch scratch′ : List ℕ) : Type 0 where
+  pub held-fits : held ≤ held-limit
+  pub clean : scratch ≡ zeros → scratch′ ≡ zeros

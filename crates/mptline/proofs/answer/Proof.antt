@@ -1,12 +1,17 @@
 -- `answer` meets its contract. Assumes nothing.
-use mathlib.Core.Path.{sym}
+use mathlib.Core.Path.{sym, ap, _∙_}
+use native.Mathlib.Omega.{arith}
+use lib.ListN.{length}
 use lib.Seq.{length-take-le}
+use Rattle.lines.proofs.Scratch.{zeros-length}
 use borrow.Author.Needs.{needs}
 use Rattle.mptline.proofs.answer.Statement.{statement}
 use Rattle.mptline.proofs.answer.Tie as tie
 
 answer-input-requires : tie.Need-answer-input-requires
-answer-input-requires c κs = search needs
+answer-input-requires c κs =
+    let p = c .before .before .before .before .before .before .before .before .pre in
+    (p .0, ap length (p .1) ∙ zeros-length, p .2)
 
 slice-reshare-prefix-answer-last : tie.Need-slice-reshare-prefix-answer-last
 slice-reshare-prefix-answer-last c = search needs
@@ -15,7 +20,9 @@ slice-aggregate-answer-last : tie.Need-slice-aggregate-answer-last
 slice-aggregate-answer-last c = sym (length-take-le _ _ (search needs))
 
 answer-last-requires : tie.Need-answer-last-requires
-answer-last-requires c κs = search needs
+answer-last-requires c κs =
+    let p = c .before .before .before .before .before .before .before .before .before .before .before .before .before .before .before .before .before .before .before .before .pre in
+    (ap length (c .before .before .before .before .before .before .before .before .before .before .before .answer-input .ensures .clean (p .1)) ∙ zeros-length, omega arith)
 
 slice-reshare-prefix-write-all : tie.Need-slice-reshare-prefix-write-all
 slice-reshare-prefix-write-all c = search needs
@@ -39,7 +46,7 @@ same-length-4 : tie.Need-same-length-4
 same-length-4 c = search needs
 
 returns : tie.Need-returns
-returns c = search needs
+returns c = c .before .before .before .before .before .before .answer-last .ensures .clean (c .before .before .before .before .before .before .before .before .before .before .before .before .before .before .before .before .before .before .answer-input .ensures .clean (c .before .before .before .before .before .before .before .before .before .before .before .before .before .before .before .before .before .before .before .before .before .before .before .before .before .before .before .pre .1))
 
 pub answer-spec : {M : Type 1} → statement M
 answer-spec =

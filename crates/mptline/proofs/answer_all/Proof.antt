@@ -5,19 +5,20 @@ use native.Mathlib.Omega.{arith}
 use lib.ListN.{length, take, drop, drop-of-length-le}
 use lib.Seq.{length-take-le}
 use Rattle.lines.specs.Sizes.{held-limit}
+use Rattle.lines.specs.Reply.{zeros}
 use Rattle.lines.specs.Output.{kept}
 use Rattle.mptline.specs.Held.{left-over}
 use Rattle.mptline.proofs.answer_all.Statement.{statement}
 use Rattle.mptline.proofs.answer_all.Tie as tie
 
 abbrev Inv-loop : tie.InvT-loop
-Inv-loop chunk line₀ held scratch₀ out₀ from₀ n₀ line scratch out from n = (from ≤ length chunk) × (n ≤ held-limit) × (length line ≡ length line₀) × (length scratch ≡ length scratch₀) × (length out ≡ length out₀) × (kept (take n line) (drop from chunk) ≡ kept (take held line₀) chunk)
+Inv-loop chunk line₀ held scratch₀ out₀ from₀ n₀ line scratch out from n = (from ≤ length chunk) × (n ≤ held-limit) × (length line ≡ length line₀) × (length scratch ≡ length scratch₀) × (length out ≡ length out₀) × (kept (take n line) (drop from chunk) ≡ kept (take held line₀) chunk) × (scratch₀ ≡ zeros → scratch ≡ zeros)
 
 abbrev μ-loop : tie.MeasureT-loop
 μ-loop chunk line₀ held scratch₀ out₀ from₀ n₀ line scratch out from n = length chunk - from
 
 loop-holds : tie.Need-loop-holds Inv-loop μ-loop
-loop-holds c = (omega arith, omega arith, refl, refl, refl, refl)
+loop-holds c = (omega arith, omega arith, refl, refl, refl, refl, λ e. e)
 
 answer-chunk-requires : tie.Need-answer-chunk-requires Inv-loop μ-loop
 answer-chunk-requires c κs = (omega arith, omega arith, omega arith, omega arith, omega arith)
@@ -42,7 +43,9 @@ same-length-3 c = c .before .before .before .before .before .before .before .bef
 
 returns : tie.Need-returns Inv-loop μ-loop
 unfolding left-over
-returns c = record { holds = refl; held-fits = omega arith }
+returns c =
+    let k = c .before .before .before .before .before .before .before .before .before .before .before .before .before .before .loop in
+    record { holds = refl; held-fits = omega arith; clean = λ e. c .before .before .before .before .before .before .before .before .before .answer-chunk .ensures .clean (k .inv .6 e) }
 
 loop-less : tie.Need-loop-less Inv-loop μ-loop
 loop-less c = omega (arith, c .before .before .before .before .before .before .before .before .before .answer-chunk .ensures .moves (c .before .before .before .before .before .before .before .before .before .before .before .before .before .loop-test .taken), c .before .before .before .before .before .before .before .before .before .answer-chunk .ensures .next-fits)
@@ -51,7 +54,7 @@ loop-again : tie.Need-loop-again Inv-loop μ-loop
 loop-again c =
     let a = c .before .before .before .before .before .before .before .before .before .answer-chunk in
     let k = c .before .before .before .before .before .before .before .before .before .before .before .before .before .before .loop in
-    (a .ensures .next-fits, omega (arith, a .ensures .held-fits), a .kept .1 .1 .0 ∙ k .inv .2, a .kept .1 .1 .1 .1 .0 ∙ k .inv .3, a .kept .1 .1 .1 .1 .1 .0 ∙ k .inv .4, a .ensures .keeps ∙ k .inv .5)
+    (a .ensures .next-fits, omega (arith, a .ensures .held-fits), a .kept .1 .1 .0 ∙ k .inv .2, a .kept .1 .1 .1 .1 .0 ∙ k .inv .3, a .kept .1 .1 .1 .1 .1 .0 ∙ k .inv .4, a .ensures .keeps ∙ k .inv .5, λ e. a .ensures .clean (k .inv .6 e))
 
 same-length-4 : tie.Need-same-length-4 Inv-loop μ-loop
 same-length-4 c = c .before .loop .inv .2
@@ -66,7 +69,7 @@ returns-2 : tie.Need-returns-2 Inv-loop μ-loop
 unfolding left-over kept
 returns-2 c =
     let k = c .before .loop in
-    record { holds = sym (ap (kept (take (k .n) (k .line))) (drop-of-length-le _ (c .loop-test .left))) ∙ k .inv .5; held-fits = k .inv .1 }
+    record { holds = sym (ap (kept (take (k .n) (k .line))) (drop-of-length-le _ (c .loop-test .left))) ∙ k .inv .5; held-fits = k .inv .1; clean = k .inv .6 }
 
 pub answer-all-spec : {M : Type 1} → statement M
 answer-all-spec =

@@ -4,17 +4,18 @@ use Prim.Native.Nat.{_≤_}
 use native.Mathlib.Omega.{arith}
 use lib.ListN.{length}
 use Rattle.lines.specs.Sizes.{held-limit}
+use Rattle.lines.specs.Reply.{zeros}
 use Rattle.mptline.proofs.answer_input.Statement.{statement}
 use Rattle.mptline.proofs.answer_input.Tie as tie
 
 abbrev Inv-loop : tie.InvT-loop
-Inv-loop buf₀ line₀ scratch₀ out₀ held₀ turns₀ buf line scratch out held turns = (held ≤ held-limit) × (length buf ≡ length buf₀) × (length line ≡ length line₀) × (length scratch ≡ length scratch₀) × (length out ≡ length out₀)
+Inv-loop buf₀ line₀ scratch₀ out₀ held₀ turns₀ buf line scratch out held turns = (held ≤ held-limit) × (length buf ≡ length buf₀) × (length line ≡ length line₀) × (length scratch ≡ length scratch₀) × (length out ≡ length out₀) × (scratch₀ ≡ zeros → scratch ≡ zeros)
 
 abbrev μ-loop : tie.MeasureT-loop
 μ-loop buf₀ line₀ scratch₀ out₀ held₀ turns₀ buf line scratch out held turns = turns
 
 loop-holds : tie.Need-loop-holds Inv-loop μ-loop
-loop-holds c = (omega arith, refl, refl, refl, refl)
+loop-holds c = (omega arith, refl, refl, refl, refl, λ e. e)
 
 answer-some-requires : tie.Need-answer-some-requires Inv-loop μ-loop
 answer-some-requires c κs = (omega arith, omega arith, omega arith, omega arith)
@@ -32,7 +33,10 @@ same-length-4 : tie.Need-same-length-4 Inv-loop μ-loop
 same-length-4 c = c .before .before .before .before .before .before .before .before .before .before .answer-some .kept .1 .1 .1 .1 .0 ∙ c .before .before .before .before .before .before .before .before .before .before .before .before .before .before .before .before .loop .inv .4
 
 returns : tie.Need-returns Inv-loop μ-loop
-returns c = c .before .before .before .before .before .before .before .before .before .before .answer-some .ensures .held-fits
+returns c =
+    let a = c .before .before .before .before .before .before .before .before .before .before .answer-some .ensures in
+    let k = c .before .before .before .before .before .before .before .before .before .before .before .before .before .before .before .before .loop in
+    record { held-fits = a .held-fits; clean = λ e. a .clean (k .inv .5 e) }
 
 sub-turns : tie.Need-sub-turns Inv-loop μ-loop
 sub-turns c = omega arith
@@ -44,7 +48,7 @@ loop-again : tie.Need-loop-again Inv-loop μ-loop
 loop-again c =
     let a = c .before .before .before .before .before .before .before .before .before .before .answer-some in
     let k = c .before .before .before .before .before .before .before .before .before .before .before .before .before .before .before .before .loop in
-    (a .ensures .held-fits, a .kept .0 ∙ k .inv .1, a .kept .1 .0 ∙ k .inv .2, a .kept .1 .1 .1 .0 ∙ k .inv .3, a .kept .1 .1 .1 .1 .0 ∙ k .inv .4)
+    (a .ensures .held-fits, a .kept .0 ∙ k .inv .1, a .kept .1 .0 ∙ k .inv .2, a .kept .1 .1 .1 .0 ∙ k .inv .3, a .kept .1 .1 .1 .1 .0 ∙ k .inv .4, λ e. a .ensures .clean (k .inv .5 e))
 
 same-length-5 : tie.Need-same-length-5 Inv-loop μ-loop
 same-length-5 c = c .before .loop .inv .1
@@ -59,7 +63,7 @@ same-length-8 : tie.Need-same-length-8 Inv-loop μ-loop
 same-length-8 c = c .before .loop .inv .4
 
 returns-2 : tie.Need-returns-2 Inv-loop μ-loop
-returns-2 c = c .before .loop .inv .0
+returns-2 c = record { held-fits = c .before .loop .inv .0; clean = c .before .loop .inv .5 }
 
 pub answer-input-spec : {M : Type 1} → statement M
 answer-input-spec =

@@ -12,7 +12,7 @@ same-length : tie.Need-same-length
 same-length c = search needs
 
 returns : tie.Need-returns
-returns c = record { holds = inr (refl, refl); held-fits = c .before .before .before .before .before .before .before .before .before .pre .1 }
+returns c = record { holds = inr (refl, refl); held-fits = c .before .before .before .before .before .before .before .before .before .pre .1; clean = λ e. e }
 
 count-requires : tie.Need-count-requires
 count-requires c κs = search needs
@@ -41,7 +41,7 @@ same-length-5 c = search needs
 returns-2 : tie.Need-returns-2
 returns-2 c =
     let a = c .before .before .before .before .before .before .answer-all .ensures in
-    record { holds = inl (c .before .before .before .before .before .before .before .before .before .before .before .count .result, search needs, a .holds); held-fits = a .held-fits }
+    record { holds = inl (c .before .before .before .before .before .before .before .before .before .before .before .count .result, search needs, a .holds); held-fits = a .held-fits; clean = a .clean }
 
 pub answer-some-spec : {M : Type 1} → statement M
 answer-some-spec =

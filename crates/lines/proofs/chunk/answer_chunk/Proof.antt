@@ -8,6 +8,7 @@ use lib.ListN.{length, take, drop}
 use lib.Seq.{length-take-le}
 use Rattle.pattern.proofs.Tests.{le-or-lt}
 use Rattle.lines.specs.Sizes.{held-limit}
+use Rattle.lines.specs.Reply.{zeros}
 use Rattle.lines.specs.Output.{told, kept}
 use Rattle.pattern.proofs.Stores.{puts-length}
 use Rattle.lines.proofs.Told.{took-ended, turn-told, turn-kept, turn-ended, kept-ended}
@@ -20,13 +21,13 @@ Inv-loop chunk from line₀ held scratch₀ out₀ next₀ n₀ end₀ line scra
     × (length line ≡ length line₀) × (length scratch ≡ length scratch₀) × (length out ≡ length out₀)
     × (take end out ++ told (take n line) (drop next chunk) ≡ told (take held line₀) (drop from chunk))
     × (kept (take n line) (drop next chunk) ≡ kept (take held line₀) (drop from chunk))
-    × (next ≡ from → end ≡ 0)
+    × (next ≡ from → end ≡ 0) × (scratch₀ ≡ zeros → scratch ≡ zeros)
 
 abbrev μ-loop : tie.MeasureT-loop
 μ-loop chunk from line₀ held scratch₀ out₀ next₀ n₀ end₀ line scratch out next n end = length chunk - next
 
 loop-holds : tie.Need-loop-holds Inv-loop μ-loop
-loop-holds c = (omega arith, omega arith, omega arith, omega arith, refl, refl, refl, refl, refl, λ e. refl)
+loop-holds c = (omega arith, omega arith, omega arith, omega arith, refl, refl, refl, refl, refl, λ e. refl, λ e. e)
 
 sub-if1 : tie.Need-sub-if1 Inv-loop μ-loop
 sub-if1 c = omega arith
@@ -50,6 +51,7 @@ returns c =
       next-fits = k .inv .1;
       held-fits = k .inv .2;
       end-fits = k .inv .3;
+      clean = k .inv .10;
     }
 
 take-line-requires : tie.Need-take-line-requires Inv-loop μ-loop
@@ -73,7 +75,8 @@ loop-again : tie.Need-loop-again Inv-loop μ-loop
 loop-again c =
     let k = c .before .before .before .before .before .before .before .before .before .before .before .before .before .before .before .loop in
     let t = c .before .before .before .before .before .before .before .before .before .before .before .take-line .ensures in
-    let w = c .before .before .before .before .answer-line .ensures in
+    let r = c .before .before .before .before .answer-line .ensures in
+    let w = r .within in
     let m = t .moves (c .before .before .before .before .before .before .before .before .before .before .before .before .before .before .loop-test .taken) in (
       omega arith,
       t .next-fits,
@@ -85,6 +88,7 @@ loop-again c =
       turn-ended _ _ (took-ended t (c .before .before .before .before .before .before .before .before .if2 .taken)) (k .inv .7) (w .stores) (omega (arith, w .stores .next, w .short)),
       kept-ended _ _ _ _ (took-ended t (c .before .before .before .before .before .before .before .before .if2 .taken)) ∙ k .inv .8,
       λ e. absurd (omega arith),
+      λ e. r .clean (k .inv .10 e),
     )
 
 loop-less-2 : tie.Need-loop-less-2 Inv-loop μ-loop
@@ -105,6 +109,7 @@ loop-again-2 c =
       ap (λ v. take (k .end) (k .out) ++ v) (turn-told t (c .if2 .left)) ∙ k .inv .7,
       turn-kept t (c .if2 .left) ∙ k .inv .8,
       λ e. absurd (omega arith),
+      k .inv .10,
     )
 
 same-length-4 : tie.Need-same-length-4 Inv-loop μ-loop
@@ -126,6 +131,7 @@ returns-2 c =
       next-fits = k .inv .1;
       held-fits = k .inv .2;
       end-fits = k .inv .3;
+      clean = k .inv .10;
     }
 
 pub answer-chunk-spec : {M : Type 1} → statement M

@@ -8,7 +8,7 @@ use Rattle.lines.proofs.chunk.answer_last.Statement.{statement}
 use Rattle.lines.proofs.chunk.answer_last.Tie as tie
 
 returns : tie.Need-returns
-returns c = (sym (last-none _ (c .if1 .taken)), omega arith)
+returns c = record { tells = sym (last-none _ (c .if1 .taken)); end-fits = omega arith; clean = λ e. e }
 
 answer-line-requires : tie.Need-answer-line-requires
 answer-line-requires c κs = search needs
@@ -21,8 +21,13 @@ same-length-2 c = search needs
 
 returns-2 : tie.Need-returns-2
 returns-2 c =
-    let w = c .before .before .before .before .answer-line .ensures in
-    (take-stored (omega (arith, w .stores .next, w .short)) (w .stores) ∙ last-replied _ (c .before .before .before .before .before .before .before .if1 .left), omega (arith, w .short, puts-length (w .stores)))
+    let r = c .before .before .before .before .answer-line .ensures in
+    let w = r .within in
+    record {
+      tells = take-stored (omega (arith, w .stores .next, w .short)) (w .stores) ∙ last-replied _ (c .before .before .before .before .before .before .before .if1 .left);
+      end-fits = omega (arith, w .short, puts-length (w .stores));
+      clean = r .clean;
+    }
 
 pub answer-last-spec : {M : Type 1} → statement M
 answer-last-spec =

@@ -19,9 +19,10 @@ same-length-2 c = search needs
 
 returns : tie.Need-returns
 returns c =
-    let a = c .before .before .before .before .before .before .before .before .put-reply .ensures in
+    let r = c .before .before .before .before .before .before .before .before .put-reply .ensures in
+    let a = r .within in
     let b = c .before .before .put-byte .ensures in
-    record { stores = puts-then (a .stores) b; short = omega (arith, a .short, b .next) }
+    record { within = record { stores = puts-then (a .stores) b; short = omega (arith, a .short, b .next) }; clean = r .clean }
 
 pub answer-line-spec : {M : Type 1} → statement M
 answer-line-spec =

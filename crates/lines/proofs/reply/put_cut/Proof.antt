@@ -42,13 +42,15 @@ same-length-2 : tie.Need-same-length-2
 same-length-2 c = search needs
 
 returns : tie.Need-returns
-returns c = within-same (table-reply-is _ _ _ _ (c .before .before .before .before .before .before .before .before .before .before .before .before .compile .ensures) _ (c .before .before .before .before .before .before .before .before .before .n .given .1)) (c .before .before .before .before .put-label .ensures)
+returns c =
+    let r = c .before .before .before .before .put-label .ensures in
+    record { within = within-same (table-reply-is _ _ _ _ (c .before .before .before .before .before .before .before .before .before .before .before .before .compile .ensures) _ (c .before .before .before .before .before .before .before .before .before .n .given .1)) (r .within); clean = r .clean }
 
 same-length-3 : tie.Need-same-length-3
 same-length-3 c = search needs
 
 returns-2 : tie.Need-returns-2
-returns-2 c = within-same (refused-reply-is _ _ _ _ (c .before .before .before .before .before .before .before .before .compile .ensures) _ _ (c .before .before .before .before .before .number .given .1)) (stored-within 400 (omega (arith, refused-short (c .before .before .before .before .before .number .given .0 .0) (c .before .before .before .before .before .number .given .0 .1 .0) (omega (arith, c .before .before .before .before .known-told2 .given)) (omega (arith, c .before .before .before .before .known-told2 .given)))) (c .before .before .put-refused .ensures))
+returns-2 c = record { within = within-same (refused-reply-is _ _ _ _ (c .before .before .before .before .before .before .before .before .compile .ensures) _ _ (c .before .before .before .before .before .number .given .1)) (stored-within 400 (omega (arith, refused-short (c .before .before .before .before .before .number .given .0 .0) (c .before .before .before .before .before .number .given .0 .1 .0) (omega (arith, c .before .before .before .before .known-told2 .given)) (omega (arith, c .before .before .before .before .known-told2 .given)))) (c .before .before .put-refused .ensures)); clean = λ e. e }
 
 pub put-cut-spec : {M : Type 1} → statement M
 put-cut-spec =

@@ -1,5 +1,7 @@
 -- `reply::put_label` meets its contract. Assumes nothing.
+use mathlib.Core.Path.{_∙_}
 use native.Mathlib.Omega.{arith}
+use Rattle.lines.proofs.Scratch.{match-clean}
 use Rattle.lines.proofs.Replies.{within-same, stored-within, within-more, unmatched-short, unmatched-reply, no-reply, yes-reply}
 use borrow.Author.Needs.{needs}
 use Rattle.lines.proofs.reply.put_label.Statement.{statement}
@@ -30,7 +32,10 @@ returns : tie.Need-returns
 returns c =
     let a = c .before .before .before .before .before .before .before .numbers in
     let m = c .before .before .before .before .before .before .before .before .before .before .before .match-label in
-    within-same (unmatched-reply _ _ _ (c .before .before .before .before .before .before .before .before .before .before .before .before .before .before .before .before .before .before .pre .0) (m .result) _ _ (m .ensures) _ (a .ensures) (c .before .before .before .before .before .if1 .taken)) (stored-within 400 (omega (arith, unmatched-short (a .result .number) (omega (arith, c .before .before .before .before .before .before .struct-known .given)))) (c .before .before .put-unmatched .ensures))
+    record {
+      within = within-same (unmatched-reply _ _ _ (c .before .before .before .before .before .before .before .before .before .before .before .before .before .before .before .before .before .before .pre .0) (m .result) _ _ (m .ensures) _ (a .ensures) (c .before .before .before .before .before .if1 .taken)) (stored-within 400 (omega (arith, unmatched-short (a .result .number) (omega (arith, c .before .before .before .before .before .before .struct-known .given)))) (c .before .before .put-unmatched .ensures));
+      clean = match-clean _ _ _ _ _ (m .ensures) (m .kept .1 .1 .0 ∙ c .before .before .before .before .before .before .before .before .before .before .before .before .before .before .before .before .before .before .pre .0);
+    }
 
 put-byte-requires : tie.Need-put-byte-requires
 put-byte-requires c κs = search needs
@@ -45,7 +50,10 @@ returns-2 : tie.Need-returns-2
 returns-2 c =
     let a = c .before .before .before .before .before .before .before .before .numbers in
     let m = c .before .before .before .before .before .before .before .before .before .before .before .before .match-label in
-    within-same (no-reply _ _ _ (c .before .before .before .before .before .before .before .before .before .before .before .before .before .before .before .before .before .before .before .pre .0) (m .result) _ _ (m .ensures) _ (a .ensures) (c .before .before .before .before .before .before .if1 .left) (c .before .before .before .before .if2 .taken)) (stored-within 400 (omega arith) (c .before .before .put-byte .ensures))
+    record {
+      within = within-same (no-reply _ _ _ (c .before .before .before .before .before .before .before .before .before .before .before .before .before .before .before .before .before .before .before .pre .0) (m .result) _ _ (m .ensures) _ (a .ensures) (c .before .before .before .before .before .before .if1 .left) (c .before .before .before .before .if2 .taken)) (stored-within 400 (omega arith) (c .before .before .put-byte .ensures));
+      clean = match-clean _ _ _ _ _ (m .ensures) (m .kept .1 .1 .0 ∙ c .before .before .before .before .before .before .before .before .before .before .before .before .before .before .before .before .before .before .before .pre .0);
+    }
 
 slice-aggregate-put-matched : tie.Need-slice-aggregate-put-matched
 slice-aggregate-put-matched c = search needs
@@ -63,7 +71,10 @@ returns-3 : tie.Need-returns-3
 returns-3 c =
     let a = c .before .before .before .before .before .before .before .before .before .numbers in
     let m = c .before .before .before .before .before .before .before .before .before .before .before .before .before .match-label in
-    within-same (yes-reply _ _ _ (c .before .before .before .before .before .before .before .before .before .before .before .before .before .before .before .before .before .before .before .before .pre .0) (m .result) _ _ (m .ensures) _ (a .ensures) (c .before .before .before .before .before .before .before .if1 .left) (c .before .before .before .before .before .if2 .left)) (within-more (omega (arith, m .kept .1 .1 .1 .0)) (c .before .before .put-matched .ensures))
+    record {
+      within = within-same (yes-reply _ _ _ (c .before .before .before .before .before .before .before .before .before .before .before .before .before .before .before .before .before .before .before .before .pre .0) (m .result) _ _ (m .ensures) _ (a .ensures) (c .before .before .before .before .before .before .before .if1 .left) (c .before .before .before .before .before .if2 .left)) (within-more (omega (arith, m .kept .1 .1 .1 .0)) (c .before .before .put-matched .ensures));
+      clean = match-clean _ _ _ _ _ (m .ensures) (m .kept .1 .1 .0 ∙ c .before .before .before .before .before .before .before .before .before .before .before .before .before .before .before .before .before .before .before .before .pre .0);
+    }
 
 pub put-label-spec : {M : Type 1} → statement M
 put-label-spec =

@@ -14,7 +14,7 @@ same-length : tie.Need-same-length
 same-length c = search needs
 
 returns : tie.Need-returns
-returns c = within-same (long-reply _ (c .before .before .before .before .if1 .taken)) (stored-within 400 (omega arith) (c .before .before .put-byte .ensures))
+returns c = record { within = within-same (long-reply _ (c .before .before .before .before .if1 .taken)) (stored-within 400 (omega arith) (c .before .before .put-byte .ensures)); clean = λ e. e }
 
 tab-at-requires : tie.Need-tab-at-requires
 tab-at-requires c κs = search needs
@@ -26,7 +26,7 @@ same-length-2 : tie.Need-same-length-2
 same-length-2 c = search needs
 
 returns-2 : tie.Need-returns-2
-returns-2 c = within-same (whole-reply _ (c .before .before .before .before .before .before .if1 .left) _ (c .before .before .before .before .before .tab-at .ensures) (c .before .before .before .before .if2 .taken)) (stored-within 400 (omega arith) (c .before .before .put-byte2 .ensures))
+returns-2 c = record { within = within-same (whole-reply _ (c .before .before .before .before .before .before .if1 .left) _ (c .before .before .before .before .before .tab-at .ensures) (c .before .before .before .before .if2 .taken)) (stored-within 400 (omega arith) (c .before .before .put-byte2 .ensures)); clean = λ e. e }
 
 slice-aggregate-put-cut : tie.Need-slice-aggregate-put-cut
 slice-aggregate-put-cut c = sym (length-take-le _ _ (omega arith))
@@ -53,7 +53,9 @@ same-length-4 : tie.Need-same-length-4
 same-length-4 c = search needs
 
 returns-3 : tie.Need-returns-3
-returns-3 c = within-same (cut-replied _ (c .before .before .before .before .before .before .before .before .before .before .before .if1 .left) _ (c .before .before .before .before .before .before .before .before .before .before .tab-at .ensures) (c .before .before .before .before .before .before .before .before .before .if2 .left)) (c .before .before .before .before .put-cut .ensures)
+returns-3 c =
+    let r = c .before .before .before .before .put-cut .ensures in
+    record { within = within-same (cut-replied _ (c .before .before .before .before .before .before .before .before .before .before .before .if1 .left) _ (c .before .before .before .before .before .before .before .before .before .before .tab-at .ensures) (c .before .before .before .before .before .before .before .before .before .if2 .left)) (r .within); clean = r .clean }
 
 pub put-reply-spec : {M : Type 1} → statement M
 put-reply-spec =
