@@ -7,14 +7,14 @@ use Prim.Native.Nat.{ℕ, zero, suc, _+_, _-_, _*_, _/_, _%_, _≤_}
 use native.Mathlib.Omega.{arith}
 use lib.ListN.{length, drop, replicate}
 use borrow.Author.Tests.{ne-eqb}
-use Rattle.pattern.specs.Numbers.{label-limit}
+use Rattle.pattern.specs.Numbers.{label-limit, parts-room}
 use Rattle.pattern.specs.Bytes.{Bytes, bytes, over}
 use Rattle.pattern.specs.Syntax.{pattern, atom, Syntax, last, then}
 use Rattle.pattern.specs.Decision.{trial, decide}
 use Rattle.pattern.specs.Parts.{longest, end, parts, verdict}
 use Rattle.pattern.specs.Answers.{part-bytes, judged}
 use Rattle.pattern.proofs.Tests.{if-false}
-use Rattle.lines.specs.Sizes.{parts-room, unset, space-byte}
+use Rattle.lines.specs.Sizes.{unset, space-byte}
 use Rattle.lines.specs.Text.{ends-in, listed, matched-text}
 use Rattle.lines.specs.Reply.{verdict-text, match-text}
 

@@ -3,10 +3,8 @@ pub mod Lines
 pub mod Digits
 pub mod Parts
 pub mod Chunks
-pub mod Refusals
 pub mod Replies
 pub mod Told
 pub mod Scratch
 pub mod Ends
-pub mod Rooms
 pub mod Cuts

@@ -9,11 +9,12 @@ use lib.Dec.{eqb}
 use lib.ListN.{length, take, drop, replicate, length-append, length-drop}
 use lib.Seq.{take-all}
 use borrow.Author.Tests.{eq-eqb, ne-eqb, lt-ltb, le-ltb}
+use Rattle.pattern.specs.Numbers.{table-room, parts-room}
 use Rattle.pattern.specs.Bytes.{Bytes, bytes}
 use Rattle.pattern.specs.Answers.{Answer, refusal, result, Output, compileOf, Matched, matchOf}
 use Rattle.pattern.proofs.Tests.{if-true, if-false}
 use Rattle.pattern.proofs.Calls.{shown, scratch-ignored}
-use Rattle.lines.specs.Sizes.{line-limit, scratch-size, budget, table-room, parts-room, unset, tab-byte}
+use Rattle.lines.specs.Sizes.{line-limit, scratch-size, budget, unset, tab-byte}
 use Rattle.lines.specs.Text.{decimal, coded-text, refused-text, unmatched-text, matched-text}
 use Rattle.lines.specs.Reply.{first, cut-at, cut, verdict-text, match-text, zeros, label-reply, table-reply, source-reply, cut-reply, reply}
 use Rattle.pattern.specs.Stores.{Puts}
@@ -26,7 +27,7 @@ use Rattle.compiler.specs.declared.Compiled.the-variants as outcome
 use Rattle.compiler.specs.Compiling.{answer-of}
 use Rattle.lines.proofs.Decimals.{decimal-short}
 use Rattle.lines.proofs.Scratch.{zeros-length}
-use Rattle.lines.proofs.Refusals.{compile-fits, compile-refuses}
+use Rattle.pattern.proofs.Rooms.{compile-fits, compile-some}
 
 -- what is stored is another text if the two are the same
 pub within-same : {room : ℕ} {v w l m : Bytes} {i j : ℕ} → v ≡ w → Within room v l i m j → Within room w l i m j
@@ -102,7 +103,7 @@ module _ (source label table : Bytes) where
   pub refused-replied : (number position : ℕ) → compiling (refusal number position) ≡ compileOf source (replicate table-room 0) → refused-text number position ≡ source-reply source label
   unfolding source-reply table-reply
   refused-replied number position e =
-      let f : ¬ (number ≡ 0) = λ z. let o = compile-refuses source (replicate table-room 0) (sym (ap (λ o. o .answer .number) e) ∙ z) in omega (arith, ap (λ o. o .answer .value) e) in
+      let f : ¬ (number ≡ 0) = λ z. let o = compile-some source (replicate table-room 0) (sym (ap (λ o. o .answer .number) e) ∙ z) in omega (arith, ap (λ o. o .answer .value) e) in
       sym (if-false _ _ _ (ne-eqb number 0 f)) ∙ ap (λ o. table-reply o label) e
 
 -- what the compiling call answers

@@ -5,9 +5,10 @@ use mathlib.Core.Option.{Option, none, some}
 use Prim.Native.Nat.{ℕ, suc}
 use lib.Dec.{ltb, eqb}
 use lib.ListN.{length, take, drop, replicate}
+use Rattle.pattern.specs.Numbers.{table-room, parts-room}
 use Rattle.pattern.specs.Bytes.{Bytes, bytes}
 use Rattle.pattern.specs.Answers.{Output, compileOf, Matched, matchOf}
-use Rattle.lines.specs.Sizes.{line-limit, scratch-size, budget, table-room, parts-room, unset, tab-byte}
+use Rattle.lines.specs.Sizes.{line-limit, scratch-size, budget, unset, tab-byte}
 use Rattle.lines.specs.Text.{refused-text, unmatched-text, matched-text}
 
 -- where a byte first stands, the length if it is not there

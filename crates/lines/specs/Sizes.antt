@@ -16,13 +16,6 @@ scratch-size = 65536
 abbrev pub budget : ℕ
 budget = 10_000_000
 
--- "room for every table and its parts": a header, 64 records and 512 bytes of pool; 64 ends
-abbrev pub table-room : ℕ
-table-room = 1160
-
-abbrev pub parts-room : ℕ
-parts-room = 128
-
 -- what the lent parts hold before: no end of a part has it as its upper byte
 abbrev pub unset : ℕ
 unset = 255
