@@ -11,7 +11,7 @@ use Rattle.pattern.specs.Decision.{any, made, join}
 use Rattle.matcher.specs.declared.join.Tally.{Tally}
 use Rattle.matcher.specs.Cells.{InRoom, Plane, Kept, Not, on}
 use Rattle.matcher.specs.Joined.{join-trials, Ready, Joined}
-use Rattle.matcher.specs.Added.{Addable, Added}
+use Rattle.matcher.specs.Whole.{Addable, Added}
 use Rattle.matcher.specs.Made.{Gathered, fewer, body-trials, Making, Elsewhere, MadeOf}
 use Rattle.matcher.proofs.Planes.{kept-all, kept-then, kept-less, plane-on, plane-same, plane-flags, plane-kept, room-of, planes-le}
 use Rattle.matcher.proofs.Relations.{join-same, join-trials-same}

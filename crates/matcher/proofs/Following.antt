@@ -1,6 +1,6 @@
 -- The join of an atom with its followers, and the loop over all atoms, in plain values. Assumes nothing.
 use mathlib.Core.Path.{_≡_, refl, sym, ap, _∙_}
-use mathlib.Core.Bool.{true, false}
+use mathlib.Core.Bool.{Bool, true, false, _||_}
 use mathlib.Core.List.{List, [], _∷_}
 use mathlib.Core.Logic.{⊎-elim}
 use Prim.Native.Nat.{ℕ, zero, suc, _+_, _*_, _-_, _/_, _≤_, _<_}
@@ -18,10 +18,9 @@ use Rattle.pattern.proofs.RoundTrip.{some-atom}
 use Rattle.table.specs.declared.Record.{Record}
 use Rattle.table.specs.Fields.{record-of}
 use Rattle.matcher.specs.declared.join.Tally.{Tally}
-use Rattle.matcher.specs.declared.fill.Source.the-variants.{Copy}
-use Rattle.matcher.specs.Cells.{Plane, Kept, on}
+use Rattle.matcher.specs.Cells.{InRoom, Plane, Kept, on}
 use Rattle.matcher.specs.Joined.{join-trials, Ready, Joined}
-use Rattle.matcher.specs.Filled.{held-in, Fit, Aside, Fillable, Filled}
+use Rattle.matcher.specs.Whole.{Blanked, Addable, Added}
 use Rattle.matcher.specs.Atoms.{atoms, node, head, Work, Settled}
 use Rattle.matcher.specs.Bodied.{Bodying}
 use Rattle.matcher.specs.Steps.{NoPlane, Owned, follow-trials, Following, Followed, Stepped, AllSettled}
@@ -41,26 +40,39 @@ follows-then : (l : Bytes) (p : Syntax pattern) (a : Syntax atom) (q : Syntax pa
 unfolding follow-trials decide
 follows-then l p a q e = (ap (follow-trials l) e, ap (λ (z : Syntax pattern). decide l z) e)
 
+or-false : (b : Bool) → b || false ≡ b
+or-false true = refl
+or-false false = refl
+
 module _ (table label s : Bytes) (w x : ℕ) (ok : Following table label s w x) where
   pub follow-few : 2 * x + 6 ≤ length s
   follow-few = omega (arith, work-few (ok .work), ok .there)
 
-  pub follow-copy : Fillable table label s w (Copy (2 * x)) (2 * x + 1)
-  unfolding Fit Aside
-  follow-copy = record { wide = ok .work .wide; fit = work-room (ok .work) (2 * x) (omega (arith, ok .there)); aside = tt; into = work-room (ok .work) (2 * x + 1) (omega (arith, ok .there)) }
+  pub follow-blank : (1 ≤ w) × InRoom s w (2 * x + 1)
+  follow-blank = (omega (arith, ok .work .wide), work-room (ok .work) (2 * x + 1) (omega (arith, ok .there)))
 
-  module _ (r : Record) (is : r ≡ record-of (its table (layout table) x)) where
-    pub follow-last : (budget spent : ℕ) → spent ≤ budget → r .ends ≡ 1 → (s′ : Bytes) → Filled table label s s′ w (Copy (2 * x)) (2 * x + 1) → Followed table label s s′ w x budget spent record { trials = spent; stopped = false }
-    unfolding held-in
-    follow-last budget spent h e s′ f =
+  module _ (s₁ : Bytes) (l₁ : length s₁ ≡ length s) (b : Blanked s s₁ w (2 * x + 1)) where
+    here : Plane s₁ w (2 * x) (decide label (head (node table x)))
+    here = plane-kept (b .kept) (λ i j l e. omega arith) (ok .here)
+
+    pub follow-add : Addable s₁ w (2 * x) (2 * x + 1)
+    follow-add = record {
+      wide = omega (arith, ok .work .wide);
+      added = record { room = rw l₁ (work-room (ok .work) (2 * x) (omega (arith, ok .there))); flags = plane-flags here };
+      into = record { room = rw l₁ (work-room (ok .work) (2 * x + 1) (omega (arith, ok .there))); flags = plane-flags (b .plane) };
+    }
+
+    pub follow-last : (r : Record) → r ≡ record-of (its table (layout table) x) → (budget spent : ℕ) → spent ≤ budget → r .ends ≡ 1 → (s₂ : Bytes) → Added s₁ s₂ w (2 * x) (2 * x + 1) → Followed table label s s₂ w x budget spent record { trials = spent; stopped = false }
+    follow-last r is budget spent h e s₂ f =
         let (none, same) = follows-last label _ _ (ends-last table (ok .work .good) x (ok .there) r is e) in
         let z : spent + follow-trials label (node table x) ≡ spent = omega arith in
         record {
           counted = rw z (counted-whole h);
-          whole = λ _. plane-same (f .plane) (λ i j hi hj. plane-on (ok .here) i j hi hj ∙ sym (ap (λ (R : Rel). R i j) same));
-          kept = kept-less (2 * x + 1 + 1) (2 * x + 2) (omega arith) (f .kept) (λ q i j n. n);
+          whole = λ _. plane-same (f .plane) (λ i j hi hj. rw (plane-on here i j hi hj, plane-on (b .plane) i j hi hj) (or-false (decide label (head (node table x)) i j) ∙ sym (ap (λ (R : Rel). R i j) same)));
+          kept = kept-less (2 * x + 1 + 1) (2 * x + 2) (omega arith) (kept-then (b .kept) (f .kept) (λ q i j n. n) (λ q i j n. n)) (λ q i j n. n);
         }
 
+  module _ (r : Record) (is : r ≡ record-of (its table (layout table) x)) where
     module _ (n : r .ends ≡ 1 → ⊥) (next : ℕ) (e : next ≡ x + size (head (node table x))) where
       pub follow-next : next < atoms table
       follow-next = rw e (ends-then table (ok .work .good) x (ok .there) r is n .1)

@@ -21,10 +21,10 @@ use Rattle.pattern.proofs.Nodes.{At, at-branch}
 use Rattle.table.specs.declared.Record.{Record}
 use Rattle.table.specs.Fields.{record-of}
 use Rattle.matcher.specs.declared.fill.Source.{Source}
-use Rattle.matcher.specs.declared.fill.Source.the-variants.{Nothing, Empty, Codes, Literal}
+use Rattle.matcher.specs.declared.fill.Source.the-variants.{Empty, Codes, Literal}
 use Rattle.matcher.specs.Cells.{InRoom, Plane, Kept, Not, on}
-use Rattle.matcher.specs.Added.{Addable, Added}
-use Rattle.matcher.specs.Filled.{held-in, Fit, Aside, Fillable, Filled}
+use Rattle.matcher.specs.Whole.{Blanked, Addable, Added}
+use Rattle.matcher.specs.Filled.{held-in, Fit, Fillable, Filled}
 use Rattle.matcher.specs.Atoms.{atoms, node, head, inside, Work, Settled}
 use Rattle.matcher.specs.Bodied.{Bodying, Bodied}
 use Rattle.matcher.proofs.Planes.{Same, kept-all, kept-then, plane-on, plane-same, plane-flags, plane-kept, room-of, planes-le}
@@ -59,9 +59,12 @@ no-bytes l i j h k =
     (eq-or-lt-of-le h)
 
 module _ (table label s : Bytes) (w top x : ℕ) (ok : Bodying table label s w top x) where
+  pub body-blank : (1 ≤ w) × InRoom s w top
+  body-blank = (omega (arith, ok .work .wide), work-room (ok .work) top (omega (arith, ok .topmost)))
+
   -- plane top can be filled from a source that lies where it should
-  pub body-fill : (source : Source) → Fit table s w source → Aside source top → Fillable table label s w source top
-  body-fill source f a = record { wide = ok .work .wide; fit = f; aside = a; into = work-room (ok .work) top (omega (arith, ok .topmost)) }
+  pub body-fill : (source : Source) → Fit table source → Fillable table label s w source top
+  body-fill source f = record { wide = ok .work .wide; fit = f; into = body-blank .1 }
 
   module _ (r : Record) (got : r ≡ record-of (its table (layout table) x)) (s′ : Bytes) where
     pub body-codes : r .kind ≡ 1 → Filled table label s s′ w (Codes (r .a)) top → Bodied table label s s′ w top x
@@ -77,7 +80,7 @@ module _ (table label s : Bytes) (w top x : ℕ) (ok : Bodying table label s w t
         let wide = ok .work .wide in
         record { plane = plane-same (f .plane) (λ i j hi hj. rw z (no-bytes label i j hi (omega arith))); kept = f .kept }
 
-    pub body-literal : r .kind ≡ 2 → (r .b ≡ 0 → ⊥) → let from : ℕ = layout table .pool + r .a in Filled table label s s′ w (Literal from (from + r .b)) top → Bodied table label s s′ w top x
+    pub body-literal : r .kind ≡ 2 → (r .b ≡ 0 → ⊥) → let from : ℕ = layout table .pool + r .a in Filled table label s s′ w (Literal from (r .b)) top → Bodied table label s s′ w top x
     unfolding held-in decide
     body-literal e n f =
         let z = told-literal table (ok .work .good) x (ok .there) r got e n .0 in
@@ -117,7 +120,7 @@ unfolding choices
 some-choices (only p) = omega arith
 some-choices (or p bs) = omega arith
 
-module _ (table label s₀ s₁ : Bytes) (w top x : ℕ) (ok : Bodying table label s₀ w top x) (len : length s₁ ≡ length s₀) (blank : Filled table label s₀ s₁ w Nothing top)
+module _ (table label s₀ s₁ : Bytes) (w top x : ℕ) (ok : Bodying table label s₀ w top x) (len : length s₁ ≡ length s₀) (blank : Blanked s₀ s₁ w top)
     (r : Record) (got : r ≡ record-of (its table (layout table) x)) (n1 : r .kind ≡ 1 → ⊥) (n2 : r .kind ≡ 2 → ⊥) where
   g : Branches table x (r .a) (r .b) (inside (head (node table x)))
   g = told-group table (ok .work .good) x (ok .there) r got n1 n2

@@ -10,7 +10,7 @@ use lib.Arith.{digits-lt, digits-div, digits-mod}
 use lib.Bits.{bitOr}
 use lib.ListN.{length, getD, set, length-set}
 use Rattle.matcher.specs.Cells.{at, cell, InRoom, bitOf, on, Kept, Not}
-use Rattle.matcher.specs.Added.{Addable, Added}
+use Rattle.matcher.specs.Whole.{Blanked, Addable, Added}
 use Rattle.matcher.proofs.Planes.{at-in, mark-here, mark-kept, kept-all, kept-then, kept-less}
 
 -- the first k cells of plane out are those of f, and all others are as they were
@@ -63,6 +63,11 @@ module _ (s₀ : List ℕ) (w out : ℕ) (f : ℕ → ℕ → ℕ) where
 
 pub pass-len : (s : List ℕ) (w p : ℕ) → InRoom s w p → w * w ≤ length s
 pass-len s w p room = let some : 1 ≤ p + 1 = omega arith in omega (arith, mul-le-mul-right w (mul-le-mul-right w some), one-mul w)
+
+pub blank-end : (s₀ : List ℕ) (w out : ℕ) (s : List ℕ) (k : ℕ) → PassAt s₀ w out (λ i j. 0) s k → w * w ≤ k → Blanked s₀ s w out
+blank-end s₀ w out s k inv h =
+    let (all, rest) = pass-end s₀ w out (λ i j. 0) s k inv h in
+    record { plane = record { holds = λ i j hi hj. all i j (omega arith) hj }; kept = rest }
 
 -- ---- one plane added to another
 

@@ -1,6 +1,6 @@
 -- One atom after the other, in plain values. Assumes nothing.
 use mathlib.Core.Path.{_≡_, refl, sym, ap, _∙_}
-use mathlib.Core.Bool.{Bool, true, false, _&&_, _||_}
+use mathlib.Core.Bool.{Bool, true, false, not, _&&_, _||_}
 use mathlib.Core.Option.{Option, none, some}
 use Prim.Native.Nat.{ℕ, suc, _+_, _*_, _≤_, _<_, min}
 use native.Mathlib.Omega.{arith}
@@ -17,16 +17,17 @@ use Rattle.pattern.specs.Decode.{layout, its}
 use Rattle.table.specs.declared.Record.{Record}
 use Rattle.table.specs.Fields.{record-of}
 use Rattle.matcher.specs.declared.join.Tally.{Tally}
-use Rattle.matcher.specs.declared.fill.Source.the-variants.{Nothing, Empty, Gate}
+use Rattle.matcher.specs.declared.fill.Source.the-variants.{Empty}
 use Rattle.matcher.specs.Cells.{InRoom, Plane, Kept, on}
 use Rattle.matcher.specs.Joined.{join-trials}
-use Rattle.matcher.specs.Filled.{held-in, Fit, Aside, Fillable, Filled}
+use Rattle.matcher.specs.Whole.{Blanked}
+use Rattle.matcher.specs.Filled.{held-in, Fit, Fillable, Filled}
 use Rattle.matcher.specs.Made.{fewer, body-trials, MadeOf}
 use Rattle.matcher.specs.Atoms.{node, head, inside}
 use Rattle.matcher.specs.Bodied.{Bodying, Bodied}
 use Rattle.matcher.specs.Steps.{Later, Begun, Owned}
 use Rattle.matcher.proofs.Planes.{Same, kept-then, kept-less, plane-on, plane-same, plane-flags, plane-kept}
-use Rattle.matcher.proofs.Relations.{any-same, sum-same, join-trials-same, joins-all, made-same}
+use Rattle.matcher.proofs.Relations.{any-same, sum-same, join-trials-same, joins-all, made-same, decide-level}
 use Rattle.matcher.proofs.Views.{told-count}
 use Rattle.matcher.proofs.Groups.{work-long, work-room}
 
@@ -37,18 +38,17 @@ module _ (table label s : Bytes) (w top x : ℕ) (ok : Bodying table label s w t
   room₁ p h = work-room {s = s₁} (work-long l₁ (ok .work)) p (omega (arith, ok .topmost))
 
   pub begin-empty : Fillable table label s₁ w Empty (top + 1)
-  unfolding Fit Aside
-  begin-empty = record { wide = ok .work .wide; fit = tt; aside = tt; into = room₁ (top + 1) (omega arith) }
+  unfolding Fit
+  begin-empty = record { wide = ok .work .wide; fit = tt; into = room₁ (top + 1) (omega arith) }
 
   module _ (s₂ : Bytes) (l₂ : length s₂ ≡ length s₁) (empty : Filled table label s₁ s₂ w Empty (top + 1)) where
     room₂ : (p : ℕ) → p < top + 4 → InRoom s₂ w p
     room₂ p h = work-room {s = s₂} (work-long (l₂ ∙ l₁) (ok .work)) p (omega (arith, ok .topmost))
 
-    pub begin-nothing : Fillable table label s₂ w Nothing (2 * x)
-    unfolding Fit Aside
-    begin-nothing = record { wide = ok .work .wide; fit = tt; aside = tt; into = room₂ (2 * x) (omega (arith, ok .topmost, ok .there)) }
+    pub begin-blank : (1 ≤ w) × InRoom s₂ w (2 * x)
+    begin-blank = (omega (arith, ok .work .wide), room₂ (2 * x) (omega (arith, ok .topmost, ok .there)))
 
-    pub begin-end : (s₃ : Bytes) → length s₃ ≡ length s₂ → Filled table label s₂ s₃ w Nothing (2 * x) → Begun table label s s₃ w top x
+    pub begin-end : (s₃ : Bytes) → length s₃ ≡ length s₂ → Blanked s₂ s₃ w (2 * x) → Begun table label s s₃ w top x
     unfolding held-in
     begin-end s₃ l₃ nothing =
         let below : 2 * x < top = omega (arith, ok .topmost, ok .there) in
@@ -80,6 +80,16 @@ most-min n (some m) h = refl
 and-true : (b : Bool) → b && true ≡ b
 and-true true = refl
 and-true false = refl
+
+and-set : (a b : Bool) → not b ≡ false → a && b ≡ a
+and-set a true e = and-true a
+and-set true false e = sym e
+and-set false false e = refl
+
+and-unset : (a b : Bool) → not b ≡ true → a && b ≡ false
+and-unset true true e = sym e
+and-unset true false e = refl
+and-unset false b e = refl
 
 repeats-is : (l : Bytes) (a : Syntax atom) (low : ℕ) (high : Option ℕ) → a ≡ repeat low high (inside a)
     → repeats l a ≡ sum (most (length l) high) (λ k. joins (length l) (decide l (inside a)) (made (decide l (inside a)) k))
@@ -139,20 +149,33 @@ module _ (table label s : Bytes) (w top x budget spent : ℕ) (ok : Bodying tabl
     kept = later;
   }
 
-  pub own-gate : Fillable table label s₂ w (Gate (2 * x) top) (2 * x)
-  unfolding Fit Aside
-  own-gate =
-      let below = got .making .below in
-      let room : (p : ℕ) → p < top + 4 → InRoom s₂ w p = λ p h. work-room {s = s₂} (work-long (l₂ ∙ l₁) (ok .work)) p (omega (arith, ok .topmost)) in
-      record { wide = ok .work .wide; fit = (room (2 * x) (omega arith), room top (omega arith)); aside = λ e. omega arith; into = room (2 * x) (omega arith) }
+  -- where low is beyond the label's length: whether a body can be empty is the same everywhere
+  module _ (e : t .stopped ≡ false) (h : length label < r .low) where
+    room : (p : ℕ) → p < top + 4 → InRoom s₂ w p
+    room p l = work-room {s = s₂} (work-long (l₂ ∙ l₁) (ok .work)) p (omega (arith, ok .topmost))
 
-  pub own-high : t .stopped ≡ false → length label < r .low → (s₃ : Bytes) → Filled table label s₂ s₃ w (Gate (2 * x) top) (2 * x) → Owned table label s s₃ w top x budget spent t
-  unfolding held-in
-  own-high e h s₃ f =
-      let below = got .making .below in
-      let b : Plane s₂ w top R = plane-kept (made-of .kept) (λ i j l. (λ y. omega arith, λ y. omega arith, λ y. omega arith)) (got .body) in
-      record {
-        counted = rw (← tried) (made-of .counted);
-        whole = λ _. plane-same (f .plane) (λ i j hi hj. sym (decided i j ∙ rw (lt-leb (r .low) (length label) h, plane-on (enough e) i j hi hj, plane-on b i i (omega arith) (omega arith))));
-        kept = kept-then later (kept-less (2 * x + 1) (top + 4) (omega arith) (f .kept) (λ q i j n. n)) (λ q i j n. n) (λ q i j (m, n) y. omega arith);
-      }
+    pub own-top : InRoom s₂ w top
+    own-top = room top (omega arith)
+
+    pub own-blank : (1 ≤ w) × InRoom s₂ w (2 * x)
+    own-blank = (omega (arith, ok .work .wide), room (2 * x) (omega (arith, got .making .below)))
+
+    level : (i j : ℕ) → decide label a i j ≡ fewer R low (suc times) i j && on s₂ w top 0 0
+    level i j =
+        let below = got .making .below in
+        let c : Plane s₂ w top R = plane-kept (made-of .kept) (λ i j l. (λ y. omega arith, λ y. omega arith, λ y. omega arith)) (got .body) in
+        decided i j ∙ rw (lt-leb (r .low) (length label) h, decide-level label (inside a) i ∙ sym (plane-on c 0 0 (omega arith) (omega (arith, ok .work .wide))))
+
+    pub own-empty : not (on s₂ w top 0 0) ≡ false → Owned table label s s₂ w top x budget spent t
+    own-empty is = record {
+      counted = rw (← tried) (made-of .counted);
+      whole = λ f. plane-same (enough e) (λ i j hi hj. sym (level i j ∙ and-set (fewer R low (suc times) i j) (on s₂ w top 0 0) is));
+      kept = later;
+    }
+
+    pub own-none : not (on s₂ w top 0 0) ≡ true → (s₃ : Bytes) → Blanked s₂ s₃ w (2 * x) → Owned table label s s₃ w top x budget spent t
+    own-none is s₃ f = record {
+      counted = rw (← tried) (made-of .counted);
+      whole = λ _. plane-same (f .plane) (λ i j hi hj. sym (level i j ∙ and-unset (fewer R low (suc times) i j) (on s₂ w top 0 0) is));
+      kept = let below = got .making .below in kept-then later (kept-less (2 * x + 1) (top + 4) (omega arith) (f .kept) (λ q i j n. n)) (λ q i j n. n) (λ q i j (m, n) y. omega arith);
+    }

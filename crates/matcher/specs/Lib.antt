@@ -2,8 +2,8 @@ pub mod Cells
 pub mod Budget
 pub mod Seek
 pub mod Joined
+pub mod Whole
 pub mod Filled
-pub mod Added
 pub mod Made
 pub mod Atoms
 pub mod Bodied

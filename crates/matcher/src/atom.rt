@@ -5,6 +5,9 @@ ghost use Rattle.matcher.specs.Atoms.{atoms, Work};
 ghost use Rattle.matcher.specs.Bodied.{Bodying};
 ghost use Rattle.matcher.specs.Steps.{Begun, Owned, Following, Followed, Stepped, AllSettled};
 use crate::body::fill_body;
+use crate::cells::add;
+use crate::cells::blank;
+use crate::cells::holds;
 use crate::fill::Source;
 use crate::fill::fill;
 use crate::join::Tally;
@@ -26,10 +29,11 @@ fn begin(table: &[u8], label: &[u8], scratch: &mut [u8], w: usize, top: usize, x
 {
     fill_body(table, label, scratch, w, top, x);
     fill(table, label, scratch, w, Source::Empty, top + 1);
-    fill(table, label, scratch, w, Source::Nothing, 2 * x);
+    blank(scratch, w, 2 * x);
 }
 
-// Plane 2 x: the stretches that satisfy atom x. Where low is beyond the label's length, some body is empty.
+// Plane 2 x: the stretches that satisfy atom x. Where low is beyond the label's length, some body is empty, and
+// whether it can be is the same at every place.
 fn settle_own(
     table: &[u8],
     label: &[u8],
@@ -63,7 +67,9 @@ fn settle_own(
         return t;
     }
     if n < low {
-        fill(table, label, scratch, w, Source::Gate(own, top), own);
+        if !holds(scratch, w, top, 0, 0) {
+            blank(scratch, w, own);
+        }
     }
     t
 }
@@ -83,7 +89,8 @@ fn follow(
 {
     let r = record_at(table, x);
     if r.ends == 1 {
-        fill(table, label, scratch, w, Source::Copy(2 * x), 2 * x + 1);
+        blank(scratch, w, 2 * x + 1);
+        add(scratch, w, 2 * x, 2 * x + 1);
         return Tally {
             trials,
             stopped: false,

@@ -4,6 +4,7 @@ ghost use Rattle.pattern.specs.Decode.{layout, its};
 ghost use Rattle.matcher.specs.Atoms.{GoodTable};
 ghost use Rattle.matcher.specs.Bodied.{Bodying, Bodied};
 use crate::cells::add;
+use crate::cells::blank;
 use crate::fill::Source;
 use crate::fill::fill;
 use crate::walk::branch_end;
@@ -27,7 +28,7 @@ fn unite(table: &[u8], label: &[u8], scratch: &mut [u8], w: usize, top: usize, x
 {
     let r = record_at(table, x);
     let branches = r.a as usize;
-    fill(table, label, scratch, w, Source::Nothing, top);
+    blank(scratch, w, top);
     let mut first = x + 1;
     let mut k = 0;
     while k < branches {
@@ -53,8 +54,8 @@ pub fn fill_body(table: &[u8], label: &[u8], scratch: &mut [u8], w: usize, top: 
             return;
         }
         let from = pool(table) + r.a as usize;
-        let to = from + r.b as usize;
-        fill(table, label, scratch, w, Source::Literal(from, to), top);
+        let len = r.b as usize;
+        fill(table, label, scratch, w, Source::Literal(from, len), top);
         return;
     }
     unite(table, label, scratch, w, top, x);

@@ -1,9 +1,9 @@
 // Planes of w x w cells in one lent slice: the one place that works an index out.
 ghost use mathlib.Core.Path.{_≡_};
-ghost use Prim.Native.Nat.{_+_, _*_, _<_, _^_};
+ghost use Prim.Native.Nat.{_+_, _*_, _≤_, _<_, _^_};
 ghost use lib.ListN.{set};
-ghost use Rattle.matcher.specs.Cells.{InRoom, at, cell, bitOf};
-ghost use Rattle.matcher.specs.Added.{Addable, Added};
+ghost use Rattle.matcher.specs.Cells.{InRoom, at, cell, on, bitOf};
+ghost use Rattle.matcher.specs.Whole.{Blanked, Addable, Added};
 
 // The index of cell (p, i, j).
 fn place(w: usize, p: usize, i: usize, j: usize) -> usize
@@ -21,6 +21,14 @@ pub fn byte(scratch: &[u8], w: usize, p: usize, i: usize, j: usize) -> u8
     scratch[place(w, p, i, j)]
 }
 
+// Plane p holds of i to j.
+pub fn holds(scratch: &[u8], w: usize, p: usize, i: usize, j: usize) -> bool
+    requires { ⌜ i < w ⌝ ∗ ⌜ j < w ⌝ ∗ ⌜ InRoom (now scratch) w p ⌝ }
+    ensures { λ r. ⌜ r ≡ on (now (scratch .entry)) w p i j ⌝ }
+{
+    byte(scratch, w, p, i, j) != 0
+}
+
 fn bit(b: bool) -> u8
     ensures { λ r. ⌜ r ≡ bitOf b ⌝ }
 {
@@ -34,6 +42,20 @@ pub fn mark(scratch: &mut [u8], w: usize, p: usize, i: usize, j: usize, b: bool)
 {
     let k = place(w, p, i, j);
     scratch[k] = bit(b);
+}
+
+// Takes every stretch out of plane out.
+pub fn blank(scratch: &mut [u8], w: usize, out: usize)
+    requires { ⌜ 1 ≤ w ⌝ ∗ ⌜ InRoom (now scratch) w out ⌝ }
+    ensures { λ _. ⌜ Blanked (now (scratch .entry)) (now (scratch .exit)) w out ⌝ }
+{
+    let b = place(w, out, 0, 0);
+    let len = w * w;
+    let mut k = 0;
+    while k < len {
+        scratch[b + k] = 0;
+        k += 1;
+    }
 }
 
 // Adds what plane from has to plane out: one run over all their cells, which a processor takes many at a time.

@@ -1,57 +1,38 @@
-// Planes that need no trial: each is filled cell by cell from one source.
+// Planes that need no trial. The stretches of a source are all of one length, so one for each place is looked at.
 ghost use mathlib.Core.Path.{_≡_};
-ghost use Prim.Native.Nat.{_+_, _<_, _≤_};
+ghost use Prim.Native.Nat.{_+_, _≤_};
 ghost use lib.ListN.{length};
 ghost use lib.Seq.{slice};
 ghost use Rattle.pattern.specs.Bytes.{same};
-ghost use Rattle.pattern.specs.Decision.{one};
-ghost use Rattle.matcher.specs.Cells.{on, InRoom};
-ghost use Rattle.matcher.specs.Filled.{Fit, Fillable, held-in, FilledColumn, Filled};
-use crate::cells::byte;
+ghost use Rattle.matcher.specs.Filled.{span, Fit, Fillable, held-in, Filled};
+use crate::cells::blank;
 use crate::cells::mark;
 
-// What a plane is filled from: no stretch; the empty ones; one byte of a set; the bytes from one place
-// of the table to another; a plane; a plane, where another one has the empty stretch at i.
+// What a plane is filled from: the empty stretches; one byte of a set; some bytes from a place of the table on.
 pub enum Source {
-    Nothing,
     Empty,
     Codes(u16),
     Literal(usize, usize),
-    Copy(usize),
-    Gate(usize, usize),
 }
 
-// Plane p holds of i to j.
-pub fn holds(scratch: &[u8], w: usize, p: usize, i: usize, j: usize) -> bool
-    requires { ⌜ i < w ⌝ ∗ ⌜ j < w ⌝ ∗ ⌜ InRoom (now scratch) w p ⌝ }
-    ensures { λ r. ⌜ r ≡ on (now (scratch .entry)) w p i j ⌝ }
+// The length of a source's stretches.
+fn width(source: Source) -> usize
+    ensures { λ r. ⌜ r ≡ span source ⌝ }
 {
-    byte(scratch, w, p, i, j) != 0
-}
-
-// i to j of the label is one byte of the set.
-fn is_one(label: &[u8], set: u16, i: usize, j: usize) -> bool
-    requires { ⌜ i ≤ j ⌝ ∗ ⌜ j ≤ length (now label) ⌝ }
-    ensures { λ r. ⌜ r ≡ one set (slice i j (now (label .entry))) ⌝ }
-{
-    if j - i == 1 {
-        codes::in_set(set, label[i])
-    } else {
-        false
+    match source {
+        Source::Empty => 0,
+        Source::Codes(_) => 1,
+        Source::Literal(_, len) => len,
     }
 }
 
-// i to j of the label is from to to of the table.
-fn is_same(label: &[u8], i: usize, j: usize, table: &[u8], from: usize, to: usize) -> bool
-    requires { ⌜ i ≤ j ⌝ ∗ ⌜ j ≤ length (now label) ⌝ ∗ ⌜ from ≤ to ⌝ ∗ ⌜ to ≤ length (now table) ⌝ }
-    ensures { λ r. ⌜ r ≡ same (slice i j (now (label .entry))) (slice from to (now (table .entry))) ⌝ }
+// The len bytes of the label from i on are those of the table from its place on.
+fn is_same(label: &[u8], i: usize, table: &[u8], from: usize, len: usize) -> bool
+    requires { ⌜ i + len ≤ length (now label) ⌝ ∗ ⌜ from + len ≤ length (now table) ⌝ }
+    ensures { λ r. ⌜ r ≡ same (slice i (i + len) (now (label .entry))) (slice from (from + len) (now (table .entry))) ⌝ }
 {
-    let n = j - i;
-    if to - from != n {
-        return false;
-    }
     let mut k = 0;
-    while k < n {
+    while k < len {
         if label[i + k] != table[from + k] {
             return false;
         }
@@ -60,59 +41,15 @@ fn is_same(label: &[u8], i: usize, j: usize, table: &[u8], from: usize, to: usiz
     true
 }
 
-// The source says yes of i to j.
-fn value(
-    table: &[u8],
-    label: &[u8],
-    scratch: &[u8],
-    w: usize,
-    source: Source,
-    i: usize,
-    j: usize,
-) -> bool
-    requires { ⌜ i ≤ j ⌝ ∗ ⌜ j < w ⌝ ∗ ⌜ w ≡ length (now label) + 1 ⌝ ∗ ⌜ Fit (now table) (now scratch) w source ⌝ }
-    ensures { λ r. ⌜ r ≡ held-in (now (table .entry)) (now (label .entry)) (now (scratch .entry)) w source i j ⌝ }
+// The source says yes of its stretch that begins at i.
+fn value(table: &[u8], label: &[u8], source: Source, i: usize) -> bool
+    requires { ⌜ i + span source ≤ length (now label) ⌝ ∗ ⌜ Fit (now table) source ⌝ }
+    ensures { λ r. ⌜ r ≡ held-in (now (table .entry)) (now (label .entry)) source i (i + span source) ⌝ }
 {
     match source {
-        Source::Nothing => false,
-        Source::Empty => i == j,
-        Source::Codes(set) => is_one(label, set, i, j),
-        Source::Literal(from, to) => is_same(label, i, j, table, from, to),
-        Source::Copy(p) => holds(scratch, w, p, i, j),
-        Source::Gate(p, q) => {
-            if holds(scratch, w, p, i, j) {
-                holds(scratch, w, q, i, i)
-            } else {
-                false
-            }
-        }
-    }
-}
-
-// Column j of plane out, from a source.
-fn fill_column(
-    table: &[u8],
-    label: &[u8],
-    scratch: &mut [u8],
-    w: usize,
-    source: Source,
-    out: usize,
-    j: usize,
-)
-    requires { ⌜ j < w ⌝ ∗ ⌜ Fillable (now table) (now label) (now scratch) w source out ⌝ }
-    ensures { λ _. ⌜ FilledColumn (now (table .entry)) (now (label .entry)) (now (scratch .entry)) (now (scratch .exit)) w source out j ⌝ }
-{
-    let mut i = 0;
-    while i <= j {
-        mark(
-            scratch,
-            w,
-            out,
-            i,
-            j,
-            value(table, label, scratch, w, source, i, j),
-        );
-        i += 1;
+        Source::Empty => true,
+        Source::Codes(set) => codes::in_set(set, label[i]),
+        Source::Literal(from, len) => is_same(label, i, table, from, len),
     }
 }
 
@@ -121,9 +58,12 @@ pub fn fill(table: &[u8], label: &[u8], scratch: &mut [u8], w: usize, source: So
     requires { ⌜ Fillable (now table) (now label) (now scratch) w source out ⌝ }
     ensures { λ _. ⌜ Filled (now (table .entry)) (now (label .entry)) (now (scratch .entry)) (now (scratch .exit)) w source out ⌝ }
 {
-    let mut j = 0;
+    blank(scratch, w, out);
+    let n = width(source);
+    let mut j = n;
     while j < w {
-        fill_column(table, label, scratch, w, source, out, j);
+        let i = j - n;
+        mark(scratch, w, out, i, j, value(table, label, source, i));
         j += 1;
     }
 }

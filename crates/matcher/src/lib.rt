@@ -15,8 +15,8 @@ mod parts;
 mod walk;
 
 use atom::settle_all;
+use cells::holds;
 use clear::clear;
-use fill::holds;
 use parts::write_parts;
 use pattern::limits::LABEL_LIMIT;
 use table::Tested;

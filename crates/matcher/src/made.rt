@@ -1,6 +1,6 @@
 // Stretches made of several bodies. Plane top has the body; top + 1 and top + 2 take turns.
 ghost use Prim.Native.Nat.{_≤_};
-ghost use Rattle.matcher.specs.Added.{Addable};
+ghost use Rattle.matcher.specs.Whole.{Addable};
 ghost use Rattle.matcher.specs.Made.{Gathered, Making, MadeOf};
 use crate::cells::add;
 use crate::join::Tally;

@@ -1,30 +1,40 @@
 -- `matcher::atom::follow` meets its contract. Assumes nothing.
+use mathlib.Core.Path.{_∙_}
 use native.Mathlib.Omega.{arith}
 use Rattle.matcher.proofs.Groups.{work-few}
-use Rattle.matcher.proofs.Following.{follow-few, follow-copy, follow-last, follow-next, follow-ready, follow-then}
+use Rattle.matcher.proofs.Following.{follow-few, follow-blank, follow-add, follow-last, follow-next, follow-ready, follow-then}
 use Rattle.matcher.proofs.atom.follow.Statement.{statement}
 use Rattle.matcher.proofs.atom.follow.Tie as tie
 
 record-at-requires : tie.Need-record-at-requires
 record-at-requires c κs = (c .before .before .before .pre .1 .work .good, c .before .before .before .pre .1 .there)
 
-mul-t14 : tie.Need-mul-t14
-mul-t14 c = omega (arith, follow-few _ _ _ _ _ (c .before .before .before .before .before .before .before .pre .1))
+mul-blank : tie.Need-mul-blank
+mul-blank c = omega (arith, follow-few _ _ _ _ _ (c .before .before .before .before .before .before .before .pre .1))
 
-mul-fill : tie.Need-mul-fill
-mul-fill c = omega (arith, follow-few _ _ _ _ _ (c .before .before .before .before .before .before .before .pre .1))
+add-blank : tie.Need-add-blank
+add-blank c = omega (arith, follow-few _ _ _ _ _ (c .before .before .before .before .before .before .before .pre .1))
 
-add-fill : tie.Need-add-fill
-add-fill c = omega (arith, follow-few _ _ _ _ _ (c .before .before .before .before .before .before .before .pre .1))
+blank-requires : tie.Need-blank-requires
+blank-requires c κs = follow-blank _ _ _ _ _ (c .before .before .before .before .before .before .before .pre .1)
 
-fill-requires : tie.Need-fill-requires
-fill-requires c κs = follow-copy _ _ _ _ _ (c .before .before .before .before .before .before .before .pre .1)
+mul-add : tie.Need-mul-add
+mul-add c = omega (arith, follow-few _ _ _ _ _ (c .before .before .before .before .before .before .before .before .before .before .before .pre .1))
+
+mul-add-2 : tie.Need-mul-add-2
+mul-add-2 c = omega (arith, follow-few _ _ _ _ _ (c .before .before .before .before .before .before .before .before .before .before .before .pre .1))
+
+add-add : tie.Need-add-add
+add-add c = omega (arith, follow-few _ _ _ _ _ (c .before .before .before .before .before .before .before .before .before .before .before .pre .1))
+
+add-requires : tie.Need-add-requires
+add-requires c κs = follow-add _ _ _ _ _ (c .before .before .before .before .before .before .before .before .before .before .before .pre .1) _ (c .before .before .before .blank .kept .0) (c .before .before .before .blank .ensures)
 
 same-length : tie.Need-same-length
-same-length c = c .before .before .fill .kept .1 .1 .0
+same-length c = c .before .before .add .kept .0 ∙ c .before .before .before .before .before .before .blank .kept .0
 
 returns : tie.Need-returns
-returns c = follow-last _ _ _ _ _ (c .before .before .before .before .before .before .before .before .before .before .pre .1) _ (c .before .before .before .before .before .before .record-at .ensures) _ _ (c .before .before .before .before .before .before .before .before .before .before .pre .0) (c .before .before .before .before .if1 .taken) _ (c .before .before .fill .ensures)
+returns c = follow-last _ _ _ _ _ (c .before .before .before .before .before .before .before .before .before .before .before .before .before .before .pre .1) _ (c .before .before .before .before .before .before .blank .kept .0) (c .before .before .before .before .before .before .blank .ensures) _ (c .before .before .before .before .before .before .before .before .before .before .record-at .ensures) _ _ (c .before .before .before .before .before .before .before .before .before .before .before .before .before .before .pre .0) (c .before .before .before .before .before .before .before .before .if1 .taken) _ (c .before .before .add .ensures)
 
 after-requires : tie.Need-after-requires
 after-requires c κs = (c .before .before .before .before .before .before .pre .1 .work .good, c .before .before .before .before .before .before .pre .1 .there)
@@ -56,4 +66,4 @@ returns-2 c = follow-then _ _ _ _ _ (c .before .before .before .before .before .
 pub follow-spec : {M : Type 1} → statement M
 follow-spec =
     tie.close
-    (tie.spec record-at-requires mul-t14 mul-fill add-fill fill-requires same-length returns after-requires mul-join mul-join-2 add-join mul-join-3 add-join-2 join-requires same-length-2 returns-2)
+    (tie.spec record-at-requires mul-blank add-blank blank-requires mul-add mul-add-2 add-add add-requires same-length returns after-requires mul-join mul-join-2 add-join mul-join-3 add-join-2 join-requires same-length-2 returns-2)

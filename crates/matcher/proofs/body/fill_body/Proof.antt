@@ -6,7 +6,7 @@ use borrow.Author.Needs.{needs}
 use lib.ListN.{length}
 use denote.Ref.{now}
 use Rattle.table.specs.declared.Record.{Record}
-use Rattle.matcher.specs.Filled.{Fit, Aside}
+use Rattle.matcher.specs.Filled.{Fit}
 use Rattle.matcher.proofs.Views.{told-literal}
 use Rattle.matcher.proofs.Groups.{body-fill, body-codes, body-empty, body-literal}
 use Rattle.matcher.proofs.body.fill_body.Statement.{statement}
@@ -16,8 +16,8 @@ record-at-requires : tie.Need-record-at-requires
 record-at-requires c κs = search needs
 
 fill-requires : tie.Need-fill-requires
-unfolding Fit Aside
-fill-requires c κs = body-fill _ _ _ _ _ _ (c .before .before .before .before .before .before .before .pre) _ tt tt
+unfolding Fit
+fill-requires c κs = body-fill _ _ _ _ _ _ (c .before .before .before .before .before .before .before .pre) _ tt
 
 same-length : tie.Need-same-length
 same-length c = search needs
@@ -26,8 +26,8 @@ returns : tie.Need-returns
 returns c = body-codes _ _ _ _ _ _ (c .before .before .before .before .before .before .before .before .before .before .pre) _ (c .before .before .before .before .before .before .record-at .ensures) _ (c .before .before .before .before .if1 .taken) (c .before .before .fill .ensures)
 
 fill-requires-2 : tie.Need-fill-requires-2
-unfolding Fit Aside
-fill-requires-2 c κs = body-fill _ _ _ _ _ _ (c .before .before .before .before .before .before .before .before .before .before .before .pre) _ tt tt
+unfolding Fit
+fill-requires-2 c κs = body-fill _ _ _ _ _ _ (c .before .before .before .before .before .before .before .before .before .before .before .pre) _ tt
 
 same-length-2 : tie.Need-same-length-2
 same-length-2 c = search needs
@@ -50,15 +50,12 @@ cast-from c = search needs
 add-from : tie.Need-add-from
 add-from c = omega (arith, words-in c)
 
-cast-to : tie.Need-cast-to
-cast-to c = search needs
-
-add-to : tie.Need-add-to
-add-to c = omega (arith, words-in (c .before))
+cast-len : tie.Need-cast-len
+cast-len c = search needs
 
 fill-requires-3 : tie.Need-fill-requires-3
-unfolding Fit Aside
-fill-requires-3 c κs = body-fill _ _ _ _ _ _ (c .before .before .before .before .before .before .before .before .before .before .before .before .before .before .pre) _ (omega arith, words-in (c .before .before)) tt
+unfolding Fit
+fill-requires-3 c κs = body-fill _ _ _ _ _ _ (c .before .before .before .before .before .before .before .before .before .before .before .before .before .before .pre) _ (words-in (c .before .before))
 
 same-length-3 : tie.Need-same-length-3
 same-length-3 c = search needs
@@ -81,4 +78,4 @@ returns-4 c = search needs
 pub fill-body-spec : {M : Type 1} → statement M
 fill-body-spec =
     tie.close
-    (tie.spec record-at-requires fill-requires same-length returns fill-requires-2 same-length-2 returns-2 pool-requires cast-from add-from cast-to add-to fill-requires-3 same-length-3 returns-3 unite-requires same-length-4 returns-4)
+    (tie.spec record-at-requires fill-requires same-length returns fill-requires-2 same-length-2 returns-2 pool-requires cast-from add-from cast-len fill-requires-3 same-length-3 returns-3 unite-requires same-length-4 returns-4)

@@ -6,8 +6,7 @@ use borrow.Author.Needs.{needs}
 use denote.Ref.{now}
 use Rattle.table.specs.declared.Record.{Record}
 use Rattle.matcher.specs.Atoms.{atoms}
-use Rattle.matcher.specs.Filled.{Fit, Aside}
-use Rattle.matcher.proofs.Groups.{work-few, body-fill, UniteAt, unite-start, unite-there, unite-add, unite-step, unite-end}
+use Rattle.matcher.proofs.Groups.{work-few, body-blank, UniteAt, unite-start, unite-there, unite-add, unite-step, unite-end}
 use Rattle.matcher.proofs.body.unite.Statement.{statement}
 use Rattle.matcher.proofs.body.unite.Tie as tie
 
@@ -23,9 +22,8 @@ record-at-requires c κs = (c .before .before .before .pre .0 .work .good, c .be
 cast-branches : tie.Need-cast-branches Inv-loop μ-loop
 cast-branches c = search needs
 
-fill-requires : tie.Need-fill-requires Inv-loop μ-loop
-unfolding Fit Aside
-fill-requires c κs = body-fill _ _ _ _ _ _ (c .before .before .before .before .before .before .pre .0) _ tt tt
+blank-requires : tie.Need-blank-requires Inv-loop μ-loop
+blank-requires c κs = body-blank _ _ _ _ _ _ (c .before .before .before .before .before .before .pre .0)
 
 add-first : tie.Need-add-first Inv-loop μ-loop
 add-first c = omega (arith, work-few (c .before .before .before .before .before .before .before .before .before .pre .0 .work), c .before .before .before .before .before .before .before .before .before .pre .0 .there)
@@ -35,7 +33,7 @@ loop-holds c =
     let p = c .before .before .before .before .before .before .before .before .before .pre in
     let got = c .before .before .before .before .before .record-at .ensures in
     let kind = ap (λ (z : Record). z .kind) got in
-    unite-start _ _ _ _ _ _ _ (p .0) (c .before .before .fill .kept .1 .1 .0) (c .before .before .fill .ensures) _ got (λ e. p .1 .0 (sym kind ∙ e)) (λ e. p .1 .1 (sym kind ∙ e))
+    unite-start _ _ _ _ _ _ _ (p .0) (c .before .before .blank .kept .0) (c .before .before .blank .ensures) _ got (λ e. p .1 .0 (sym kind ∙ e)) (λ e. p .1 .1 (sym kind ∙ e))
 
 -- the branch that is next begins in the table
 there : (c : tie.After-add-arg Inv-loop μ-loop) → c .before .before .loop .first < atoms (now (c .before .before .before .before .before .before .before .before .before .before .before .before .args .table))
@@ -43,7 +41,7 @@ there c =
     let p = c .before .before .before .before .before .before .before .before .before .before .before .before .pre in
     let got = c .before .before .before .before .before .before .before .before .record-at .ensures in
     let kind = ap (λ (z : Record). z .kind) got in
-    unite-there _ _ _ _ _ _ _ (p .0) (c .before .before .before .before .before .fill .kept .1 .1 .0) (c .before .before .before .before .before .fill .ensures) _ got (λ e. p .1 .0 (sym kind ∙ e)) (λ e. p .1 .1 (sym kind ∙ e)) _ _ _ (c .before .before .loop .inv) (c .before .loop-test .taken)
+    unite-there _ _ _ _ _ _ _ (p .0) (c .before .before .before .before .before .blank .kept .0) (c .before .before .before .before .before .blank .ensures) _ got (λ e. p .1 .0 (sym kind ∙ e)) (λ e. p .1 .1 (sym kind ∙ e)) _ _ _ (c .before .before .loop .inv) (c .before .loop-test .taken)
 
 mul-add : tie.Need-mul-add Inv-loop μ-loop
 mul-add c = omega (arith, there c, work-few (c .before .before .before .before .before .before .before .before .before .before .before .before .pre .0 .work))
@@ -56,7 +54,7 @@ add-requires c κs =
     let p = c .before .before .before .before .before .before .before .before .before .before .before .before .pre in
     let got = c .before .before .before .before .before .before .before .before .record-at .ensures in
     let kind = ap (λ (z : Record). z .kind) got in
-    unite-add _ _ _ _ _ _ _ (p .0) (c .before .before .before .before .before .fill .kept .1 .1 .0) (c .before .before .before .before .before .fill .ensures) _ got (λ e. p .1 .0 (sym kind ∙ e)) (λ e. p .1 .1 (sym kind ∙ e)) _ _ _ (c .before .before .loop .inv) (c .before .loop-test .taken)
+    unite-add _ _ _ _ _ _ _ (p .0) (c .before .before .before .before .before .blank .kept .0) (c .before .before .before .before .before .blank .ensures) _ got (λ e. p .1 .0 (sym kind ∙ e)) (λ e. p .1 .1 (sym kind ∙ e)) _ _ _ (c .before .before .loop .inv) (c .before .loop-test .taken)
 
 branch-end-requires : tie.Need-branch-end-requires Inv-loop μ-loop
 branch-end-requires c κs = (c .before .before .before .before .before .before .before .before .before .before .before .before .before .before .before .pre .0 .work .good, there (c .before .before .before))
@@ -72,20 +70,20 @@ loop-again c =
     let p = c .before .before .before .before .before .before .before .before .before .before .before .before .before .before .before .before .pre in
     let got = c .before .before .before .before .before .before .before .before .before .before .before .before .record-at .ensures in
     let kind = ap (λ (z : Record). z .kind) got in
-    unite-step _ _ _ _ _ _ _ (p .0) (c .before .before .before .before .before .before .before .before .before .fill .kept .1 .1 .0) (c .before .before .before .before .before .before .before .before .before .fill .ensures) _ got (λ e. p .1 .0 (sym kind ∙ e)) (λ e. p .1 .1 (sym kind ∙ e)) _ _ _ (c .before .before .before .before .before .before .loop .inv) (c .before .before .before .before .before .loop-test .taken)
+    unite-step _ _ _ _ _ _ _ (p .0) (c .before .before .before .before .before .before .before .before .before .blank .kept .0) (c .before .before .before .before .before .before .before .before .before .blank .ensures) _ got (λ e. p .1 .0 (sym kind ∙ e)) (λ e. p .1 .1 (sym kind ∙ e)) _ _ _ (c .before .before .before .before .before .before .loop .inv) (c .before .before .before .before .before .loop-test .taken)
     _ (c .before .before .before .add .kept .0) (c .before .before .before .add .ensures) _ (c .branch-end .ensures)
 
 same-length : tie.Need-same-length Inv-loop μ-loop
-same-length c = c .before .loop .inv .long ∙ c .before .before .before .before .fill .kept .1 .1 .0
+same-length c = c .before .loop .inv .long ∙ c .before .before .before .before .blank .kept .0
 
 returns : tie.Need-returns Inv-loop μ-loop
 returns c =
     let p = c .before .before .before .before .before .before .before .before .before .before .before .pre in
     let got = c .before .before .before .before .before .before .before .record-at .ensures in
     let kind = ap (λ (z : Record). z .kind) got in
-    unite-end _ _ _ _ _ _ _ (p .0) (c .before .before .before .before .fill .kept .1 .1 .0) (c .before .before .before .before .fill .ensures) _ got (λ e. p .1 .0 (sym kind ∙ e)) (λ e. p .1 .1 (sym kind ∙ e)) _ _ _ (c .before .loop .inv) (c .loop-test .left)
+    unite-end _ _ _ _ _ _ _ (p .0) (c .before .before .before .before .blank .kept .0) (c .before .before .before .before .blank .ensures) _ got (λ e. p .1 .0 (sym kind ∙ e)) (λ e. p .1 .1 (sym kind ∙ e)) _ _ _ (c .before .loop .inv) (c .loop-test .left)
 
 pub unite-spec : {M : Type 1} → statement M
 unite-spec =
     tie.close
-    (tie.spec Inv-loop μ-loop record-at-requires cast-branches fill-requires add-first loop-holds mul-add add-add add-requires branch-end-requires add-k loop-less loop-again same-length returns)
+    (tie.spec Inv-loop μ-loop record-at-requires cast-branches blank-requires add-first loop-holds mul-add add-add add-requires branch-end-requires add-k loop-less loop-again same-length returns)

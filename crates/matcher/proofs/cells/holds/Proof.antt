@@ -1,12 +1,12 @@
--- `matcher::fill::holds` meets its contract. Assumes nothing.
+-- `matcher::cells::holds` meets its contract. Assumes nothing.
 use mathlib.Core.Path.{ap}
 use mathlib.Core.Bool.{not}
 use Prim.Native.Nat.{ℕ}
 use borrow.Author.Needs.{needs}
 use lib.Dec.{eqb}
 use Rattle.matcher.specs.Cells.{on}
-use Rattle.matcher.proofs.fill.holds.Statement.{statement}
-use Rattle.matcher.proofs.fill.holds.Tie as tie
+use Rattle.matcher.proofs.cells.holds.Statement.{statement}
+use Rattle.matcher.proofs.cells.holds.Tie as tie
 
 byte-requires : tie.Need-byte-requires
 byte-requires c κs = search needs
