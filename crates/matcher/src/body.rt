@@ -1,5 +1,6 @@
 // The plane of an atom's body, from the table, the label, and the planes of the atoms inside.
 ghost use mathlib.Core.Path.{_≡_};
+ghost use Rattle.pattern.specs.Numbers.{codes-kind, literal-kind};
 ghost use Rattle.pattern.specs.Decode.{layout, its};
 ghost use Rattle.matcher.specs.Atoms.{GoodTable};
 ghost use Rattle.matcher.specs.Bodied.{Bodying, Bodied};
@@ -9,6 +10,7 @@ use crate::fill::Source;
 use crate::fill::fill;
 use crate::walk::branch_end;
 use crate::walk::record_at;
+use pattern::kind;
 use pattern::limits::HEADER_SIZE;
 use pattern::limits::RECORD_SIZE;
 
@@ -23,7 +25,7 @@ fn pool(table: &[u8]) -> usize
 // Plane top for the group x: what satisfies one of its branches.
 fn unite(table: &[u8], label: &[u8], scratch: &mut [u8], w: usize, top: usize, x: usize)
     requires { ⌜ Bodying (now table) (now label) (now scratch) w top x ⌝ }
-    requires { ⌜ (its (now table) (layout (now table)) x .kind ≡ 1 → ⊥) ⌝ ∗ ⌜ (its (now table) (layout (now table)) x .kind ≡ 2 → ⊥) ⌝ }
+    requires { ⌜ (its (now table) (layout (now table)) x .kind ≡ codes-kind → ⊥) ⌝ ∗ ⌜ (its (now table) (layout (now table)) x .kind ≡ literal-kind → ⊥) ⌝ }
     ensures { λ _. ⌜ Bodied (now (table .entry)) (now (label .entry)) (now (scratch .entry)) (now (scratch .exit)) w top x ⌝ }
 {
     let r = record_at(table, x);
@@ -44,11 +46,11 @@ pub fn fill_body(table: &[u8], label: &[u8], scratch: &mut [u8], w: usize, top: 
     ensures { λ _. ⌜ Bodied (now (table .entry)) (now (label .entry)) (now (scratch .entry)) (now (scratch .exit)) w top x ⌝ }
 {
     let r = record_at(table, x);
-    if r.kind == 1 {
+    if r.kind == kind::CODES {
         fill(table, label, scratch, w, Source::Codes(r.a), top);
         return;
     }
-    if r.kind == 2 {
+    if r.kind == kind::LITERAL {
         if r.b == 0 {
             fill(table, label, scratch, w, Source::Empty, top);
             return;

@@ -19,6 +19,7 @@ use cells::holds;
 use clear::clear;
 use parts::write_parts;
 use pattern::limits::LABEL_LIMIT;
+use pattern::refusal;
 use table::Tested;
 
 // The answer to a match: a refusal by its name in the paper, or the verdict with the trials made.
@@ -56,12 +57,12 @@ impl Matched {
         ensures { λ r. ⌜ record { number = r .number; position = 0; value = r .value; trials = r .trials } ≡ answer-of budget self ⌝ }
     {
         match self {
-            Matched::Table => refused(11),
-            Matched::Label => refused(12),
-            Matched::Work => refused(13),
-            Matched::Parts => refused(14),
+            Matched::Table => refused(refusal::TABLE),
+            Matched::Label => refused(refusal::LABEL),
+            Matched::Work => refused(refusal::WORK),
+            Matched::Parts => refused(refusal::PARTS),
             Matched::Budget => Answer {
-                number: 15,
+                number: refusal::BUDGET,
                 value: 0,
                 trials: budget,
             },

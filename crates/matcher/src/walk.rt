@@ -5,6 +5,7 @@ ghost use Rattle.pattern.specs.Syntax.{size};
 ghost use Rattle.pattern.specs.Decode.{layout, its};
 ghost use Rattle.table.specs.Fields.{record-of};
 ghost use Rattle.matcher.specs.Atoms.{GoodTable, atoms, node, head};
+use pattern::kind;
 use pattern::limits::HEADER_SIZE;
 use pattern::limits::RECORD_SIZE;
 use table::Record;
@@ -23,7 +24,11 @@ pub fn after(table: &[u8], x: usize) -> usize
     ensures { λ r. ⌜ r ≡ x + size (head (node (now (table .entry)) x)) ⌝ }
 {
     let r = record_at(table, x);
-    if r.kind == 3 { r.b as usize } else { x + 1 }
+    if r.kind == kind::GROUP {
+        r.b as usize
+    } else {
+        x + 1
+    }
 }
 
 // The index after the branch that goes on at atom x.
