@@ -24,7 +24,7 @@ settle-all-requires : tie.Need-settle-all-requires
 settle-all-requires c κs = (run-work _ _ _ _ _ (c .before .before .before .before .before .pre), run-top _ _ _ _ _ (c .before .before .before .before .before .pre))
 
 clear-requires : tie.Need-clear-requires
-clear-requires c κs = run-clear _ _ _ _ _ (c .before .before .before .before .before .before .before .before .before .before .pre) (c .before .before .before .before .settle-all .last .1 .1 .0) (c .before .before .before .before .settle-all .kept .1 .1 .0)
+clear-requires c κs = omega (arith, run-clear _ _ _ _ _ (c .before .before .before .before .before .before .before .before .before .before .pre) (c .before .before .before .before .settle-all .last .1 .1 .0) (c .before .before .before .before .settle-all .kept .1 .1 .0))
 
 same-length : tie.Need-same-length
 same-length c = c .before .before .clear .kept .0 ∙ c .before .before .before .before .before .before .before .settle-all .kept .1 .1 .0
