@@ -14,4 +14,5 @@ pub mod Following
 pub mod Ends
 pub mod Runs
 pub mod Refusals
+pub mod Cases
 pub mod Budgets
