@@ -8,8 +8,8 @@
  * source, scratch, parts, answer) may share bytes with anything else lent to that call.
  *
  * The answer area is MPT_ANSWER_SIZE bytes: four little-endian 64-bit numbers, position; table or source length, or verdict
- * (1 yes, 0 no); trials; 0. A shorter area gives MPT_ANSWER, looked at before all else, and nothing is written; the bytes
- * after the 32 stay as they were.
+ * (1 yes, 0 no); trials (with MPT_BUDGET the budget); 0. A shorter area gives MPT_ANSWER, looked at before all else, and
+ * nothing is written; the bytes after the 32 stay as they were.
  */
 #ifndef MPT_H
 #define MPT_H

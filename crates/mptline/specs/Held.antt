@@ -21,10 +21,10 @@ pub record Holds (chunk line : List ℕ) (held : ℕ) (scratch line′ scratch�
   pub held-fits : r .held ≤ held-limit
   pub clean : scratch ≡ zeros → scratch′ ≡ zeros
 
--- the first bytes of the buffer are answered, or there are none and the held ones stay
+-- the first bytes of the buffer are answered; or the input has ended and the held ones stay; or the read failed and none do
 pub record Reads (buf′ line : List ℕ) (held : ℕ) (scratch line′ scratch′ : List ℕ) (r : Progress) : Type 0 where
   pub holds : ((n : ℕ) × (n ≤ length buf′) × (take (r .held) line′ ≡ left-over (r .more) (take held line) (take n buf′)))
-      ⊎ ((r .more ≡ false) × (take (r .held) line′ ≡ take held line))
+      ⊎ ((r .more ≡ false) × ((take (r .held) line′ ≡ take held line) ⊎ (take (r .held) line′ ≡ [])))
   pub held-fits : r .held ≤ held-limit
   pub clean : scratch ≡ zeros → scratch′ ≡ zeros
 

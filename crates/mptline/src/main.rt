@@ -46,7 +46,8 @@ fn answer_all(
     }
 }
 
-// Reads once and answers; the input's end, or a read that fails, ends it.
+// Reads once and answers. The input's end ends it; a read that fails does too, with nothing held, since what is held of a
+// line is not the whole of it.
 fn answer_some(
     buf: &mut [u8],
     line: &mut [u8],
@@ -58,7 +59,13 @@ fn answer_some(
     ensures { λ r. ⌜ Reads (now (buf .exit)) (now (line .entry)) held (now (scratch .entry)) (now (line .exit)) (now (scratch .exit)) r ⌝ }
 {
     let got = libc::read(STDIN_FILENO, buf);
-    if got <= 0 {
+    if got < 0 {
+        return Progress {
+            held: 0,
+            more: false,
+        };
+    }
+    if got == 0 {
         return Progress { held, more: false };
     }
     let n = io::count(got, buf);
