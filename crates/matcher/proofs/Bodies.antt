@@ -90,6 +90,7 @@ module _ (s₀ : List ℕ) (w top out low times budget trials : ℕ) (ok : Makin
     module _ (inv : MakeAt s₀ w top out low times budget trials s spent from to k (suc k)) where
       pub make-ready : Ready s w top from to
       make-ready = record {
+        wide = ok .wide;
         from-left = record { room = make-room (inv .long) top (omega arith); flags = plane-flags (make-body (inv .kept)) };
         from-right = record { room = make-room (inv .long) from (omega (arith, inv .turns, inv .to-high)); flags = plane-flags (inv .bodies) };
         into = make-room (inv .long) to (omega (arith, inv .turns, inv .from-high));

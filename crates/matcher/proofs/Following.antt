@@ -82,6 +82,7 @@ module _ (table label s : Bytes) (w x : ℕ) (ok : Following table label s w x) 
 
       pub follow-ready : Ready s w (2 * x) (2 * next + 1) (2 * x + 1)
       follow-ready = record {
+        wide = omega (arith, ok .work .wide);
         from-left = record { room = work-room (ok .work) (2 * x) (omega (arith, ok .there)); flags = plane-flags (ok .here) };
         from-right = record { room = work-room (ok .work) (2 * next + 1) (omega (arith, follow-next)); flags = plane-flags follow-plane };
         into = work-room (ok .work) (2 * x + 1) (omega (arith, ok .there));

@@ -1,5 +1,5 @@
 -- The loops of a join, in plain values: what holds where the cells before i of column j, or the columns before j, are stored. Assumes nothing.
-use mathlib.Core.Path.{_≡_, refl, ap, _∙_}
+use mathlib.Core.Path.{_≡_, refl, sym, ap, _∙_}
 use mathlib.Core.Bool.{Bool, true, false}
 use mathlib.Core.List.{List}
 use mathlib.Core.Logic.{⊎-elim}
@@ -11,11 +11,12 @@ use Rattle.pattern.specs.Decision.{trial, join, any}
 use Rattle.pattern.specs.Trials.{tries}
 use Rattle.matcher.specs.declared.join.Search.{Search}
 use Rattle.matcher.specs.declared.join.Tally.{Tally}
-use Rattle.matcher.specs.Cells.{Kept, Not, on, at, cell, bitOf}
+use Rattle.matcher.specs.Cells.{Plane, Kept, Not, on, at, cell, bitOf}
 use Rattle.matcher.specs.Seek.{seek, trialsOf, stoppedOf, foundOf}
-use Rattle.matcher.specs.Joined.{column-trials, join-trials, Ready, Columned, Joined}
-use Rattle.matcher.proofs.Planes.{Same, mark-here, mark-kept, kept-all, kept-then, kept-less, on-kept, read-kept}
-use Rattle.matcher.proofs.Relations.{tries-same, any-same, trial-same, join-same, column-same}
+use Rattle.matcher.specs.Whole.{Blanked}
+use Rattle.matcher.specs.Joined.{column-trials, join-trials, Ready, Vacant, Columned, Joined}
+use Rattle.matcher.proofs.Planes.{Same, mark-here, mark-kept, kept-all, kept-then, kept-less, plane-same, on-kept, read-kept}
+use Rattle.matcher.proofs.Relations.{tries-same, any-same, trial-same, join-same, join-trials-same, column-same}
 use Rattle.matcher.proofs.Counting.{Counting, count-start, count-step, count-stop, count-end, counted-over, counted-past}
 use Rattle.matcher.proofs.Seeking.{Says, seek-says}
 
@@ -26,6 +27,7 @@ Off p j q i b = q ≡ p → b ≡ j → ⊥
 -- a join that could be made still can
 ready-kept : {s s′ : List ℕ} {w left right out N : ℕ} → length s′ ≡ length s → Kept s s′ w N (Not out) → Ready s w left right out → Ready s′ w left right out
 ready-kept e k h = record {
+  wide = h .wide;
   from-left = read-kept e k (λ i j l. h .not-left) (h .from-left);
   from-right = read-kept e k (λ i j l. h .not-right) (h .from-right);
   into = rw e (h .into);
@@ -37,14 +39,16 @@ pub record ColumnAt (s₀ : List ℕ) (w left right out j budget trials : ℕ) (
   pub counting : Counting (λ a. tries (suc j - a) (trial (on s₀ w left) (on s₀ w right) a j)) (suc j) budget trials spent i
   pub long : length s ≡ length s₀
   pub done : (a : ℕ) → a < i → cell s w out a j ≡ bitOf (join (on s₀ w left) (on s₀ w right) a j)
+  pub ahead : (a : ℕ) → i ≤ a → a ≤ j → cell s w out a j ≡ 0
   pub kept : Kept s₀ s w (out + 1) (Off out j)
 
 module _ (s₀ : List ℕ) (w left right out j budget trials : ℕ) where
-  pub column-start : trials ≤ budget → ColumnAt s₀ w left right out j budget trials s₀ trials 0
-  column-start h = record {
+  pub column-start : trials ≤ budget → Vacant s₀ w out j → ColumnAt s₀ w left right out j budget trials s₀ trials 0
+  column-start h v = record {
     counting = count-start _ (suc j) budget trials h;
     long = refl;
     done = λ a l. absurd (omega arith);
+    ahead = λ a l m. v .none a m;
     kept = kept-all s₀ w (out + 1) (Off out j);
   }
 
@@ -83,17 +87,25 @@ module _ (s₀ : List ℕ) (w left right out j budget trials : ℕ) where
           let past = counted-past (count-stop _ (suc j) budget trials spent i (inv .counting) (omega arith) _ tried _ _ (says .counted) e) e in
           record { counted = counted-over past; whole = λ x. absurd (let z : _≡_ {A = Bool} true false = x in let y : _≡_ {A = ℕ} 0 1 = cc in omega arith); kept = inv .kept }
 
-      pub column-step : stoppedOf r ≡ false → ColumnAt s₀ w left right out j budget trials (set s (at w out i j) (bitOf (foundOf r))) (trialsOf budget r) (i + 1)
-      column-step e =
-          let lit : bitOf (foundOf r) ≡ bitOf (join (on s₀ w left) (on s₀ w right) i j) = ap bitOf (says .finds e ∙ found) in
-          let hi : i < w = omega arith in
-          let k = mark-kept w out i j hi hj s (bitOf (foundOf r)) in
+      column-step : stoppedOf r ≡ false → (s′ : List ℕ) → length s′ ≡ length s → cell s′ w out i j ≡ bitOf (foundOf r) → Kept s s′ w (out + 1) (λ q a b. q ≡ out → a ≡ i → b ≡ j → ⊥)
+          → ColumnAt s₀ w left right out j budget trials s′ (trialsOf budget r) (i + 1)
+      column-step e s′ len here k =
+          let other : (a : ℕ) → a < w → (a ≡ i → ⊥) → cell s′ w out a j ≡ cell s w out a j = λ a l n. k .same out a j l hj (λ _ y _. n y) in
           record {
             counting = count-step _ (suc j) budget trials spent i (inv .counting) (omega arith) _ tried _ _ (says .counted) e;
-            long = length-set s (at w out i j) (bitOf (foundOf r)) ∙ inv .long;
-            done = λ a l. ⊎-elim (λ z. rw z (mark-here w out i j hi hj s (bitOf (foundOf r)) (column-ready .into) ∙ lit)) (λ z. k .same out a j (omega arith) hj (λ _ y _. omega arith) ∙ inv .done a z) (eq-or-lt-of-le (let y : a ≤ i = omega arith in y));
+            long = len ∙ inv .long;
+            done = λ a l. ⊎-elim (λ z. rw z (here ∙ ap bitOf (says .finds e ∙ found))) (λ z. other a (omega arith) (λ y. omega arith) ∙ inv .done a z) (eq-or-lt-of-le (let y : a ≤ i = omega arith in y));
+            ahead = λ a l m. other a (omega arith) (λ y. omega arith) ∙ inv .ahead a (omega arith) m;
             kept = kept-then (inv .kept) k (λ q a b n. n) (λ q a b n x y z. n x z);
           }
+
+      pub column-found : stoppedOf r ≡ false → foundOf r ≡ true → ColumnAt s₀ w left right out j budget trials (set s (at w out i j) (bitOf true)) (trialsOf budget r) (i + 1)
+      column-found e f =
+          let hi : i < w = omega arith in
+          column-step e (set s (at w out i j) (bitOf true)) (length-set s (at w out i j) (bitOf true)) (mark-here w out i j hi hj s (bitOf true) (column-ready .into) ∙ ap bitOf (sym f)) (mark-kept w out i j hi hj s (bitOf true))
+
+      pub column-missing : stoppedOf r ≡ false → foundOf r ≡ false → ColumnAt s₀ w left right out j budget trials s (trialsOf budget r) (i + 1)
+      column-missing e f = column-step e s refl (inv .ahead i (omega arith) more ∙ ap bitOf (sym f)) (kept-all _ _ _ _)
 
 -- ---- the columns
 
@@ -101,20 +113,25 @@ pub record PlaneAt (s₀ : List ℕ) (w left right out budget trials : ℕ) (s :
   pub counting : Counting (column-trials (on s₀ w left) (on s₀ w right)) w budget trials spent j
   pub long : length s ≡ length s₀
   pub done : (a b : ℕ) → a ≤ b → b < j → cell s w out a b ≡ bitOf (join (on s₀ w left) (on s₀ w right) a b)
+  pub ahead : (a b : ℕ) → a ≤ b → j ≤ b → b < w → cell s w out a b ≡ 0
   pub kept : Kept s₀ s w (out + 1) (Not out)
 
 module _ (s₀ : List ℕ) (w left right out budget trials : ℕ) where
-  pub plane-start : trials ≤ budget → PlaneAt s₀ w left right out budget trials s₀ trials 0
-  plane-start h = record {
+  pub plane-start : trials ≤ budget → Plane s₀ w out (λ i j. false) → PlaneAt s₀ w left right out budget trials s₀ trials 0
+  plane-start h v = record {
     counting = count-start _ w budget trials h;
     long = refl;
     done = λ a b l m. absurd (omega arith);
+    ahead = λ a b l m n. v .holds a b l n;
     kept = kept-all s₀ w (out + 1) (Not out);
   }
 
   module _ (ok : Ready s₀ w left right out) (s : List ℕ) (spent j : ℕ) (inv : PlaneAt s₀ w left right out budget trials s spent j) where
     pub plane-ready : Ready s w left right out
     plane-ready = ready-kept (inv .long) (inv .kept) ok
+
+    pub plane-vacant : j < w → Vacant s w out j
+    plane-vacant more = record { none = λ a l. inv .ahead a j l (omega arith) more }
 
     pub plane-end : w ≤ j → Joined s₀ s w left right out budget trials record { trials = spent; stopped = false }
     unfolding join-trials
@@ -153,5 +170,21 @@ module _ (s₀ : List ℕ) (w left right out budget trials : ℕ) where
             (λ z. let y : a ≤ j = omega arith in rw z (got .whole e a y ∙ ap bitOf (join-same w _ _ _ _ left-same right-same a j y more)))
             (λ z. got .kept .same out a b (omega arith) (omega arith) (λ _ y. omega arith) ∙ inv .done a b l z)
             (eq-or-lt-of-le (let y : b ≤ j = omega arith in y));
+        ahead = λ a b l m n. got .kept .same out a b (omega arith) n (λ _ y. omega arith) ∙ inv .ahead a b l (omega arith) n;
         kept = all-kept;
+      }
+
+-- a join into an emptied plane is one into the plane as it was
+module _ {s₀ s₁ : List ℕ} {w left right out : ℕ} (ok : Ready s₀ w left right out) (b : Blanked s₀ s₁ w out) where
+  pub join-ready : length s₁ ≡ length s₀ → Ready s₁ w left right out
+  join-ready e = ready-kept e (b .kept) ok
+
+  pub join-blank : {s : List ℕ} {budget trials : ℕ} {r : Tally} → Joined s₁ s w left right out budget trials r → Joined s₀ s w left right out budget trials r
+  join-blank h =
+      let l = on-kept (b .kept) (λ i j z. ok .not-left) in
+      let r = on-kept (b .kept) (λ i j z. ok .not-right) in
+      record {
+        counted = rw (← join-trials-same w _ _ _ _ l r) (h .counted);
+        whole = λ e. plane-same (h .whole e) (join-same w _ _ _ _ l r);
+        kept = kept-then (b .kept) (h .kept) (λ q i j n. n) (λ q i j n. n);
       }

@@ -18,11 +18,16 @@ join-trials w R S = sum w (column-trials R S)
 
 -- what a join asks: two planes to read, and a third one to write
 pub record Ready (s : List ℕ) (w left right out : ℕ) : Type 0 where
+  pub wide : 1 ≤ w
   pub from-left : Readable s w left
   pub from-right : Readable s w right
   pub into : InRoom s w out
   pub not-left : left ≡ out → ⊥
   pub not-right : right ≡ out → ⊥
+
+-- column j of plane p is empty
+pub record Vacant (s : List ℕ) (w p j : ℕ) : Type 0 where
+  pub none : (i : ℕ) → i ≤ j → cell s w p i j ≡ 0
 
 -- s and s′ are the lists before and after
 pub record Columned (s s′ : List ℕ) (w left right out j budget trials : ℕ) (r : Tally) : Type 0 where

@@ -4,7 +4,8 @@ ghost use Prim.Native.Nat.{suc, _-_, _<_, _≤_};
 ghost use Rattle.pattern.specs.Decision.{trial};
 ghost use Rattle.matcher.specs.Cells.{on, Readable};
 ghost use Rattle.matcher.specs.Seek.{seek, trialsOf, stoppedOf, foundOf};
-ghost use Rattle.matcher.specs.Joined.{Ready, Columned, Joined};
+ghost use Rattle.matcher.specs.Joined.{Ready, Vacant, Columned, Joined};
+use crate::cells::blank;
 use crate::cells::byte;
 use crate::cells::mark;
 
@@ -83,7 +84,7 @@ fn search_end(
     }
 }
 
-// Column j of the join of left and right, into out: the stretches that end at j.
+// Column j of the join of left and right, into out, which is empty there: the stretches that end at j.
 fn join_column(
     scratch: &mut [u8],
     w: usize,
@@ -94,7 +95,7 @@ fn join_column(
     budget: u64,
     trials: u64,
 ) -> Tally
-    requires { ⌜ j < w ⌝ ∗ ⌜ trials ≤ budget ⌝ ∗ ⌜ Ready (now scratch) w left right out ⌝ }
+    requires { ⌜ j < w ⌝ ∗ ⌜ trials ≤ budget ⌝ ∗ ⌜ Ready (now scratch) w left right out ⌝ ∗ ⌜ Vacant (now scratch) w out j ⌝ }
     ensures { λ r. ⌜ Columned (now (scratch .entry)) (now (scratch .exit)) w left right out j budget trials r ⌝ }
 {
     let mut spent = trials;
@@ -108,7 +109,9 @@ fn join_column(
             };
         }
         spent = trials_of(s, budget);
-        mark(scratch, w, out, i, j, is_found(s));
+        if is_found(s) {
+            mark(scratch, w, out, i, j, true);
+        }
         i += 1;
     }
     Tally {
@@ -130,6 +133,7 @@ pub fn join(
     requires { ⌜ trials ≤ budget ⌝ ∗ ⌜ Ready (now scratch) w left right out ⌝ }
     ensures { λ r. ⌜ Joined (now (scratch .entry)) (now (scratch .exit)) w left right out budget trials r ⌝ }
 {
+    blank(scratch, w, out);
     let mut spent = trials;
     let mut j = 0;
     while j < w {
