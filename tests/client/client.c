@@ -8,9 +8,10 @@
 
 #include "mpt.h"
 
-enum { ANSWER_LEN = 32, DIRT = 0xA5 };
+enum { DIRT = 0xA5 };
 
-static uint8_t table[1200], source[512], scratch[4096], parts[128], answer[ANSWER_LEN];
+static uint8_t table[MPT_TABLE_MAX], source[MPT_SOURCE_MAX], scratch[MPT_SCRATCH_MAX], parts[MPT_PARTS_MAX];
+static uint8_t answer[MPT_ANSWER_SIZE];
 
 static void expect(int holds, const char *what)
 {
@@ -81,10 +82,10 @@ static void compiling(void)
     compile("3.10000N", MPT_NUMBER, 2);
     compile("1(1(1(1(1(1(1(1(1(1N)))))))))", MPT_DEPTH, 17);
 
-    char text[514];
+    char text[MPT_SOURCE_MAX + 2];
     memset(text, 'N', sizeof text);
-    text[513] = 0;
-    compile(text, MPT_LONG, 512);
+    text[MPT_SOURCE_MAX + 1] = 0;
+    compile(text, MPT_LONG, MPT_SOURCE_MAX);
     for (int at = 0; at < 130; at += 2)
         memcpy(text + at, "1N", 3);
     compile(text, MPT_ATOMS, 128);
@@ -97,7 +98,7 @@ static void compiling(void)
 
 static void matching(void)
 {
-    const size_t work = (2 * 2 + 4) * 8 * 8;
+    const size_t work = MPT_SCRATCH_SIZE(2, 7);
     size_t len = compile("1.6N1.2N", 0, 0);
     expect(match(len, "1234567", work, 4, UINT64_MAX) == 0, "number of a match");
     expect(field(1) == 1, "verdict");
@@ -122,10 +123,34 @@ static void matching(void)
     expect(all_are(scratch, sizeof scratch, DIRT), "scratch written by a refusal");
     expect(match(len - 1, "1234567", work, 4, trials) == MPT_TABLE, "a table cut short");
 
-    char label[257];
+    char label[MPT_LABEL_MAX + 2];
     memset(label, '1', sizeof label);
-    label[256] = 0;
+    label[MPT_LABEL_MAX + 1] = 0;
     expect(match(len, label, work, 4, trials) == MPT_LABEL, "a label of 256 bytes");
+}
+
+/* 64 atoms in 512 bytes, a label of 255: the header's sizes suffice; source, scratch or parts a byte less don't. */
+static void largest(void)
+{
+    char text[MPT_SOURCE_MAX + 1], label[MPT_LABEL_MAX + 1];
+    memset(text, 'x', sizeof text);
+    for (int at = 0; at < 126; at += 2)
+        memcpy(text + at, "1N", 2);
+    memcpy(text + 126, "1\"", 2);
+    memcpy(text + MPT_SOURCE_MAX - 1, "\"", 2);
+    size_t len = compile(text, 0, 0);
+    expect(len == 8 + 64 * 10 + 383, "length of the table of 64 atoms");
+    expect(mpt_write_back(table, len, source, sizeof source - 1, answer, sizeof answer) == MPT_ROOM, "room for 511");
+    expect(mpt_write_back(table, len, source, sizeof source, answer, sizeof answer) == 0, "room for 512");
+    expect(field(1) == sizeof source && memcmp(source, text, sizeof source) == 0, "a source of 512 bytes");
+
+    memset(label, '1', sizeof label);
+    label[MPT_LABEL_MAX] = 0;
+    expect(match(len, label, sizeof scratch - 1, sizeof parts, 0) == MPT_WORK, "scratch one short of the largest");
+    expect(match(len, label, sizeof scratch, sizeof parts - 1, 0) == MPT_PARTS, "parts one short of the largest");
+    expect(match(len, label, sizeof scratch, sizeof parts, 0) == MPT_BUDGET, "the largest scratch and parts");
+    expect(field(1) == 0 && field(2) == 0, "answer of no budget");
+    expect(all_are(scratch, sizeof scratch, 0) && all_are(parts, sizeof parts, DIRT), "bytes after no budget");
 }
 
 static void writing_back(void)
@@ -149,7 +174,7 @@ static void writing_back(void)
 static void short_answers(void)
 {
     memset(table, DIRT, sizeof table);
-    for (size_t len = 0; len < ANSWER_LEN; len++) {
+    for (size_t len = 0; len < MPT_ANSWER_SIZE; len++) {
         memset(answer, DIRT, sizeof answer);
         expect(mpt_compile((const uint8_t *)"2N", 2, table, 18, answer, len) == MPT_ANSWER, "a short answer area");
         expect(mpt_write_back(table, 18, source, 2, answer, len) == MPT_ANSWER, "a short answer area");
@@ -162,12 +187,12 @@ static void short_answers(void)
 
 static void long_answers(void)
 {
-    uint8_t area[ANSWER_LEN + 9];
-    for (size_t len = ANSWER_LEN; len <= sizeof area; len++) {
+    uint8_t area[MPT_ANSWER_SIZE + 9];
+    for (size_t len = MPT_ANSWER_SIZE; len <= sizeof area; len++) {
         memset(area, DIRT, sizeof area);
         expect(mpt_compile((const uint8_t *)"2N", 2, table, sizeof table, area, len) == 0, "a long answer area");
-        expect(area[8] == 18 && all_are(area + 9, ANSWER_LEN - 9, 0), "the table length in a long answer area");
-        expect(all_are(area + ANSWER_LEN, sizeof area - ANSWER_LEN, DIRT), "bytes after the answer");
+        expect(area[8] == 18 && all_are(area + 9, MPT_ANSWER_SIZE - 9, 0), "the table length in a long answer area");
+        expect(all_are(area + MPT_ANSWER_SIZE, sizeof area - MPT_ANSWER_SIZE, DIRT), "bytes after the answer");
     }
 }
 
@@ -193,6 +218,7 @@ int main(void)
 {
     compiling();
     matching();
+    largest();
     writing_back();
     short_answers();
     long_answers();

@@ -1,10 +1,11 @@
 //! Fixed lists of calls.
 
 use crate::call::{Call, Case};
+use crate::long::{each_set, long_labels, wide_counts, wrapped_inputs, wrapped_rooms};
 use crate::tables::table_of;
-use generate::{Atom, Body, LETTERS};
+use generate::{Atom, Body};
 
-/// Every byte as a code, in a literal and as a label against every code.
+/// Every byte as a code, in a literal, before a code and after an atom.
 fn each_byte() -> Vec<Call> {
     let mut calls = Vec::new();
     for byte in 0..=255 {
@@ -17,16 +18,6 @@ fn each_byte() -> Vec<Call> {
             calls.push(Call::Compile {
                 source,
                 table_len: 19,
-            });
-        }
-        for letter in LETTERS {
-            let table = second::compile(&[b'1', *letter], 18).unwrap();
-            calls.push(Call::Match {
-                table,
-                label: vec![byte],
-                scratch_len: 24,
-                parts_len: 2,
-                budget: 4,
             });
         }
     }
@@ -71,9 +62,10 @@ fn each_count() -> Vec<Call> {
     calls
 }
 
-/// The examples of the papers and what is made of every byte, count, short source and changed table.
-pub fn fixed(longest: usize) -> Vec<Case> {
-    let short = short_sources(longest)
+/// The examples of the papers and what is made of every byte, set, count, short source and changed
+/// table, and the long calls; a quick run has fewer short sources and no count past 32 bits.
+pub fn fixed(quick: bool) -> Vec<Case> {
+    let short = short_sources(if quick { 4 } else { 5 })
         .into_iter()
         .map(|source| Call::Compile {
             source,
@@ -100,14 +92,19 @@ pub fn fixed(longest: usize) -> Vec<Case> {
         .into_iter()
         .chain(each_byte())
         .chain(each_count())
+        .chain(each_set())
         .chain(short)
-        .chain(changed);
+        .chain(changed)
+        .chain(long_labels())
+        .chain(wrapped_inputs())
+        .chain(if quick { Vec::new() } else { wide_counts() });
     calls
         .map(|call| Case {
             call,
             answer_len: 32,
             dirt: 1,
         })
+        .chain(wrapped_rooms())
         .collect()
 }
 

@@ -6,6 +6,7 @@
 mod call;
 mod cases;
 mod fixed;
+mod long;
 mod tables;
 
 use call::{compare, Call, Case};
@@ -13,15 +14,19 @@ use generate::Random;
 use std::collections::BTreeMap;
 use std::process::exit;
 
+/// Odd, so that no lent slice is aligned.
+const MARGIN: usize = 61;
+
 struct Options {
     count: u64,
     seed: u64,
-    /// The most trials of one match.
-    dearest: u64,
+    /// The most trials of one match; if not named, the generated ones have a limit of their own.
+    dearest: Option<u64>,
     /// Bytes kept on both sides of every lent slice; 0 for a run under valgrind.
     margin: usize,
-    /// The longest source of the list of all short ones; none leaves the fixed lists out.
-    short: Option<usize>,
+    quick: bool,
+    /// Leave the fixed lists out.
+    generated: bool,
     /// Print each call before it is made.
     lines: bool,
 }
@@ -30,9 +35,10 @@ fn options() -> Options {
     let mut options = Options {
         count: 1_000_000,
         seed: 1,
-        dearest: 40_000_000,
-        margin: 64,
-        short: Some(5),
+        dearest: None,
+        margin: MARGIN,
+        quick: false,
+        generated: false,
         lines: false,
     };
     let mut words = std::env::args().skip(1);
@@ -42,14 +48,12 @@ fn options() -> Options {
             value.unwrap_or_else(|| fail(&format!("{word} takes a number")))
         };
         match word.as_str() {
-            "--quick" => {
-                (options.count, options.dearest, options.short) = (100_000, 2_000_000, Some(4))
-            }
+            "--quick" => (options.count, options.quick) = (100_000, true),
             "--seed" => options.seed = number(),
-            "--dearest" => options.dearest = number(),
+            "--dearest" => options.dearest = Some(number()),
             "--margin" => options.margin = number() as usize,
             "--lines" => options.lines = true,
-            "--generated" => options.short = None,
+            "--generated" => options.generated = true,
             "--replay" => replay(&words.collect::<Vec<_>>().join(" ")),
             _ => {
                 options.count = word
@@ -68,7 +72,7 @@ fn fail(message: &str) -> ! {
 
 fn replay(line: &str) -> ! {
     let case = Case::parse(line).unwrap_or_else(|| fail("not a line of a call"));
-    match compare(&case, 64) {
+    match compare(&case, MARGIN) {
         Ok((number, result)) => println!("same: number {number}, result {result}"),
         Err(difference) => {
             println!("{difference}");
@@ -123,15 +127,28 @@ impl Tally {
     }
 }
 
+/// Whether a call is a match of more trials than `most`.
+fn exceeds(case: &Case, most: u64) -> bool {
+    let Call::Match { table, label, .. } = &case.call else {
+        return false;
+    };
+    second::match_label(table, label, usize::MAX, usize::MAX, most).number == second::BUDGET
+}
+
 fn main() {
     let options = options();
     let mut tally = Tally::default();
-    for case in options.short.map_or(Vec::new(), fixed::fixed) {
-        tally.make(&case, &options);
+    if !options.generated {
+        let affordable = |case: &Case| options.dearest.is_none_or(|most| !exceeds(case, most));
+        for case in fixed::fixed(options.quick).iter().filter(|c| affordable(c)) {
+            tally.make(case, &options);
+        }
     }
+    let usual = if options.quick { 2_000_000 } else { 40_000_000 };
+    let dearest = options.dearest.unwrap_or(usual);
     for index in 0..options.count {
         let mut random = Random::new(options.seed << 40 ^ index << 2);
-        let case = cases::case(&mut random, options.dearest);
+        let case = cases::case(&mut random, dearest);
         tally.make(&case, &options);
     }
     tally.print();

@@ -5,5 +5,5 @@ pub mod patterns;
 mod random;
 pub mod sources;
 
-pub use patterns::{Atom, Body, LETTERS};
+pub use patterns::{Atom, Body};
 pub use random::Random;
