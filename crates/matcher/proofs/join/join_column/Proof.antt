@@ -54,7 +54,7 @@ loop-again : tie.Need-loop-again Inv-loop μ-loop
 loop-again c =
     let p = c .before .before .before .before .before .before .before .before .before .before .pre in
     ⊎-elim
-    (λ w. rw (w .5 ∙ w .2 .ensures, c .before .before .trials-of .ensures) (column-found _ _ _ _ _ _ _ _ (p .0) (p .1 .1 .0) _ _ _ (c .before .before .before .before .before .before .before .before .loop .inv) (c .before .before .before .before .before .before .before .loop-test .taken) _ (c .before .before .before .before .before .search-end .ensures) (sym (c .before .before .before .before .is-stopped .ensures) ∙ c .before .before .before .if1 .left) (sym (c .before .is-found .ensures) ∙ w .0 .taken)))
+    (λ w. rw (w .5, w .2 .ensures, c .before .before .trials-of .ensures) (column-found _ _ _ _ _ _ _ _ (p .0) (p .1 .1 .0) _ _ _ (c .before .before .before .before .before .before .before .before .loop .inv) (c .before .before .before .before .before .before .before .loop-test .taken) _ (c .before .before .before .before .before .search-end .ensures) (sym (c .before .before .before .before .is-stopped .ensures) ∙ c .before .before .before .if1 .left) (sym (c .before .is-found .ensures) ∙ w .0 .taken)))
     (λ w. rw (w .1, c .before .before .trials-of .ensures) (column-missing _ _ _ _ _ _ _ _ (p .0) (p .1 .1 .0) _ _ _ (c .before .before .before .before .before .before .before .before .loop .inv) (c .before .before .before .before .before .before .before .loop-test .taken) _ (c .before .before .before .before .before .search-end .ensures) (sym (c .before .before .before .before .is-stopped .ensures) ∙ c .before .before .before .if1 .left) (sym (c .before .is-found .ensures) ∙ w .0 .left)))
     (c .if2 .came)
 
