@@ -7,11 +7,11 @@ use mathlib.Core.Option.{Option, none, some}
 use Prim.Native.Nat.{ℕ, suc, _+_, _*_, _^_, _≤_, _<_}
 use native.Mathlib.Nat.{mul-le-mul}
 use native.Mathlib.Omega.{arith}
-use lib.Dec.{T, leb, leb→le, lit<}
+use lib.Dec.{T, leb, leb→le}
 use lib.ListN.{length, take}
 use lib.Seq.{take-append-seam, take-length}
 use borrow.Author.Tests.{le-leb, lt-leb}
-use Rattle.pattern.specs.Numbers.{source-limit, atom-limit, label-limit, LONG, DEPTH, ROOM, TABLE, LABEL, PARTS, BUDGET}
+use Rattle.pattern.specs.Numbers.{source-limit, label-limit, LONG, DEPTH, ROOM, TABLE, LABEL, PARTS, BUDGET}
 use Rattle.pattern.specs.Bytes.{Bytes, over}
 use Rattle.pattern.specs.Syntax.{Sort, pattern, Syntax, last, then, repeat, codes, literal, group, only, or, size, top-size}
 use Rattle.pattern.specs.Meaning.{Satisfies}
