@@ -1,5 +1,6 @@
 //! (e): the line tool, as a process that reads a file.
 
+use crate::rounds::Rounds;
 use crate::{clock, plain};
 use std::fs::File;
 use std::io::{stdin, stdout, BufRead, BufWriter, Write};
@@ -98,12 +99,7 @@ fn process(command: &[&str], input: &Path) -> Command {
     run
 }
 
-fn median(mut times: Vec<f64>) -> f64 {
-    times.sort_by(f64::total_cmp);
-    times[times.len() / 2]
-}
-
-pub fn lines(samples: usize) {
+pub fn lines(rounds: usize) {
     println!("\n(e) the line tool, lines a second");
     if !Path::new(TOOL).exists() {
         return println!("not run: rt check mptline makes target/bin/mptline");
@@ -121,13 +117,14 @@ pub fn lines(samples: usize) {
         assert!(tool == plain, "{name}");
         let number = input.iter().filter(|&&byte| byte == b'\n').count();
         let mut times = [vec![], vec![]];
-        for _ in 0..samples {
+        for _ in 0..rounds {
             (0..2).for_each(|at| times[at].push(time(ways[at], &file)));
         }
-        let [tool, plain] = times.map(|times| number as f64 * 1e9 / median(times));
+        let timed = Rounds(times);
+        let [tool, plain] = timed.times().map(|time| number as f64 * 1e9 / time);
         println!(
             "{name:<32}{number:>10}{tool:>12.0}{plain:>12.0}{:>8.2}",
-            plain / tool
+            timed.ratio(1)
         );
     }
     std::fs::remove_file(&file).unwrap();

@@ -7,10 +7,10 @@
 mod clock;
 mod lines;
 mod matches;
-mod medians;
 mod naive;
 mod plain;
 mod proved;
+mod rounds;
 mod tables;
 
 fn main() {
@@ -19,16 +19,16 @@ fn main() {
         return lines::answer_input();
     }
     let quick = given("--quick");
-    let samples = if quick { 3 } else { 9 };
-    tables::compiling(samples);
-    tables::writing_back(samples);
+    let rounds = if quick { 3 } else { 9 };
+    tables::compiling(rounds);
+    tables::writing_back(rounds);
     if quick {
-        matches::matching(samples, &[10, 60]);
-        matches::groups_of_groups(samples, &[5, 10, 15, 20, 25, 50, 100, 150]);
+        matches::matching(rounds, &[10, 60]);
+        matches::groups_of_groups(&[5, 10, 15, 20, 25, 50, 100, 150]);
     } else {
         let every_fifth: Vec<usize> = (5..=255).step_by(5).collect();
-        matches::matching(samples, &[10, 60, 255]);
-        matches::groups_of_groups(samples, &every_fifth);
+        matches::matching(rounds, &[10, 60, 255]);
+        matches::groups_of_groups(&every_fifth);
     }
-    lines::lines(samples);
+    lines::lines(rounds);
 }

@@ -1,6 +1,6 @@
 //! (c) and (d): matching.
 
-use crate::medians::medians;
+use crate::rounds::Rounds;
 use crate::tables::table_of;
 use crate::{clock, naive, plain, proved};
 use std::hint::black_box;
@@ -8,13 +8,13 @@ use std::hint::black_box;
 /// A way to match: the library, plain Rust, or plain Rust with the unchecked loop.
 type Way = fn(&[u8], &[u8], &mut [u8], &mut [u8], u64) -> Result<plain::Verdict, plain::Refusal>;
 
-/// The trials of a match and the median time of each way, in nanoseconds.
+/// The trials of a match, and the times of each way.
 fn time_match<const WAYS: usize>(
     table: &[u8],
     label: &[u8],
     ways: [Way; WAYS],
-    samples: usize,
-) -> (u64, [f64; WAYS]) {
+    rounds: usize,
+) -> (u64, Rounds<WAYS>) {
     let work = (2 * usize::from(table[5]) + 4) * (label.len() + 1) * (label.len() + 1);
     let mut scratch = vec![0; work];
     // Every way gives the same answer and parts.
@@ -38,10 +38,10 @@ fn time_match<const WAYS: usize>(
         }
     });
     let calls = calls.each_mut().map(|call| call as &mut dyn FnMut());
-    (trials, medians(samples, calls))
+    (trials, Rounds::of(rounds, calls))
 }
 
-pub fn matching(samples: usize, lens: &[usize]) {
+pub fn matching(rounds: usize, lens: &[usize]) {
     println!("\n(c) matching, ns a trial");
     println!(
         "{:<16}{:>5}{:>12}{:>10}{:>10}{:>10}{:>10}{:>10}",
@@ -69,12 +69,12 @@ pub fn matching(samples: usize, lens: &[usize]) {
                 plain::match_label,
                 plain::match_label_unchecked,
             ];
-            let (trials, times) = time_match(&table, &label(n), ways, samples);
-            let [library, plain, unchecked] = times.map(|time| time / trials as f64);
+            let (trials, timed) = time_match(&table, &label(n), ways, rounds);
+            let [library, plain, unchecked] = timed.times().map(|time| time / trials as f64);
             println!(
                 "{source:<16}{n:>5}{trials:>12}{library:>10.3}{plain:>10.3}{unchecked:>10.3}{:>10.2}{:>10.2}",
-                library / plain,
-                library / unchecked
+                timed.ratio(1),
+                timed.ratio(2)
             );
         }
     }
@@ -103,7 +103,8 @@ fn group_of_groups() -> Vec<naive::Atom> {
     ]
 }
 
-pub fn groups_of_groups(samples: usize, lens: &[usize]) {
+/// Three rounds, since the longest calls take seconds.
+pub fn groups_of_groups(lens: &[usize]) {
     let source = ".(.(.(.N,.A)))1\"!\"";
     println!("\n(d) {source} on digits ended by -!, milliseconds a call");
     println!(
@@ -116,10 +117,10 @@ pub fn groups_of_groups(samples: usize, lens: &[usize]) {
     for &n in lens {
         let label = [vec![b'1'; n - 2], b"-!".to_vec()].concat();
         let ways: [Way; 2] = [proved::match_label, plain::match_label];
-        let (trials, times) = time_match(&table, &label, ways, samples);
-        let [library, plain] = times.map(|time| time / 1e6);
+        let (trials, timed) = time_match(&table, &label, ways, 3);
+        let [library, plain] = timed.times().map(|time| time / 1e6);
         let bound = (table[5] as u64) * ((n + 1) * (n + 1) * (n + 2) * (n + 3) / 6) as u64;
-        let ratio = library / plain;
+        let ratio = timed.ratio(1);
         print!("{n:>5}{bound:>14}{trials:>14}{library:>12.3}{plain:>12.3}{ratio:>8.2}");
         if stopped {
             println!("{:>14}{:>14}", "-", "-");

@@ -1,6 +1,6 @@
 //! (a) and (b): compiling, testing and writing back.
 
-use crate::medians::medians;
+use crate::rounds::Rounds;
 use crate::{plain, proved};
 use std::hint::black_box;
 
@@ -24,7 +24,7 @@ fn sources() -> Vec<(&'static str, Vec<u8>)> {
     vec![("codes", codes), ("literals", literals), ("groups", groups)]
 }
 
-pub fn compiling(samples: usize) {
+pub fn compiling(rounds: usize) {
     println!("\n(a) compiling a source of 512 bytes and 64 atoms, ns a call");
     println!(
         "{:<12}{:>12}{:>12}{:>10}",
@@ -40,21 +40,22 @@ pub fn compiling(samples: usize) {
             ours == theirs && source.len() == 512 && ours[5] == 64,
             "{name}"
         );
-        let [library, plain] = medians(
-            samples,
+        let timed = Rounds::of(
+            rounds,
             [
                 &mut || _ = black_box(proved::compile(black_box(&source), &mut theirs)),
                 &mut || _ = black_box(plain::compile(black_box(&source), &mut ours)),
             ],
         );
+        let [library, plain] = timed.times();
         println!(
             "{name:<12}{library:>12.0}{plain:>12.0}{:>10.2}",
-            library / plain
+            timed.ratio(1)
         );
     }
 }
 
-pub fn writing_back(samples: usize) {
+pub fn writing_back(rounds: usize) {
     println!("\n(b) testing and writing back a table of 64 atoms, ns a call");
     println!(
         "{:<12}{:<12}{:>12}{:>12}{:>10}",
@@ -74,8 +75,8 @@ pub fn writing_back(samples: usize) {
             proved::match_label(&table, &long, &mut [], &mut [], 0),
             Err((12, 0))
         );
-        let tests = medians(
-            samples,
+        let tests = Rounds::of(
+            rounds,
             [
                 &mut || {
                     _ = black_box(proved::match_label(
@@ -89,17 +90,18 @@ pub fn writing_back(samples: usize) {
                 &mut || _ = black_box(plain::good(black_box(&table))),
             ],
         );
-        let writes = medians(
-            samples,
+        let writes = Rounds::of(
+            rounds,
             [
                 &mut || _ = black_box(proved::write_back(black_box(&table), &mut theirs)),
                 &mut || _ = black_box(plain::write_back(black_box(&table), &mut ours)),
             ],
         );
-        for (call, [library, plain]) in [("test", tests), ("write back", writes)] {
+        for (call, timed) in [("test", tests), ("write back", writes)] {
+            let [library, plain] = timed.times();
             println!(
                 "{name:<12}{call:<12}{library:>12.0}{plain:>12.0}{:>10.2}",
-                library / plain
+                timed.ratio(1)
             );
         }
     }

@@ -58,7 +58,7 @@ module _ (s₀ : List ℕ) (w top out low times budget trials : ℕ) (ok : Makin
 
     -- plane top has the body throughout
     make-body : Kept s₀ s w (top + 4) (Elsewhere top out) → Plane s w top (on s₀ w top)
-    make-body k = let below = ok .below in plane-kept k (λ i j l. (λ e. omega arith, λ e. omega arith, λ e. omega arith)) (ok .body)
+    make-body k = let below = ok .below in plane-kept k (λ i j. (λ e. omega arith, λ e. omega arith, λ e. omega arith)) (ok .body)
 
     -- first the gathering
     module _ (inv : MakeAt s₀ w top out low times budget trials s spent from to k k) where
@@ -81,7 +81,7 @@ module _ (s₀ : List ℕ) (w top out low times budget trials : ℕ) (ok : Makin
             turns = inv .turns;
             from-high = inv .from-high;
             to-high = inv .to-high;
-            bodies = plane-kept (got .kept) (λ i j l e. omega (arith, inv .from-high)) (inv .bodies);
+            bodies = plane-kept (got .kept) (λ i j e. omega (arith, inv .from-high)) (inv .bodies);
             all = plane-same (got .plane) (λ i j hi hj. rw (plane-on (inv .bodies) i j hi hj, plane-on (inv .all) i j hi hj));
             kept = kept-then (inv .kept) (kept-less (out + 1) (top + 4) (omega arith) (got .kept) (λ q i j n. n)) (λ q i j n. n) (λ q i j n. n .0);
           }
@@ -139,6 +139,6 @@ module _ (s₀ : List ℕ) (w top out low times budget trials : ℕ) (ok : Makin
               from-high = inv .to-high;
               to-high = inv .from-high;
               bodies = rw one-more (plane-same (got .whole e) (join-same w _ _ _ _ (plane-on (make-body (inv .kept))) (plane-on (inv .bodies))));
-              all = rw (← z) (plane-kept (got .kept) (λ i j l x. omega (arith, inv .to-high)) (inv .all));
+              all = rw (← z) (plane-kept (got .kept) (λ i j x. omega (arith, inv .to-high)) (inv .all));
               kept = all-kept;
             }

@@ -8,14 +8,14 @@ use native.Mathlib.Nat.{eq-or-lt-of-le}
 use native.Mathlib.Omega.{arith}
 use borrow.Author.Tests.{eq-eqb, ne-eqb, eqb-true, eqb-false}
 use lib.Dec.{eqb}
-use lib.ListN.{length, getD, set, length-set}
+use lib.ListN.{length, getD}
 use Rattle.pattern.specs.Codes.{in-set}
 use Rattle.matcher.specs.declared.fill.Source.{Source}
 use Rattle.matcher.specs.declared.fill.Source.the-variants.{Empty, Codes, Literal}
-use Rattle.matcher.specs.Cells.{Kept, Not, at, cell, bitOf}
+use Rattle.matcher.specs.Cells.{Tells, Kept, Not, bitOf, marked}
 use Rattle.matcher.specs.Whole.{Blanked}
 use Rattle.matcher.specs.Filled.{held-in, span, Fit, Fillable, Filled}
-use Rattle.matcher.proofs.Planes.{mark-here, mark-kept, kept-all, kept-then}
+use Rattle.matcher.proofs.Planes.{mark-long, mark-tells, mark-kept, kept-all, kept-then, tells-same, tells-kept}
 use Rattle.matcher.proofs.Slices.{one-byte, one-not, same-apart}
 
 same-or-not : (a b : ℕ) → (a ≡ b) ⊎ (a ≡ b → ⊥)
@@ -47,23 +47,23 @@ module _ (table label : List ℕ) (i : ℕ) {source : Source} where
     unfolding Fit
     value-literal from len e f = (rw e at h, rw e at f)
 
--- the columns before j are filled, the others empty
+-- the stretches that end before j are filled, the others empty
 pub record FillAt (table label s₁ : List ℕ) (w : ℕ) (source : Source) (out : ℕ) (s : List ℕ) (j : ℕ) : Type 0 where
   pub from : span source ≤ j
   pub long : length s ≡ length s₁
-  pub done : (a b : ℕ) → a ≤ b → b < w → b < j → cell s w out a b ≡ bitOf (held-in table label source a b)
-  pub ahead : (a b : ℕ) → a ≤ b → b < w → j ≤ b → cell s w out a b ≡ 0
+  pub done : (a b : ℕ) → a ≤ b → b < w → b < j → Tells s w out a b (held-in table label source a b)
+  pub ahead : (a b : ℕ) → a ≤ b → b < w → j ≤ b → Tells s w out a b false
   pub kept : Kept s₁ s w (out + 1) (Not out)
 
 module _ (table label s₀ s₁ : List ℕ) (w : ℕ) (source : Source) (out : ℕ) (ok : Fillable table label s₀ w source out) (len : length s₁ ≡ length s₀) (empty : Blanked s₀ s₁ w out) where
-  off : (a b : ℕ) → a ≤ b → b < w → (a + span source ≡ b → ⊥) → 0 ≡ bitOf (held-in table label source a b)
-  off a b l m n = sym (ap bitOf (held-off table label source (ok .fit) a b l (omega (arith, ok .wide)) n))
+  off : (a b : ℕ) → a ≤ b → b < w → (a + span source ≡ b → ⊥) → false ≡ held-in table label source a b
+  off a b l m n = sym (held-off table label source (ok .fit) a b l (omega (arith, ok .wide)) n)
 
   pub fill-start : FillAt table label s₁ w source out s₁ (span source)
   fill-start = record {
     from = omega arith;
     long = refl;
-    done = λ a b l m n. empty .plane .holds a b l m ∙ off a b l m (λ e. omega arith);
+    done = λ a b l m n. tells-same (empty .plane .holds a b l m) (off a b l m (λ e. omega arith));
     ahead = λ a b l m n. empty .plane .holds a b l m;
     kept = kept-all s₁ w (out + 1) (Not out);
   }
@@ -75,22 +75,24 @@ module _ (table label s₀ s₁ : List ℕ) (w : ℕ) (source : Source) (out : �
       kept = kept-then (empty .kept) (inv .kept) (λ q a b n. n) (λ q a b n. n);
     }
 
-    pub fill-step : j < w → (i : ℕ) → i + span source ≡ j → (v : Bool) → v ≡ held-in table label source i (i + span source) → FillAt table label s₁ w source out (set s (at w out i j) (bitOf v)) (j + 1)
+    pub fill-step : j < w → (i : ℕ) → i + span source ≡ j → (v : Bool) → v ≡ held-in table label source i (i + span source) → FillAt table label s₁ w source out (marked s w out i j (bitOf v)) (j + 1)
     fill-step more i e v got =
-        let hi : i < w = omega arith in
-        let k = mark-kept w out i j hi more s (bitOf v) in
-        let column : (a : ℕ) → a ≤ j → cell (set s (at w out i j) (bitOf v)) w out a j ≡ bitOf (held-in table label source a j)
+        let hi : i ≤ j = omega arith in
+        let k = mark-kept w out i j hi more s v in
+        let other : (a b : ℕ) → a ≤ b → b < w → (a ≡ i → b ≡ j → ⊥) → (x : Bool) → Tells s w out a b x → Tells (marked s w out i j (bitOf v)) w out a b x
+        = λ a b l m n x. tells-kept k l m (λ _. (n, λ y z. n (omega arith) (omega arith)), λ _. (λ y z. n (omega arith) (omega arith), λ y z. n z y)) in
+        let column : (a : ℕ) → a ≤ j → Tells (marked s w out i j (bitOf v)) w out a j (held-in table label source a j)
         = λ a l. ⊎-elim
-        (λ z. rw z (mark-here w out i j hi more s (bitOf v) (rw (inv .long ∙ len) (ok .into)) ∙ ap bitOf (rw e at got)))
-        (λ n. k .same out a j (omega arith) more (λ _ y _. n y) ∙ inv .ahead a j l more (omega arith) ∙ off a j l more (λ z. n (omega arith)))
+        (λ z. rw z (tells-same (mark-tells w out i j hi more s v (rw (inv .long ∙ len) (ok .into))) (rw e at got)))
+        (λ n. tells-same (other a j l more (λ y _. n y) _ (inv .ahead a j l more (omega arith))) (off a j l more (λ z. n (omega arith))))
         (same-or-not a i) in
         record {
           from = omega (arith, inv .from);
-          long = length-set s (at w out i j) (bitOf v) ∙ inv .long;
+          long = mark-long w out i j s (bitOf v) ∙ inv .long;
           done = λ a b l m n. ⊎-elim
               (λ z. let y : a ≤ j = omega arith in rw z (column a y))
-              (λ z. k .same out a b (omega arith) m (λ _ _ y. omega arith) ∙ inv .done a b l m z)
+              (λ z. other a b l m (λ _ y. omega arith) _ (inv .done a b l m z))
               (eq-or-lt-of-le (let y : b ≤ j = omega arith in y));
-          ahead = λ a b l m n. k .same out a b (omega arith) m (λ _ _ y. omega arith) ∙ inv .ahead a b l m (omega arith);
-          kept = kept-then (inv .kept) k (λ q a b n. n) (λ q a b n x _ _. n x);
+          ahead = λ a b l m n. other a b l m (λ _ y. omega arith) _ (inv .ahead a b l m (omega arith));
+          kept = kept-then (inv .kept) k (λ q a b n. n) (λ q a b n x. absurd (n x));
         }

@@ -53,7 +53,7 @@ module _ (table label s : Bytes) (w x : ℕ) (ok : Following table label s w x) 
 
   module _ (s₁ : Bytes) (l₁ : length s₁ ≡ length s) (b : Blanked s s₁ w (2 * x + 1)) where
     here : Plane s₁ w (2 * x) (decide label (head (node table x)))
-    here = plane-kept (b .kept) (λ i j l e. omega arith) (ok .here)
+    here = plane-kept (b .kept) (λ i j e. omega arith) (ok .here)
 
     pub follow-add : Addable s₁ w (2 * x) (2 * x + 1)
     follow-add = record {
@@ -139,7 +139,7 @@ module _ (table label s : Bytes) (w top x budget spent : ℕ) (ok : Bodying tabl
         record {
           counted = rw (← z) (f .counted);
           whole = λ g. record {
-            own = λ y l m. ⊎-elim (λ k. rw (← k) (plane-kept (f .kept) (λ i j v b. omega arith) (got .whole e))) (λ k. later .own y k m) (eq-or-lt-of-le l);
+            own = λ y l m. ⊎-elim (λ k. rw (← k) (plane-kept (f .kept) (λ i j b. omega arith) (got .whole e))) (λ k. later .own y k m) (eq-or-lt-of-le l);
             rest = λ y l m. ⊎-elim (λ k. rw (← k) (f .whole g)) (λ k. later .rest y k m) (eq-or-lt-of-le l);
           };
           kept = kept-then got-kept (kept-less (2 * x + 2) (top + 4) few (f .kept) (λ q i j n. n)) (λ q i j n. n) (λ q i j n. absurd n);

@@ -35,8 +35,8 @@ use Rattle.matcher.proofs.Views.{at-node, at-size, Branches, told-codes
 pub settled-kept : {table label s s′ : Bytes} {w x N : ℕ} {P : ℕ → ℕ → ℕ → Type 0} → Kept s s′ w N P → ((q i j : ℕ) → 2 * x ≤ q → q < 2 * atoms table → P q i j)
     → Settled table label s w x → Settled table label s′ w x
 settled-kept k f h = record {
-  own = λ y l m. plane-kept k (λ i j n. f _ i j (omega arith) (omega arith)) (h .own y l m);
-  rest = λ y l m. plane-kept k (λ i j n. f _ i j (omega arith) (omega arith)) (h .rest y l m);
+  own = λ y l m. plane-kept k (λ i j. f _ i j (omega arith) (omega arith)) (h .own y l m);
+  rest = λ y l m. plane-kept k (λ i j. f _ i j (omega arith) (omega arith)) (h .rest y l m);
 }
 
 -- room is a matter of length

@@ -1,4 +1,4 @@
--- The loops of a join, in plain values: what holds where the cells before i of column j, or the columns before j, are stored. Assumes nothing.
+-- The loops of a join, in plain values: what holds where the stretches that end at j and begin before i, or those that end before j, are stored. Assumes nothing.
 use mathlib.Core.Path.{_≡_, refl, sym, ap, _∙_}
 use mathlib.Core.Bool.{Bool, true, false}
 use mathlib.Core.List.{List}
@@ -6,30 +6,26 @@ use mathlib.Core.Logic.{⊎-elim}
 use Prim.Native.Nat.{ℕ, suc, _+_, _-_, _≤_, _<_}
 use native.Mathlib.Nat.{eq-or-lt-of-le}
 use native.Mathlib.Omega.{arith}
-use lib.ListN.{length, set, length-set}
+use lib.ListN.{length}
 use Rattle.pattern.specs.Decision.{trial, join, any}
 use Rattle.pattern.specs.Trials.{tries}
 use Rattle.matcher.specs.declared.join.Search.{Search}
 use Rattle.matcher.specs.declared.join.Tally.{Tally}
-use Rattle.matcher.specs.Cells.{Plane, Kept, Not, on, at, cell, bitOf}
+use Rattle.matcher.specs.Cells.{Tells, Plane, Kept, Not, on, bitOf, marked}
 use Rattle.matcher.specs.Seek.{seek, trialsOf, stoppedOf, foundOf}
 use Rattle.matcher.specs.Whole.{Blanked}
-use Rattle.matcher.specs.Joined.{column-trials, join-trials, Ready, Vacant, Columned, Joined}
-use Rattle.matcher.proofs.Planes.{Same, mark-here, mark-kept, kept-all, kept-then, kept-less, plane-same, on-kept, read-kept}
+use Rattle.matcher.specs.Joined.{column-trials, join-trials, Ready, Vacant, Off, Columned, Joined}
+use Rattle.matcher.proofs.Planes.{Same, Beside, mark-long, mark-tells, mark-kept, kept-all, kept-then, kept-less, tells-same, tells-kept, plane-same, on-kept, read-kept}
 use Rattle.matcher.proofs.Relations.{tries-same, any-same, trial-same, join-same, join-trials-same, column-same}
 use Rattle.matcher.proofs.Counting.{Counting, count-start, count-step, count-stop, count-end, counted-over, counted-past}
 use Rattle.matcher.proofs.Seeking.{Says, seek-says}
-
--- the cells outside column j of plane p
-abbrev Off : ℕ → ℕ → ℕ → ℕ → ℕ → Type 0
-Off p j q i b = q ≡ p → b ≡ j → ⊥
 
 -- a join that could be made still can
 ready-kept : {s s′ : List ℕ} {w left right out N : ℕ} → length s′ ≡ length s → Kept s s′ w N (Not out) → Ready s w left right out → Ready s′ w left right out
 ready-kept e k h = record {
   wide = h .wide;
-  from-left = read-kept e k (λ i j l. h .not-left) (h .from-left);
-  from-right = read-kept e k (λ i j l. h .not-right) (h .from-right);
+  from-left = read-kept e k (λ i j. h .not-left) (h .from-left);
+  from-right = read-kept e k (λ i j. h .not-right) (h .from-right);
   into = rw e (h .into);
   not-left = h .not-left;
   not-right = h .not-right;
@@ -38,8 +34,8 @@ ready-kept e k h = record {
 pub record ColumnAt (s₀ : List ℕ) (w left right out j budget trials : ℕ) (s : List ℕ) (spent i : ℕ) : Type 0 where
   pub counting : Counting (λ a. tries (suc j - a) (trial (on s₀ w left) (on s₀ w right) a j)) (suc j) budget trials spent i
   pub long : length s ≡ length s₀
-  pub done : (a : ℕ) → a < i → cell s w out a j ≡ bitOf (join (on s₀ w left) (on s₀ w right) a j)
-  pub ahead : (a : ℕ) → i ≤ a → a ≤ j → cell s w out a j ≡ 0
+  pub done : (a : ℕ) → a < i → Tells s w out a j (join (on s₀ w left) (on s₀ w right) a j)
+  pub ahead : (a : ℕ) → i ≤ a → a ≤ j → Tells s w out a j false
   pub kept : Kept s₀ s w (out + 1) (Off out j)
 
 module _ (s₀ : List ℕ) (w left right out j budget trials : ℕ) where
@@ -54,7 +50,7 @@ module _ (s₀ : List ℕ) (w left right out j budget trials : ℕ) where
 
   module _ (hj : j < w) (ok : Ready s₀ w left right out) (s : List ℕ) (spent i : ℕ) (inv : ColumnAt s₀ w left right out j budget trials s spent i) where
     others : Kept s₀ s w (out + 1) (Not out)
-    others = kept-less (out + 1) (out + 1) (omega arith) (inv .kept) (λ q a b n e f. n e)
+    others = kept-less (out + 1) (out + 1) (omega arith) (inv .kept) (λ q a b n e. absurd (n e))
 
     pub column-ready : Ready s w left right out
     column-ready = ready-kept (inv .long) others ok
@@ -69,7 +65,7 @@ module _ (s₀ : List ℕ) (w left right out j budget trials : ℕ) where
 
     module _ (more : i ≤ j) (r : Search) (got : r ≡ seek (trial (on s w left) (on s w right) i j) i budget (suc j - i) spent) where
       same-trial : (d : ℕ) → d < suc j - i → trial (on s w left) (on s w right) i j d ≡ trial (on s₀ w left) (on s₀ w right) i j d
-      same-trial = trial-same w _ _ _ _ (on-kept others (λ a b l. ok .not-left)) (on-kept others (λ a b l. ok .not-right)) i j more hj
+      same-trial = trial-same w _ _ _ _ (on-kept others (λ a b. ok .not-left)) (on-kept others (λ a b. ok .not-right)) i j more hj
 
       tried : tries (suc j - i) (trial (on s w left) (on s w right) i j) ≡ tries (suc j - i) (trial (on s₀ w left) (on s₀ w right) i j)
       tried = tries-same _ _ (suc j - i) same-trial
@@ -87,33 +83,33 @@ module _ (s₀ : List ℕ) (w left right out j budget trials : ℕ) where
           let past = counted-past (count-stop _ (suc j) budget trials spent i (inv .counting) (omega arith) _ tried _ _ (says .counted) e) e in
           record { counted = counted-over past; whole = λ x. absurd (let z : _≡_ {A = Bool} true false = x in let y : _≡_ {A = ℕ} 0 1 = cc in omega arith); kept = inv .kept }
 
-      column-step : stoppedOf r ≡ false → (s′ : List ℕ) → length s′ ≡ length s → cell s′ w out i j ≡ bitOf (foundOf r) → Kept s s′ w (out + 1) (λ q a b. q ≡ out → a ≡ i → b ≡ j → ⊥)
+      column-step : stoppedOf r ≡ false → (s′ : List ℕ) → length s′ ≡ length s → Tells s′ w out i j (foundOf r) → Kept s s′ w (out + 1) (Beside out i j)
           → ColumnAt s₀ w left right out j budget trials s′ (trialsOf budget r) (i + 1)
       column-step e s′ len here k =
-          let other : (a : ℕ) → a < w → (a ≡ i → ⊥) → cell s′ w out a j ≡ cell s w out a j = λ a l n. k .same out a j l hj (λ _ y _. n y) in
+          let other : (a : ℕ) → a ≤ j → (a ≡ i → ⊥) → (b : Bool) → Tells s w out a j b → Tells s′ w out a j b
+          = λ a l n b. tells-kept k l hj (λ _. (λ y _. n y, λ y z. omega arith), λ _. (λ y z. omega arith, λ _ z. n z)) in
           record {
             counting = count-step _ (suc j) budget trials spent i (inv .counting) (omega arith) _ tried _ _ (says .counted) e;
             long = len ∙ inv .long;
-            done = λ a l. ⊎-elim (λ z. rw z (here ∙ ap bitOf (says .finds e ∙ found))) (λ z. other a (omega arith) (λ y. omega arith) ∙ inv .done a z) (eq-or-lt-of-le (let y : a ≤ i = omega arith in y));
-            ahead = λ a l m. other a (omega arith) (λ y. omega arith) ∙ inv .ahead a (omega arith) m;
-            kept = kept-then (inv .kept) k (λ q a b n. n) (λ q a b n x y z. n x z);
+            done = λ a l. ⊎-elim (λ z. rw z (tells-same here (says .finds e ∙ found))) (λ z. other a (omega arith) (λ y. omega arith) _ (inv .done a z)) (eq-or-lt-of-le (let y : a ≤ i = omega arith in y));
+            ahead = λ a l m. other a m (λ y. omega arith) _ (inv .ahead a (omega arith) m);
+            kept = kept-then (inv .kept) k (λ q a b n. n) (λ q a b n x. (λ y z. n x .0 (omega arith) z, λ y z. n x .1 (omega arith) y));
           }
 
-      pub column-found : stoppedOf r ≡ false → foundOf r ≡ true → ColumnAt s₀ w left right out j budget trials (set s (at w out i j) (bitOf true)) (trialsOf budget r) (i + 1)
+      pub column-found : stoppedOf r ≡ false → foundOf r ≡ true → ColumnAt s₀ w left right out j budget trials (marked s w out i j (bitOf true)) (trialsOf budget r) (i + 1)
       column-found e f =
-          let hi : i < w = omega arith in
-          column-step e (set s (at w out i j) (bitOf true)) (length-set s (at w out i j) (bitOf true)) (mark-here w out i j hi hj s (bitOf true) (column-ready .into) ∙ ap bitOf (sym f)) (mark-kept w out i j hi hj s (bitOf true))
+          column-step e (marked s w out i j (bitOf true)) (mark-long w out i j s (bitOf true)) (tells-same (mark-tells w out i j more hj s true (column-ready .into)) (sym f)) (mark-kept w out i j more hj s true)
 
       pub column-missing : stoppedOf r ≡ false → foundOf r ≡ false → ColumnAt s₀ w left right out j budget trials s (trialsOf budget r) (i + 1)
-      column-missing e f = column-step e s refl (inv .ahead i (omega arith) more ∙ ap bitOf (sym f)) (kept-all _ _ _ _)
+      column-missing e f = column-step e s refl (tells-same (inv .ahead i (omega arith) more) (sym f)) (kept-all _ _ _ _)
 
--- ---- the columns
+-- ---- all ends
 
 pub record PlaneAt (s₀ : List ℕ) (w left right out budget trials : ℕ) (s : List ℕ) (spent j : ℕ) : Type 0 where
   pub counting : Counting (column-trials (on s₀ w left) (on s₀ w right)) w budget trials spent j
   pub long : length s ≡ length s₀
-  pub done : (a b : ℕ) → a ≤ b → b < j → cell s w out a b ≡ bitOf (join (on s₀ w left) (on s₀ w right) a b)
-  pub ahead : (a b : ℕ) → a ≤ b → j ≤ b → b < w → cell s w out a b ≡ 0
+  pub done : (a b : ℕ) → a ≤ b → b < j → Tells s w out a b (join (on s₀ w left) (on s₀ w right) a b)
+  pub ahead : (a b : ℕ) → a ≤ b → j ≤ b → b < w → Tells s w out a b false
   pub kept : Kept s₀ s w (out + 1) (Not out)
 
 module _ (s₀ : List ℕ) (w left right out budget trials : ℕ) where
@@ -143,16 +139,16 @@ module _ (s₀ : List ℕ) (w left right out budget trials : ℕ) where
 
     module _ (more : j < w) (s′ : List ℕ) (r : Tally) (got : Columned s s′ w left right out j budget spent r) where
       left-same : Same w (on s w left) (on s₀ w left)
-      left-same = on-kept (inv .kept) (λ a b l. ok .not-left)
+      left-same = on-kept (inv .kept) (λ a b. ok .not-left)
 
       right-same : Same w (on s w right) (on s₀ w right)
-      right-same = on-kept (inv .kept) (λ a b l. ok .not-right)
+      right-same = on-kept (inv .kept) (λ a b. ok .not-right)
 
       columns-tried : column-trials (on s w left) (on s w right) j ≡ column-trials (on s₀ w left) (on s₀ w right) j
       columns-tried = column-same w _ _ _ _ left-same right-same j more
 
       all-kept : Kept s₀ s′ w (out + 1) (Not out)
-      all-kept = kept-then (inv .kept) (got .kept) (λ q a b n. n) (λ q a b n x y. n x)
+      all-kept = kept-then (inv .kept) (got .kept) (λ q a b n. n) (λ q a b n x. absurd (n x))
 
       pub plane-stop : r .stopped ≡ true → Joined s₀ s′ w left right out budget trials r
       unfolding join-trials
@@ -162,15 +158,18 @@ module _ (s₀ : List ℕ) (w left right out budget trials : ℕ) where
         kept = all-kept;
       }
 
+      other : (a b : ℕ) → a ≤ b → b < w → (b ≡ j → ⊥) → (x : Bool) → Tells s w out a b x → Tells s′ w out a b x
+      other a b l m n x = tells-kept (got .kept) l m (λ _. (λ _ y. n y, λ y z. omega arith), λ _. (λ y z. omega arith, λ _ y. n y))
+
       pub plane-step : length s′ ≡ length s → r .stopped ≡ false → PlaneAt s₀ w left right out budget trials s′ (r .trials) (j + 1)
       plane-step len e = record {
         counting = count-step _ w budget trials spent j (inv .counting) more _ columns-tried _ _ (got .counted) e;
         long = len ∙ inv .long;
         done = λ a b l m. ⊎-elim
-            (λ z. let y : a ≤ j = omega arith in rw z (got .whole e a y ∙ ap bitOf (join-same w _ _ _ _ left-same right-same a j y more)))
-            (λ z. got .kept .same out a b (omega arith) (omega arith) (λ _ y. omega arith) ∙ inv .done a b l z)
+            (λ z. let y : a ≤ j = omega arith in rw z (tells-same (got .whole e a y) (join-same w _ _ _ _ left-same right-same a j y more)))
+            (λ z. other a b l (omega arith) (λ y. omega arith) _ (inv .done a b l z))
             (eq-or-lt-of-le (let y : b ≤ j = omega arith in y));
-        ahead = λ a b l m n. got .kept .same out a b (omega arith) n (λ _ y. omega arith) ∙ inv .ahead a b l (omega arith) n;
+        ahead = λ a b l m n. other a b l n (λ y. omega arith) _ (inv .ahead a b l (omega arith) n);
         kept = all-kept;
       }
 
@@ -181,8 +180,8 @@ module _ {s₀ s₁ : List ℕ} {w left right out : ℕ} (ok : Ready s₀ w left
 
   pub join-blank : {s : List ℕ} {budget trials : ℕ} {r : Tally} → Joined s₁ s w left right out budget trials r → Joined s₀ s w left right out budget trials r
   join-blank h =
-      let l = on-kept (b .kept) (λ i j z. ok .not-left) in
-      let r = on-kept (b .kept) (λ i j z. ok .not-right) in
+      let l = on-kept (b .kept) (λ i j. ok .not-left) in
+      let r = on-kept (b .kept) (λ i j. ok .not-right) in
       record {
         counted = rw (← join-trials-same w _ _ _ _ l r) (h .counted);
         whole = λ e. plane-same (h .whole e) (join-same w _ _ _ _ l r);

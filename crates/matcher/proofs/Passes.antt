@@ -11,7 +11,7 @@ use lib.Bits.{bitOr}
 use lib.ListN.{length, getD, set, length-set}
 use Rattle.matcher.specs.Cells.{at, cell, InRoom, bitOf, on, Kept, Not}
 use Rattle.matcher.specs.Whole.{Blanked, Addable, Added}
-use Rattle.matcher.proofs.Planes.{at-in, mark-here, mark-kept, kept-all, kept-then, kept-less}
+use Rattle.matcher.proofs.Planes.{at-in, set-here, set-kept, kept-all, kept-then, kept-less}
 
 -- the first k cells of plane out are those of f, and all others are as they were
 pub record PassAt (s₀ : List ℕ) (w out : ℕ) (f : ℕ → ℕ → ℕ) (s : List ℕ) (k : ℕ) : Type 0 where
@@ -48,14 +48,14 @@ module _ (s₀ : List ℕ) (w out : ℕ) (f : ℕ → ℕ → ℕ) where
 
       pub pass-step : InRoom s₀ w out → (v : ℕ) → v ≡ f (k / w) (k % w) → PassAt s₀ w out f (set s (at w out 0 0 + k) v) (k + 1)
       pass-step room v got =
-          let m = mark-kept w out (k / w) (k % w) row column s v in
+          let m = set-kept w out (k / w) (k % w) row column s v in
           rw (pass-cell out)
           record {
             below = omega arith;
             long = length-set s (at w out (k / w) (k % w)) v ∙ inv .long;
             done = λ i j hi hj l. ⊎-elim
                 (λ e. let (a, b) : (i ≡ k / w) × (j ≡ k % w) = (sym (digits-div i hj) ∙ ap (λ (x : ℕ). x / w) e, sym (digits-mod i hj) ∙ ap (λ (x : ℕ). x % w) e) in
-                rw (a, b) (mark-here w out (k / w) (k % w) row column s v (rw (inv .long) room) ∙ got))
+                rw (a, b) (set-here w out (k / w) (k % w) row column s v (rw (inv .long) room) ∙ got))
                 (λ z. m .same out i j hi hj (λ _ a b. omega (arith, div-add-mod' k w, ap (λ (x : ℕ). x * w) a)) ∙ inv .done i j hi hj z)
                 (eq-or-lt-of-le (let y : i * w + j ≤ k = omega arith in y));
             kept = kept-then (inv .kept) m (λ q i j n e l. n e (omega arith)) (λ q i j n e a b. n e (omega (arith, div-add-mod' k w, ap (λ (x : ℕ). x * w) a)));
@@ -67,7 +67,7 @@ pass-len s w p room = let some : 1 ≤ p + 1 = omega arith in omega (arith, mul-
 pub blank-end : (s₀ : List ℕ) (w out : ℕ) (s : List ℕ) (k : ℕ) → PassAt s₀ w out (λ i j. 0) s k → w * w ≤ k → Blanked s₀ s w out
 blank-end s₀ w out s k inv h =
     let (all, rest) = pass-end s₀ w out (λ i j. 0) s k inv h in
-    record { plane = record { holds = λ i j hi hj. all i j (omega arith) hj }; kept = rest }
+    record { plane = record { holds = λ i j hi hj. record { by-begin = all i j (omega arith) hj; by-end = all j i hj (omega arith) } }; kept = rest }
 
 -- ---- one plane added to another
 
@@ -84,6 +84,12 @@ pub add-end : (s₀ : List ℕ) (w from out : ℕ) → Addable s₀ w from out �
 add-end s₀ w from out ok s k inv h =
     let (all, rest) = pass-end s₀ w out (either s₀ w from out) s k inv h in
     record {
-      plane = record { holds = λ i j hi hj. all i j (omega arith) hj ∙ ap₂ bitOr (ok .added .flags .holds i j hi hj) (ok .into .flags .holds i j hi hj) ∙ or-bits (on s₀ w from i j) (on s₀ w out i j) };
+      plane = record {
+        holds = λ i j hi hj.
+            let a = ok .added .flags .holds i j hi hj in
+            let b = ok .into .flags .holds i j hi hj in
+            let or = or-bits (on s₀ w from i j) (on s₀ w out i j) in
+            record { by-begin = all i j (omega arith) hj ∙ ap₂ bitOr (a .by-begin) (b .by-begin) ∙ or; by-end = all j i hj (omega arith) ∙ ap₂ bitOr (a .by-end) (b .by-end) ∙ or };
+      };
       kept = rest;
     }

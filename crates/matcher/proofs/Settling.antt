@@ -52,14 +52,14 @@ module _ (table label s : Bytes) (w top x : ℕ) (ok : Bodying table label s w t
     unfolding held-in
     begin-end s₃ l₃ nothing =
         let below : 2 * x < top = omega (arith, ok .topmost, ok .there) in
-        let b : Plane s₃ w top (decide label (inside (head (node table x)))) = plane-kept (nothing .kept) (λ i j l e. omega arith) (plane-kept (empty .kept) (λ i j l e. omega arith) (body .plane)) in
+        let b : Plane s₃ w top (decide label (inside (head (node table x)))) = plane-kept (nothing .kept) (λ i j e. omega arith) (plane-kept (empty .kept) (λ i j e. omega arith) (body .plane)) in
         record {
           making = record {
             wide = omega (arith, ok .work .wide);
             room = rw (l₃ ∙ l₂ ∙ l₁, ok .topmost) (ok .work .room);
             below = below;
             body = plane-flags b;
-            empty = plane-kept (nothing .kept) (λ i j l e. omega arith) (empty .plane);
+            empty = plane-kept (nothing .kept) (λ i j e. omega arith) (empty .plane);
             nothing = nothing .plane;
           };
           body = b;
@@ -163,7 +163,7 @@ module _ (table label s : Bytes) (w top x budget spent : ℕ) (ok : Bodying tabl
     level : (i j : ℕ) → decide label a i j ≡ fewer R low (suc times) i j && on s₂ w top 0 0
     level i j =
         let below = got .making .below in
-        let c : Plane s₂ w top R = plane-kept (made-of .kept) (λ i j l. (λ y. omega arith, λ y. omega arith, λ y. omega arith)) (got .body) in
+        let c : Plane s₂ w top R = plane-kept (made-of .kept) (λ i j. (λ y. omega arith, λ y. omega arith, λ y. omega arith)) (got .body) in
         decided i j ∙ rw (lt-leb (r .low) (length label) h, decide-level label (inside a) i ∙ sym (plane-on c 0 0 (omega arith) (omega (arith, ok .work .wide))))
 
     pub own-empty : not (on s₂ w top 0 0) ≡ false → Owned table label s s₂ w top x budget spent t

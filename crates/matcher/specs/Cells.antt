@@ -1,10 +1,10 @@
--- Planes of w x w bytes, one after another in a list: cell (p, i, j) is the byte at (p * w + i) * w + j. A plane speaks of the stretches i to j with i ≤ j alone; what its other cells hold is nobody's matter. Assumes nothing.
+-- Planes of w x w bytes, one after another in a list: cell (p, i, j) is the byte at (p * w + i) * w + j. A plane speaks of each stretch i to j twice, in row i and in row j, so that a search over ends runs along two rows. Assumes nothing.
 use mathlib.Core.Path.{_≡_}
 use mathlib.Core.Bool.{Bool, cond, not}
 use mathlib.Core.List.{List}
 use Prim.Native.Nat.{ℕ, _+_, _*_, _≤_, _<_}
 use lib.Dec.{eqb}
-use lib.ListN.{length, getD}
+use lib.ListN.{length, getD, set}
 use Rattle.pattern.specs.Decision.{Rel}
 
 -- the index of a cell, and what stands there
@@ -21,13 +21,22 @@ InRoom s w p = (p + 1) * w * w ≤ length s
 abbrev pub bitOf : Bool → ℕ
 bitOf b = cond b 1 0
 
+-- the bytes with both cells of a stretch set to v
+abbrev pub marked : List ℕ → ℕ → ℕ → ℕ → ℕ → ℕ → List ℕ
+marked s w p i j v = set (set s (at w p i j) v) (at w p j i) v
+
+-- plane p says b of the stretch i to j, by its begin and by its end
+pub record Tells (s : List ℕ) (w p i j : ℕ) (b : Bool) : Type 0 where
+  pub by-begin : cell s w p i j ≡ bitOf b
+  pub by-end : cell s w p j i ≡ bitOf b
+
 -- the relation that plane p holds of i and j: the cell is not 0
 unfoldable pub on : List ℕ → ℕ → ℕ → Rel
 on s w p i j = not (eqb (cell s w p i j) 0)
 
 -- plane p holds the relation R: 1 where i to j is in it, else 0
 pub record Plane (s : List ℕ) (w p : ℕ) (R : Rel) : Type 0 where
-  pub holds : (i j : ℕ) → i ≤ j → j < w → cell s w p i j ≡ bitOf (R i j)
+  pub holds : (i j : ℕ) → i ≤ j → j < w → Tells s w p i j (R i j)
 
 -- plane p can be read: it lies in s whole, its cells are 0 or 1
 pub record Readable (s : List ℕ) (w p : ℕ) : Type 0 where

@@ -1,8 +1,8 @@
-// Planes of w x w cells in one lent slice: the one place that works an index out.
+// Planes of w x w cells in one lent slice: the one place that works an index out. What a plane says of the stretch i to j
+// stands in row i and in row j.
 ghost use mathlib.Core.Path.{_≡_};
 ghost use Prim.Native.Nat.{_+_, _*_, _≤_, _<_, _^_};
-ghost use lib.ListN.{set};
-ghost use Rattle.matcher.specs.Cells.{InRoom, at, cell, on, bitOf};
+ghost use Rattle.matcher.specs.Cells.{InRoom, cell, on, bitOf, at, marked};
 ghost use Rattle.matcher.specs.Whole.{Blanked, Addable, Added};
 
 // The index of cell (p, i, j).
@@ -35,13 +35,16 @@ fn bit(b: bool) -> u8
     if b { 1 } else { 0 }
 }
 
-// Makes cell (p, i, j) say b.
+// Makes plane p say b of the stretch i to j.
 pub fn mark(scratch: &mut [u8], w: usize, p: usize, i: usize, j: usize, b: bool)
     requires { ⌜ i < w ⌝ ∗ ⌜ j < w ⌝ ∗ ⌜ InRoom (now scratch) w p ⌝ }
-    ensures { λ _. ⌜ now (scratch .exit) ≡ set (now (scratch .entry)) (at w p i j) (bitOf b) ⌝ }
+    ensures { λ _. ⌜ now (scratch .exit) ≡ marked (now (scratch .entry)) w p i j (bitOf b) ⌝ }
 {
-    let k = place(w, p, i, j);
-    scratch[k] = bit(b);
+    let v = bit(b);
+    let begin = place(w, p, i, j);
+    let end = place(w, p, j, i);
+    scratch[begin] = v;
+    scratch[end] = v;
 }
 
 // Takes every stretch out of plane out.

@@ -74,7 +74,7 @@ fn search_end(
             break Search::Stopped;
         }
         spent += 1;
-        if byte(scratch, w, left, i, m) & byte(scratch, w, right, m, j) != 0 {
+        if byte(scratch, w, left, i, m) & byte(scratch, w, right, j, m) != 0 {
             break Search::Found(m, spent);
         }
         if m == i {
@@ -84,7 +84,7 @@ fn search_end(
     }
 }
 
-// Column j of the join of left and right, into out, which is empty there: the stretches that end at j.
+// The stretches of the join of left and right that end at j, into out, which has none of them yet.
 fn join_column(
     scratch: &mut [u8],
     w: usize,

@@ -17,7 +17,7 @@ fn last_end(scratch: &[u8], w: usize, left: usize, right: usize, i: usize, n: us
 {
     let mut m = n;
     while i < m {
-        if byte(scratch, w, left, i, m) & byte(scratch, w, right, m, n) != 0 {
+        if byte(scratch, w, left, i, m) & byte(scratch, w, right, n, m) != 0 {
             return m;
         }
         m -= 1;

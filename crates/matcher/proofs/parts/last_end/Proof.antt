@@ -26,7 +26,7 @@ byte-requires : tie.Need-byte-requires Inv-loop μ-loop
 byte-requires c κs = let p = c .before .before .before .pre in (omega arith, (omega arith, p .1 .1 .0 .room))
 
 byte-requires-2 : tie.Need-byte-requires-2 Inv-loop μ-loop
-byte-requires-2 c κs = let p = c .before .before .before .before .pre in (omega arith, (p .1 .0, p .1 .1 .1 .room))
+byte-requires-2 c κs = let p = c .before .before .before .before .pre in (p .1 .0, (omega arith, p .1 .1 .1 .room))
 
 returns : tie.Need-returns Inv-loop μ-loop
 returns c =

@@ -1,0 +1,41 @@
+//! Times of several calls that are made in turn, round by round.
+
+use crate::clock;
+
+/// The times of each call in each round, in nanoseconds.
+pub struct Rounds<const CALLS: usize>(pub [Vec<f64>; CALLS]);
+
+impl<const CALLS: usize> Rounds<CALLS> {
+    /// Makes all calls once a round; short calls are repeated within it.
+    pub fn of(rounds: usize, mut calls: [&mut dyn FnMut(); CALLS]) -> Self {
+        let mut time = |at: usize, repeats: u64| {
+            let start = clock::nanoseconds();
+            (0..repeats).for_each(|_| calls[at]());
+            (clock::nanoseconds() - start) as f64 / repeats as f64
+        };
+        let repeats: [u64; CALLS] =
+            std::array::from_fn(|at| (2e7 / time(at, 1).max(1.0)).clamp(1.0, 1e6) as u64);
+        let mut times = [const { vec![] }; CALLS];
+        for _ in 0..rounds {
+            (0..CALLS).for_each(|at| times[at].push(time(at, repeats[at])));
+        }
+        Self(times)
+    }
+
+    /// The median time of each call.
+    pub fn times(&self) -> [f64; CALLS] {
+        std::array::from_fn(|at| median(self.0[at].clone()))
+    }
+
+    /// The median of the first call's time by another one's in the same round: what slows the
+    /// machine for a while slows both.
+    pub fn ratio(&self, other: usize) -> f64 {
+        let pairs = self.0[0].iter().zip(&self.0[other]);
+        median(pairs.map(|(first, other)| first / other).collect())
+    }
+}
+
+fn median(mut numbers: Vec<f64>) -> f64 {
+    numbers.sort_by(f64::total_cmp);
+    numbers[numbers.len() / 2]
+}
