@@ -16,11 +16,11 @@ use Rattle.pattern.proofs.RoundTrip.{some-pattern}
 use Rattle.pattern.proofs.Nodes.{At}
 use Rattle.table.specs.declared.Record.{Record}
 use Rattle.table.specs.Fields.{record-of}
-use Rattle.matcher.specs.Cells.{Plane, Readable, on}
+use Rattle.planes.specs.Cells.{Plane, Readable, on}
 use Rattle.matcher.specs.Atoms.{atoms, node, head}
 use Rattle.matcher.specs.Parted.{Parting, Parted}
-use Rattle.matcher.proofs.Planes.{plane-on, plane-flags}
-use Rattle.matcher.proofs.Relations.{trial-same}
+use Rattle.planes.proofs.Planes.{plane-on, plane-flags}
+use Rattle.planes.proofs.Relations.{trial-same}
 use Rattle.matcher.proofs.Views.{at-node, ends-last, ends-then}
 use Rattle.matcher.proofs.Groups.{work-room}
 

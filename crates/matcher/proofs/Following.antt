@@ -17,16 +17,16 @@ use Rattle.pattern.proofs.Bound.{nodes-size}
 use Rattle.pattern.proofs.RoundTrip.{some-atom}
 use Rattle.table.specs.declared.Record.{Record}
 use Rattle.table.specs.Fields.{record-of}
-use Rattle.matcher.specs.declared.join.Tally.{Tally}
-use Rattle.matcher.specs.Cells.{InRoom, Plane, Kept, on}
-use Rattle.matcher.specs.Joined.{join-trials, Ready, Joined}
-use Rattle.matcher.specs.Whole.{Blanked, Addable, Added}
+use Rattle.planes.specs.declared.join.Tally.{Tally}
+use Rattle.planes.specs.Cells.{InRoom, Plane, Kept, on}
+use Rattle.planes.specs.Joined.{join-trials, Ready, Joined}
+use Rattle.planes.specs.Whole.{Blanked, Addable, Added}
 use Rattle.matcher.specs.Atoms.{atoms, node, head, Work, Settled}
 use Rattle.matcher.specs.Bodied.{Bodying}
 use Rattle.matcher.specs.Steps.{NoPlane, Owned, follow-trials, Following, Followed, Stepped, AllSettled}
-use Rattle.matcher.proofs.Planes.{kept-all, kept-then, kept-less, plane-on, plane-same, plane-flags, plane-kept}
-use Rattle.matcher.proofs.Relations.{join-same, join-trials-same, joins-all}
-use Rattle.matcher.proofs.Counting.{counted-whole, counted-room, counted-all, counted-stop}
+use Rattle.planes.proofs.Planes.{kept-all, kept-then, kept-less, plane-on, plane-same, plane-flags, plane-kept}
+use Rattle.planes.proofs.Relations.{join-same, join-trials-same, joins-all}
+use Rattle.planes.proofs.Counting.{counted-whole, counted-room, counted-all, counted-stop}
 use Rattle.matcher.proofs.Views.{ends-last, ends-then}
 use Rattle.matcher.proofs.Groups.{settled-kept, work-long, work-room, work-few}
 

@@ -20,15 +20,15 @@ use Rattle.pattern.proofs.RoundTrip.{some-pattern}
 use Rattle.pattern.proofs.Nodes.{At, at-branch}
 use Rattle.table.specs.declared.Record.{Record}
 use Rattle.table.specs.Fields.{record-of}
-use Rattle.matcher.specs.declared.fill.Source.{Source}
-use Rattle.matcher.specs.declared.fill.Source.the-variants.{Empty, Codes, Literal}
-use Rattle.matcher.specs.Cells.{InRoom, Plane, Kept, Not, on}
-use Rattle.matcher.specs.Whole.{Blanked, Addable, Added}
-use Rattle.matcher.specs.Filled.{held-in, Fit, Fillable, Filled}
+use Rattle.planes.specs.declared.fill.Source.{Source}
+use Rattle.planes.specs.declared.fill.Source.the-variants.{Empty, Codes, Literal}
+use Rattle.planes.specs.Cells.{InRoom, Plane, Kept, Not, on}
+use Rattle.planes.specs.Whole.{Blanked, Addable, Added}
+use Rattle.planes.specs.Filled.{held-in, Fit, Fillable, Filled}
 use Rattle.matcher.specs.Atoms.{atoms, node, head, inside, Work, Settled}
 use Rattle.matcher.specs.Bodied.{Bodying, Bodied}
-use Rattle.matcher.proofs.Planes.{Same, kept-all, kept-then, plane-on, plane-same, plane-flags, plane-kept, room-of, planes-le}
-use Rattle.matcher.proofs.Slices.{same-false}
+use Rattle.planes.proofs.Planes.{Same, kept-all, kept-then, plane-on, plane-same, plane-flags, plane-kept, room-of, planes-le}
+use Rattle.planes.proofs.Slices.{same-false}
 use Rattle.matcher.proofs.Views.{at-node, at-size, Branches, told-codes, told-empty, told-literal, told-group}
 
 -- settled planes stay settled where they are kept

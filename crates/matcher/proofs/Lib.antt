@@ -1,12 +1,4 @@
-pub mod Planes
-pub mod Passes
-pub mod Counting
-pub mod Relations
-pub mod Seeking
-pub mod Joining
-pub mod Slices
-pub mod Filling
-pub mod Bodies
+pub mod Levels
 pub mod Views
 pub mod Groups
 pub mod Settling

@@ -19,14 +19,14 @@ use Rattle.pattern.specs.Decode.{tree-of}
 use Rattle.pattern.specs.Answers.{result, work, cleared, judged, tried-if, tried, Matched as Outcome}
 use Rattle.pattern.proofs.Tests.{if-true, if-false}
 use Rattle.pattern.proofs.RoundTrip.{some-pattern}
-use Rattle.matcher.specs.declared.join.Tally.{Tally}
-use Rattle.matcher.specs.Cells.{InRoom, on}
+use Rattle.planes.specs.declared.join.Tally.{Tally}
+use Rattle.planes.specs.Cells.{InRoom, on}
 use Rattle.matcher.specs.Atoms.{atoms, Work}
 use Rattle.matcher.specs.Steps.{AllSettled}
 use Rattle.matcher.specs.Parted.{Parting, Parted}
 use Rattle.matcher.specs.Answered.{Running}
-use Rattle.matcher.proofs.Planes.{plane-on}
-use Rattle.matcher.proofs.Counting.{counted-room, counted-all, counted-past}
+use Rattle.planes.proofs.Planes.{plane-on}
+use Rattle.planes.proofs.Counting.{counted-room, counted-all, counted-past}
 use Rattle.matcher.proofs.Groups.{work-long, work-room}
 use Rattle.matcher.proofs.Ends.{node-root}
 

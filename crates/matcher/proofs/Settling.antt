@@ -16,18 +16,19 @@ use Rattle.pattern.specs.Table.{high-field}
 use Rattle.pattern.specs.Decode.{layout, its}
 use Rattle.table.specs.declared.Record.{Record}
 use Rattle.table.specs.Fields.{record-of}
-use Rattle.matcher.specs.declared.join.Tally.{Tally}
-use Rattle.matcher.specs.declared.fill.Source.the-variants.{Empty}
-use Rattle.matcher.specs.Cells.{InRoom, Plane, Kept, on}
-use Rattle.matcher.specs.Joined.{join-trials}
-use Rattle.matcher.specs.Whole.{Blanked}
-use Rattle.matcher.specs.Filled.{held-in, Fit, Fillable, Filled}
-use Rattle.matcher.specs.Made.{fewer, body-trials, MadeOf}
+use Rattle.planes.specs.declared.join.Tally.{Tally}
+use Rattle.planes.specs.declared.fill.Source.the-variants.{Empty}
+use Rattle.planes.specs.Cells.{InRoom, Plane, Kept, on}
+use Rattle.planes.specs.Joined.{join-trials}
+use Rattle.planes.specs.Whole.{Blanked}
+use Rattle.planes.specs.Filled.{held-in, Fit, Fillable, Filled}
+use Rattle.planes.specs.Made.{fewer, body-trials, MadeOf}
 use Rattle.matcher.specs.Atoms.{node, head, inside}
 use Rattle.matcher.specs.Bodied.{Bodying, Bodied}
 use Rattle.matcher.specs.Steps.{Later, Begun, Owned}
-use Rattle.matcher.proofs.Planes.{Same, kept-then, kept-less, plane-on, plane-same, plane-flags, plane-kept}
-use Rattle.matcher.proofs.Relations.{any-same, sum-same, join-trials-same, joins-all, made-same, decide-level}
+use Rattle.planes.proofs.Planes.{Same, kept-then, kept-less, plane-on, plane-same, plane-flags, plane-kept}
+use Rattle.planes.proofs.Relations.{any-same, sum-same, join-trials-same, joins-all, made-same}
+use Rattle.matcher.proofs.Levels.{decide-level}
 use Rattle.matcher.proofs.Views.{told-count}
 use Rattle.matcher.proofs.Groups.{work-long, work-room}
 

@@ -8,7 +8,7 @@ use Rattle.pattern.specs.Bytes.{Bytes}
 use Rattle.pattern.specs.Syntax.{pattern, atom, body, Syntax, last, then, repeat, size, nodes}
 use Rattle.pattern.specs.Decision.{decide}
 use Rattle.pattern.specs.Decode.{blank, tree-of, decode}
-use Rattle.matcher.specs.Cells.{Plane}
+use Rattle.planes.specs.Cells.{Plane}
 
 -- the table is good: its tree is what it is read as
 pub record GoodTable (table : Bytes) : Type 0 where

@@ -3,7 +3,7 @@ use mathlib.Core.Path.{_≡_}
 use Prim.Native.Nat.{ℕ, suc, _+_, _*_, _<_}
 use Rattle.pattern.specs.Bytes.{Bytes}
 use Rattle.pattern.specs.Decision.{decide}
-use Rattle.matcher.specs.Cells.{Plane, Kept, Not}
+use Rattle.planes.specs.Cells.{Plane, Kept, Not}
 use Rattle.matcher.specs.Atoms.{atoms, node, head, inside, Work, Settled}
 
 -- the planes of all atoms after x are settled, and top is the first plane after those of the atoms

@@ -1,10 +1,3 @@
-pub mod Cells
-pub mod Budget
-pub mod Seek
-pub mod Joined
-pub mod Whole
-pub mod Filled
-pub mod Made
 pub mod Atoms
 pub mod Bodied
 pub mod Steps

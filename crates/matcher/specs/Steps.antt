@@ -8,10 +8,10 @@ use Rattle.pattern.specs.Syntax.{pattern, Syntax, last, then}
 use Rattle.pattern.specs.Decision.{decide}
 use Rattle.pattern.specs.Trials.{joins, repeats, own, trials}
 use Rattle.pattern.specs.Decode.{tree-of}
-use Rattle.matcher.specs.declared.join.Tally.{Tally}
-use Rattle.matcher.specs.Cells.{Plane, Kept, Not}
-use Rattle.matcher.specs.Budget.{Counted}
-use Rattle.matcher.specs.Made.{Making}
+use Rattle.planes.specs.declared.join.Tally.{Tally}
+use Rattle.planes.specs.Cells.{Plane, Kept, Not}
+use Rattle.planes.specs.Budget.{Counted}
+use Rattle.planes.specs.Made.{Making}
 use Rattle.matcher.specs.Atoms.{atoms, node, head, inside, Work, Settled}
 
 -- the planes between 2 x and top

@@ -5,16 +5,16 @@ ghost use Rattle.matcher.specs.Atoms.{atoms, Work};
 ghost use Rattle.matcher.specs.Bodied.{Bodying};
 ghost use Rattle.matcher.specs.Steps.{Begun, Owned, Following, Followed, Stepped, AllSettled};
 use crate::body::fill_body;
-use crate::cells::add;
-use crate::cells::blank;
-use crate::cells::holds;
-use crate::fill::Source;
-use crate::fill::fill;
-use crate::join::Tally;
-use crate::join::join;
-use crate::made::make;
 use crate::walk::after;
 use crate::walk::record_at;
+use planes::cells::add;
+use planes::cells::blank;
+use planes::cells::holds;
+use planes::fill::Source;
+use planes::fill::fill;
+use planes::join::Tally;
+use planes::join::join;
+use planes::made::make;
 
 fn lesser(a: usize, b: usize) -> usize
     ensures { λ r. ⌜ r ≡ min a b ⌝ }

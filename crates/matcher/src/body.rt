@@ -4,15 +4,15 @@ ghost use Rattle.pattern.specs.Numbers.{codes-kind, literal-kind};
 ghost use Rattle.pattern.specs.Decode.{layout, its};
 ghost use Rattle.matcher.specs.Atoms.{GoodTable};
 ghost use Rattle.matcher.specs.Bodied.{Bodying, Bodied};
-use crate::cells::add;
-use crate::cells::blank;
-use crate::fill::Source;
-use crate::fill::fill;
 use crate::walk::branch_end;
 use crate::walk::record_at;
 use pattern::kind;
 use pattern::limits::HEADER_SIZE;
 use pattern::limits::RECORD_SIZE;
+use planes::cells::add;
+use planes::cells::blank;
+use planes::fill::Source;
+use planes::fill::fill;
 
 // Where the pool begins.
 fn pool(table: &[u8]) -> usize

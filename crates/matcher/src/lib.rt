@@ -6,20 +6,15 @@ ghost use Rattle.matcher.specs.Answered.{answer-of, outcome-of, Running}
 
 mod atom;
 mod body;
-mod cells;
-mod clear;
-mod fill;
-mod join;
-mod made;
 mod parts;
 mod walk;
 
 use atom::settle_all;
-use cells::holds;
-use clear::clear;
 use parts::write_parts;
 use pattern::limits::LABEL_LIMIT;
 use pattern::refusal;
+use planes::cells::holds;
+use planes::clear::clear;
 use table::Tested;
 
 // The answer to a match: a refusal by its name in the paper, or the verdict with the trials made.

@@ -4,11 +4,11 @@ ghost use Prim.Native.Nat.{suc, _+_, _-_, _*_, _/_, _%_, _<_, _≤_};
 ghost use lib.ListN.{length, set};
 ghost use Rattle.pattern.specs.Decision.{trial};
 ghost use Rattle.pattern.specs.Parts.{longest};
-ghost use Rattle.matcher.specs.Cells.{on, Readable};
+ghost use Rattle.planes.specs.Cells.{on, Readable};
 ghost use Rattle.matcher.specs.Parted.{Parting, Parted};
-use crate::cells::byte;
 use crate::walk::after;
 use crate::walk::record_at;
+use planes::cells::byte;
 
 // The last m from which right reaches n, with left on i to m.
 fn last_end(scratch: &[u8], w: usize, left: usize, right: usize, i: usize, n: usize) -> usize

@@ -6,7 +6,7 @@ use borrow.Author.Needs.{needs}
 use lib.ListN.{length}
 use denote.Ref.{now}
 use Rattle.table.specs.declared.Record.{Record}
-use Rattle.matcher.specs.Filled.{Fit}
+use Rattle.planes.specs.Filled.{Fit}
 use Rattle.matcher.proofs.Views.{told-literal}
 use Rattle.matcher.proofs.Groups.{body-fill, body-codes, body-empty, body-literal}
 use Rattle.matcher.proofs.body.fill_body.Statement.{statement}

@@ -6,8 +6,8 @@ use lib.Bits.{bitAnd}
 use denote.Ref.{now}
 use Rattle.pattern.specs.Decision.{trial}
 use Rattle.pattern.specs.Parts.{longest}
-use Rattle.matcher.specs.Cells.{on}
-use Rattle.matcher.proofs.Planes.{trial-hit, trial-miss}
+use Rattle.planes.specs.Cells.{on}
+use Rattle.planes.proofs.Planes.{trial-hit, trial-miss}
 use Rattle.matcher.proofs.Ends.{longest-none, longest-hit, longest-miss}
 use Rattle.matcher.proofs.parts.last_end.Statement.{statement}
 use Rattle.matcher.proofs.parts.last_end.Tie as tie

@@ -1,0 +1,189 @@
+-- The loops of a join, in plain values: what holds where the stretches that end at j and begin before i, or those that end before j, are stored. Assumes nothing.
+use mathlib.Core.Path.{_≡_, refl, sym, ap, _∙_}
+use mathlib.Core.Bool.{Bool, true, false}
+use mathlib.Core.List.{List}
+use mathlib.Core.Logic.{⊎-elim}
+use Prim.Native.Nat.{ℕ, suc, _+_, _-_, _≤_, _<_}
+use native.Mathlib.Nat.{eq-or-lt-of-le}
+use native.Mathlib.Omega.{arith}
+use lib.ListN.{length}
+use Rattle.pattern.specs.Decision.{trial, join, any}
+use Rattle.pattern.specs.Trials.{tries}
+use Rattle.planes.specs.declared.join.Search.{Search}
+use Rattle.planes.specs.declared.join.Tally.{Tally}
+use Rattle.planes.specs.Cells.{Tells, Plane, Kept, Not, on, bitOf, marked}
+use Rattle.planes.specs.Seek.{seek, trialsOf, stoppedOf, foundOf}
+use Rattle.planes.specs.Whole.{Blanked}
+use Rattle.planes.specs.Joined.{column-trials, join-trials, Ready, Vacant, Off, Columned, Joined}
+use Rattle.planes.proofs.Planes.{Same, Beside, mark-long, mark-tells, mark-kept, kept-all, kept-then, kept-less, tells-same, tells-kept, plane-same, on-kept, read-kept}
+use Rattle.planes.proofs.Relations.{tries-same, any-same, trial-same, join-same, join-trials-same, column-same}
+use Rattle.planes.proofs.Counting.{Counting, count-start, count-step, count-stop, count-end, counted-over, counted-past}
+use Rattle.planes.proofs.Seeking.{Says, seek-says}
+
+-- a join that could be made still can
+ready-kept : {s s′ : List ℕ} {w left right out N : ℕ} → length s′ ≡ length s → Kept s s′ w N (Not out) → Ready s w left right out → Ready s′ w left right out
+ready-kept e k h = record {
+  wide = h .wide;
+  from-left = read-kept e k (λ i j. h .not-left) (h .from-left);
+  from-right = read-kept e k (λ i j. h .not-right) (h .from-right);
+  into = rw e (h .into);
+  not-left = h .not-left;
+  not-right = h .not-right;
+}
+
+pub record ColumnAt (s₀ : List ℕ) (w left right out j budget trials : ℕ) (s : List ℕ) (spent i : ℕ) : Type 0 where
+  pub counting : Counting (λ a. tries (suc j - a) (trial (on s₀ w left) (on s₀ w right) a j)) (suc j) budget trials spent i
+  pub long : length s ≡ length s₀
+  pub done : (a : ℕ) → a < i → Tells s w out a j (join (on s₀ w left) (on s₀ w right) a j)
+  pub ahead : (a : ℕ) → i ≤ a → a ≤ j → Tells s w out a j false
+  pub kept : Kept s₀ s w (out + 1) (Off out j)
+
+module _ (s₀ : List ℕ) (w left right out j budget trials : ℕ) where
+  pub column-start : trials ≤ budget → Vacant s₀ w out j → ColumnAt s₀ w left right out j budget trials s₀ trials 0
+  column-start h v = record {
+    counting = count-start _ (suc j) budget trials h;
+    long = refl;
+    done = λ a l. absurd (omega arith);
+    ahead = λ a l m. v .none a m;
+    kept = kept-all s₀ w (out + 1) (Off out j);
+  }
+
+  module _ (hj : j < w) (ok : Ready s₀ w left right out) (s : List ℕ) (spent i : ℕ) (inv : ColumnAt s₀ w left right out j budget trials s spent i) where
+    others : Kept s₀ s w (out + 1) (Not out)
+    others = kept-less (out + 1) (out + 1) (omega arith) (inv .kept) (λ q a b n e. absurd (n e))
+
+    pub column-ready : Ready s w left right out
+    column-ready = ready-kept (inv .long) others ok
+
+    pub column-end : j < i → Columned s₀ s w left right out j budget trials record { trials = spent; stopped = false }
+    unfolding column-trials
+    column-end h = record {
+      counted = count-end _ (suc j) budget trials spent i (inv .counting) (omega arith);
+      whole = λ _ a l. inv .done a (omega arith);
+      kept = inv .kept;
+    }
+
+    module _ (more : i ≤ j) (r : Search) (got : r ≡ seek (trial (on s w left) (on s w right) i j) i budget (suc j - i) spent) where
+      same-trial : (d : ℕ) → d < suc j - i → trial (on s w left) (on s w right) i j d ≡ trial (on s₀ w left) (on s₀ w right) i j d
+      same-trial = trial-same w _ _ _ _ (on-kept others (λ a b. ok .not-left)) (on-kept others (λ a b. ok .not-right)) i j more hj
+
+      tried : tries (suc j - i) (trial (on s w left) (on s w right) i j) ≡ tries (suc j - i) (trial (on s₀ w left) (on s₀ w right) i j)
+      tried = tries-same _ _ (suc j - i) same-trial
+
+      found : any (suc j - i) (trial (on s w left) (on s w right) i j) ≡ join (on s₀ w left) (on s₀ w right) i j
+      unfolding join
+      found = any-same _ _ (suc j - i) same-trial
+
+      says : Says budget (spent + tries (suc j - i) (trial (on s w left) (on s w right) i j)) (any (suc j - i) (trial (on s w left) (on s w right) i j)) r
+      says = rw got (seek-says (trial (on s w left) (on s w right) i j) i budget (suc j - i) spent (inv .counting .within))
+
+      pub column-stop : stoppedOf r ≡ true → Columned s₀ s w left right out j budget trials record { trials = budget; stopped = true }
+      unfolding column-trials
+      column-stop e =
+          let past = counted-past (count-stop _ (suc j) budget trials spent i (inv .counting) (omega arith) _ tried _ _ (says .counted) e) e in
+          record { counted = counted-over past; whole = λ x. absurd (let z : _≡_ {A = Bool} true false = x in let y : _≡_ {A = ℕ} 0 1 = cc in omega arith); kept = inv .kept }
+
+      column-step : stoppedOf r ≡ false → (s′ : List ℕ) → length s′ ≡ length s → Tells s′ w out i j (foundOf r) → Kept s s′ w (out + 1) (Beside out i j)
+          → ColumnAt s₀ w left right out j budget trials s′ (trialsOf budget r) (i + 1)
+      column-step e s′ len here k =
+          let other : (a : ℕ) → a ≤ j → (a ≡ i → ⊥) → (b : Bool) → Tells s w out a j b → Tells s′ w out a j b
+          = λ a l n b. tells-kept k l hj (λ _. (λ y _. n y, λ y z. omega arith), λ _. (λ y z. omega arith, λ _ z. n z)) in
+          record {
+            counting = count-step _ (suc j) budget trials spent i (inv .counting) (omega arith) _ tried _ _ (says .counted) e;
+            long = len ∙ inv .long;
+            done = λ a l. ⊎-elim (λ z. rw z (tells-same here (says .finds e ∙ found))) (λ z. other a (omega arith) (λ y. omega arith) _ (inv .done a z)) (eq-or-lt-of-le (let y : a ≤ i = omega arith in y));
+            ahead = λ a l m. other a m (λ y. omega arith) _ (inv .ahead a (omega arith) m);
+            kept = kept-then (inv .kept) k (λ q a b n. n) (λ q a b n x. (λ y z. n x .0 (omega arith) z, λ y z. n x .1 (omega arith) y));
+          }
+
+      pub column-found : stoppedOf r ≡ false → foundOf r ≡ true → ColumnAt s₀ w left right out j budget trials (marked s w out i j (bitOf true)) (trialsOf budget r) (i + 1)
+      column-found e f =
+          column-step e (marked s w out i j (bitOf true)) (mark-long w out i j s (bitOf true)) (tells-same (mark-tells w out i j more hj s true (column-ready .into)) (sym f)) (mark-kept w out i j more hj s true)
+
+      pub column-missing : stoppedOf r ≡ false → foundOf r ≡ false → ColumnAt s₀ w left right out j budget trials s (trialsOf budget r) (i + 1)
+      column-missing e f = column-step e s refl (tells-same (inv .ahead i (omega arith) more) (sym f)) (kept-all _ _ _ _)
+
+-- ---- all ends
+
+pub record PlaneAt (s₀ : List ℕ) (w left right out budget trials : ℕ) (s : List ℕ) (spent j : ℕ) : Type 0 where
+  pub counting : Counting (column-trials (on s₀ w left) (on s₀ w right)) w budget trials spent j
+  pub long : length s ≡ length s₀
+  pub done : (a b : ℕ) → a ≤ b → b < j → Tells s w out a b (join (on s₀ w left) (on s₀ w right) a b)
+  pub ahead : (a b : ℕ) → a ≤ b → j ≤ b → b < w → Tells s w out a b false
+  pub kept : Kept s₀ s w (out + 1) (Not out)
+
+module _ (s₀ : List ℕ) (w left right out budget trials : ℕ) where
+  pub plane-start : trials ≤ budget → Plane s₀ w out (λ i j. false) → PlaneAt s₀ w left right out budget trials s₀ trials 0
+  plane-start h v = record {
+    counting = count-start _ w budget trials h;
+    long = refl;
+    done = λ a b l m. absurd (omega arith);
+    ahead = λ a b l m n. v .holds a b l n;
+    kept = kept-all s₀ w (out + 1) (Not out);
+  }
+
+  module _ (ok : Ready s₀ w left right out) (s : List ℕ) (spent j : ℕ) (inv : PlaneAt s₀ w left right out budget trials s spent j) where
+    pub plane-ready : Ready s w left right out
+    plane-ready = ready-kept (inv .long) (inv .kept) ok
+
+    pub plane-vacant : j < w → Vacant s w out j
+    plane-vacant more = record { none = λ a l. inv .ahead a j l (omega arith) more }
+
+    pub plane-end : w ≤ j → Joined s₀ s w left right out budget trials record { trials = spent; stopped = false }
+    unfolding join-trials
+    plane-end h = record {
+      counted = count-end _ w budget trials spent j (inv .counting) h;
+      whole = λ _. record { holds = λ a b l m. inv .done a b l (omega arith) };
+      kept = inv .kept;
+    }
+
+    module _ (more : j < w) (s′ : List ℕ) (r : Tally) (got : Columned s s′ w left right out j budget spent r) where
+      left-same : Same w (on s w left) (on s₀ w left)
+      left-same = on-kept (inv .kept) (λ a b. ok .not-left)
+
+      right-same : Same w (on s w right) (on s₀ w right)
+      right-same = on-kept (inv .kept) (λ a b. ok .not-right)
+
+      columns-tried : column-trials (on s w left) (on s w right) j ≡ column-trials (on s₀ w left) (on s₀ w right) j
+      columns-tried = column-same w _ _ _ _ left-same right-same j more
+
+      all-kept : Kept s₀ s′ w (out + 1) (Not out)
+      all-kept = kept-then (inv .kept) (got .kept) (λ q a b n. n) (λ q a b n x. absurd (n x))
+
+      pub plane-stop : r .stopped ≡ true → Joined s₀ s′ w left right out budget trials r
+      unfolding join-trials
+      plane-stop e = record {
+        counted = count-stop _ w budget trials spent j (inv .counting) more _ columns-tried _ _ (got .counted) e;
+        whole = λ x. absurd (let z : _≡_ {A = ℕ} 0 1 = cc in omega arith);
+        kept = all-kept;
+      }
+
+      other : (a b : ℕ) → a ≤ b → b < w → (b ≡ j → ⊥) → (x : Bool) → Tells s w out a b x → Tells s′ w out a b x
+      other a b l m n x = tells-kept (got .kept) l m (λ _. (λ _ y. n y, λ y z. omega arith), λ _. (λ y z. omega arith, λ _ y. n y))
+
+      pub plane-step : length s′ ≡ length s → r .stopped ≡ false → PlaneAt s₀ w left right out budget trials s′ (r .trials) (j + 1)
+      plane-step len e = record {
+        counting = count-step _ w budget trials spent j (inv .counting) more _ columns-tried _ _ (got .counted) e;
+        long = len ∙ inv .long;
+        done = λ a b l m. ⊎-elim
+            (λ z. let y : a ≤ j = omega arith in rw z (tells-same (got .whole e a y) (join-same w _ _ _ _ left-same right-same a j y more)))
+            (λ z. other a b l (omega arith) (λ y. omega arith) _ (inv .done a b l z))
+            (eq-or-lt-of-le (let y : b ≤ j = omega arith in y));
+        ahead = λ a b l m n. other a b l n (λ y. omega arith) _ (inv .ahead a b l (omega arith) n);
+        kept = all-kept;
+      }
+
+-- a join into an emptied plane is one into the plane as it was
+module _ {s₀ s₁ : List ℕ} {w left right out : ℕ} (ok : Ready s₀ w left right out) (b : Blanked s₀ s₁ w out) where
+  pub join-ready : length s₁ ≡ length s₀ → Ready s₁ w left right out
+  join-ready e = ready-kept e (b .kept) ok
+
+  pub join-blank : {s : List ℕ} {budget trials : ℕ} {r : Tally} → Joined s₁ s w left right out budget trials r → Joined s₀ s w left right out budget trials r
+  join-blank h =
+      let l = on-kept (b .kept) (λ i j. ok .not-left) in
+      let r = on-kept (b .kept) (λ i j. ok .not-right) in
+      record {
+        counted = rw (← join-trials-same w _ _ _ _ l r) (h .counted);
+        whole = λ e. plane-same (h .whole e) (join-same w _ _ _ _ l r);
+        kept = kept-then (b .kept) (h .kept) (λ q i j n. n) (λ q i j n. n);
+      }

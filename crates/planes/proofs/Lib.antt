@@ -1,0 +1,9 @@
+pub mod Planes
+pub mod Passes
+pub mod Counting
+pub mod Relations
+pub mod Seeking
+pub mod Joining
+pub mod Slices
+pub mod Filling
+pub mod Bodies

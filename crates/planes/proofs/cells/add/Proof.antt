@@ -1,0 +1,77 @@
+-- `planes::cells::add` meets its contract: the invariant is `PassAt`. Assumes nothing.
+use mathlib.Core.Path.{ap₂}
+use Prim.Native.Nat.{_+_, _-_, _<_}
+use native.Mathlib.Omega.{arith}
+use lib.Bits.{bitOr}
+use lib.ListN.{length}
+use denote.Ref.{now}
+use Rattle.planes.specs.Cells.{at}
+use Rattle.planes.proofs.Passes.{PassAt, pass-start, pass-len, pass-in, pass-same, pass-step, either, add-end}
+use Rattle.planes.proofs.cells.add.Statement.{statement}
+use Rattle.planes.proofs.cells.add.Tie as tie
+
+abbrev Inv-loop : tie.InvT-loop
+Inv-loop scratch₀ w from out a b len k₀ scratch k = PassAt scratch₀ w out (either scratch₀ w from out) scratch k
+
+abbrev μ-loop : tie.MeasureT-loop
+μ-loop scratch₀ w from out a b len k₀ scratch k = len - k
+
+place-requires : tie.Need-place-requires Inv-loop μ-loop
+place-requires c κs = (c .before .pre .wide, (c .before .pre .wide, omega (arith, c .before .pre .added .room)))
+
+place-requires-2 : tie.Need-place-requires-2 Inv-loop μ-loop
+place-requires-2 c κs = (c .before .before .pre .wide, (c .before .before .pre .wide, omega (arith, c .before .before .pre .into .room)))
+
+mul-len : tie.Need-mul-len Inv-loop μ-loop
+mul-len c = let s = c .before .before .before in omega (arith, pass-len (now (s .args .scratch)) (s .args .w) (s .args .out) (s .pre .into .room))
+
+loop-holds : tie.Need-loop-holds Inv-loop μ-loop
+loop-holds c = pass-start _ _ _ _
+
+-- where the cells of a turn lie
+read : (c : tie.In-loop Inv-loop μ-loop) → let s = c .before .before .before .before .before in at (s .args .w) (s .args .from) 0 0 + c .before .loop .k < length (c .before .loop .scratch)
+read c = let p = c .before .before .before .before .before .pre in pass-in _ _ _ _ _ _ (c .before .loop .inv) (p .wide) (c .loop-test .taken) _ (p .added .room)
+
+written : (c : tie.In-loop Inv-loop μ-loop) → let s = c .before .before .before .before .before in at (s .args .w) (s .args .out) 0 0 + c .before .loop .k < length (c .before .loop .scratch)
+written c = let p = c .before .before .before .before .before .pre in pass-in _ _ _ _ _ _ (c .before .loop .inv) (p .wide) (c .loop-test .taken) _ (p .into .room)
+
+add-scratch : tie.Need-add-scratch Inv-loop μ-loop
+add-scratch c = omega (arith, read c)
+
+slice-read-scratch : tie.Need-slice-read-scratch Inv-loop μ-loop
+slice-read-scratch c = omega (arith, read (c .before))
+
+add-scratch-2 : tie.Need-add-scratch-2 Inv-loop μ-loop
+add-scratch-2 c = omega (arith, written (c .before))
+
+slice-read-scratch-2 : tie.Need-slice-read-scratch-2 Inv-loop μ-loop
+slice-read-scratch-2 c = omega (arith, written (c .before .before))
+
+add-scratch-3 : tie.Need-add-scratch-3 Inv-loop μ-loop
+add-scratch-3 c = omega (arith, written (c .before .before))
+
+slice-write-scratch : tie.Need-slice-write-scratch Inv-loop μ-loop
+slice-write-scratch c = omega (arith, written (c .before .before))
+
+add-k : tie.Need-add-k Inv-loop μ-loop
+add-k c = omega arith
+
+loop-less : tie.Need-loop-less Inv-loop μ-loop
+loop-less c = omega arith
+
+loop-again : tie.Need-loop-again Inv-loop μ-loop
+loop-again c =
+    let p = c .before .before .before .before .before .before .before .pre in
+    let same = pass-same _ _ _ _ _ _ (c .before .before .before .loop .inv) (p .wide) (c .before .before .loop-test .taken) in
+    rw (c .before .before .before .before .place2 .ensures, c .before .before .before .before .before .place .ensures)
+    (pass-step _ _ _ _ _ _ (c .before .before .before .loop .inv) (p .wide) (c .before .before .loop-test .taken) (p .into .room) _ (ap₂ bitOr (same _) (same _)))
+
+same-length : tie.Need-same-length Inv-loop μ-loop
+same-length c = c .before .loop .inv .long
+
+returns : tie.Need-returns Inv-loop μ-loop
+returns c = add-end _ _ _ _ (c .before .before .before .before .before .pre) _ _ (c .before .loop .inv) (c .loop-test .left)
+
+pub add-spec : {M : Type 1} → statement M
+add-spec =
+    tie.close (tie.spec Inv-loop μ-loop place-requires place-requires-2 mul-len loop-holds add-scratch slice-read-scratch add-scratch-2 slice-read-scratch-2 add-scratch-3 slice-write-scratch add-k loop-less loop-again same-length returns)

@@ -1,0 +1,49 @@
+-- `planes::fill::fill` meets its contract: the invariant is `FillAt`. Assumes nothing.
+use mathlib.Core.Path.{_∙_}
+use Prim.Native.Nat.{_-_}
+use native.Mathlib.Omega.{arith}
+use Rattle.planes.proofs.Filling.{FillAt, fill-start, fill-end, fill-step}
+use Rattle.planes.proofs.fill.fill.Statement.{statement}
+use Rattle.planes.proofs.fill.fill.Tie as tie
+
+abbrev Inv-loop : tie.InvT-loop
+Inv-loop table label scratch₀ w source out n j₀ scratch j = FillAt table label scratch₀ w source out scratch j
+
+abbrev μ-loop : tie.MeasureT-loop
+μ-loop table label scratch₀ w source out n j₀ scratch j = w - j
+
+blank-requires : tie.Need-blank-requires Inv-loop μ-loop
+blank-requires c κs = (omega (arith, c .before .before .before .before .pre .wide), c .before .before .before .before .pre .into)
+
+width-requires : tie.Need-width-requires Inv-loop μ-loop
+width-requires c κs = tt
+
+loop-holds : tie.Need-loop-holds Inv-loop μ-loop
+loop-holds c = rw (c .width .ensures) (fill-start _ _ _ _ _ _ _ (c .before .before .before .before .before .before .before .before .pre) (c .before .before .before .blank .kept .0) (c .before .before .before .blank .ensures))
+
+sub-i : tie.Need-sub-i Inv-loop μ-loop
+sub-i c = omega (arith, c .before .loop .inv .from)
+
+value-requires : tie.Need-value-requires Inv-loop μ-loop
+value-requires c κs = (omega (arith, c .before .before .loop .inv .from, c .before .before .before .before .before .before .before .before .before .before .before .pre .wide), c .before .before .before .before .before .before .before .before .before .before .before .pre .fit)
+
+mark-requires : tie.Need-mark-requires Inv-loop μ-loop
+mark-requires c κs = (omega arith, (c .before .before .loop-test .taken, rw (c .before .before .before .loop .inv .long ∙ c .before .before .before .before .before .before .before .blank .kept .0) (c .before .before .before .before .before .before .before .before .before .before .before .before .pre .into)))
+
+add-j : tie.Need-add-j Inv-loop μ-loop
+add-j c = omega arith
+
+loop-less : tie.Need-loop-less Inv-loop μ-loop
+loop-less c = omega arith
+
+loop-again : tie.Need-loop-again Inv-loop μ-loop
+loop-again c = rw (c .before .before .mark .ensures) (fill-step _ _ _ _ _ _ _ (c .before .before .before .before .before .before .before .before .before .before .before .before .before .before .before .pre) (c .before .before .before .before .before .before .before .before .before .before .blank .kept .0) (c .before .before .before .before .before .before .before .before .before .before .blank .ensures) _ _ (c .before .before .before .before .before .before .loop .inv) (c .before .before .before .before .before .loop-test .taken) _ (omega (arith, c .before .before .before .before .before .before .loop .inv .from)) _ (c .before .before .before .value .ensures))
+
+same-length : tie.Need-same-length Inv-loop μ-loop
+same-length c = c .before .loop .inv .long ∙ c .before .before .before .before .before .blank .kept .0
+
+returns : tie.Need-returns Inv-loop μ-loop
+returns c = fill-end _ _ _ _ _ _ _ (c .before .before .before .before .before .before .before .before .before .before .pre) (c .before .before .before .before .before .blank .kept .0) (c .before .before .before .before .before .blank .ensures) _ _ (c .before .loop .inv) (c .loop-test .left)
+
+pub fill-spec : {M : Type 1} → statement M
+fill-spec = tie.close (tie.spec Inv-loop μ-loop blank-requires width-requires loop-holds sub-i value-requires mark-requires add-j loop-less loop-again same-length returns)

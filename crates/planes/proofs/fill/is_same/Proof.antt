@@ -1,0 +1,64 @@
+-- `planes::fill::is_same` meets its contract: from each turn on the two stretches are the same just when the whole ones are. Assumes nothing.
+use mathlib.Core.Path.{_≡_, sym, ap₂, _∙_}
+use Prim.Native.Nat.{ℕ, _+_, _-_, _≤_}
+use native.Mathlib.Omega.{arith}
+use lib.Seq.{slice}
+use denote.Ref.{now}
+use Rattle.pattern.specs.Bytes.{same}
+use Rattle.planes.proofs.Slices.{same-end, same-differ, same-more}
+use Rattle.planes.proofs.fill.is_same.Statement.{statement}
+use Rattle.planes.proofs.fill.is_same.Tie as tie
+
+abbrev Inv-loop : tie.InvT-loop
+Inv-loop label i table from len k₀ k =
+    (k ≤ len) × (same (slice i (i + len) label) (slice from (from + len) table) ≡ same (slice (i + k) (i + len) label) (slice (from + k) (from + len) table))
+
+abbrev μ-loop : tie.MeasureT-loop
+μ-loop label i table from len k₀ k = len - k
+
+loop-holds : tie.Need-loop-holds Inv-loop μ-loop
+loop-holds c =
+    let a = c .args in
+    let x : a .i ≡ a .i + 0 = omega arith in
+    let y : a .from ≡ a .from + 0 = omega arith in
+    (omega arith, ap₂ (λ (u v : ℕ). same (slice u (a .i + a .len) (now (a .label))) (slice v (a .from + a .len) (now (a .table)))) x y)
+
+add-if1 : tie.Need-add-if1 Inv-loop μ-loop
+add-if1 c = omega arith
+
+shared-slice-read-if1 : tie.Need-shared-slice-read-if1 Inv-loop μ-loop
+shared-slice-read-if1 c = omega arith
+
+add-if1-2 : tie.Need-add-if1-2 Inv-loop μ-loop
+add-if1-2 c = omega arith
+
+shared-slice-read-if1-2 : tie.Need-shared-slice-read-if1-2 Inv-loop μ-loop
+shared-slice-read-if1-2 c = omega arith
+
+returns : tie.Need-returns Inv-loop μ-loop
+returns c =
+    let p = c .before .before .before .before .before .pre in
+    let l = c .before .before .before .before .loop in
+    sym (l .inv .1 ∙ same-differ _ _ _ _ _ _ (p .0) (p .1) (l .k) (omega arith) (omega arith) (c .if1 .taken))
+
+add-k : tie.Need-add-k Inv-loop μ-loop
+add-k c = omega arith
+
+loop-less : tie.Need-loop-less Inv-loop μ-loop
+loop-less c = omega arith
+
+loop-again : tie.Need-loop-again Inv-loop μ-loop
+loop-again c =
+    let p = c .before .before .before .before .before .pre in
+    let l = c .before .before .before .before .loop in
+    (omega arith, l .inv .1 ∙ same-more _ _ _ _ _ _ (p .0) (p .1) (l .k) (omega arith) (omega arith) (c .if1 .left))
+
+returns-2 : tie.Need-returns-2 Inv-loop μ-loop
+returns-2 c =
+    let p = c .before .before .pre in
+    let l = c .before .loop in
+    sym (l .inv .1 ∙ same-end _ _ _ _ _ _ (p .0) (p .1) (l .k) (omega arith) (omega arith))
+
+pub is-same-spec : {M : Type 1} → statement M
+is-same-spec =
+    tie.close (tie.spec Inv-loop μ-loop loop-holds add-if1 shared-slice-read-if1 add-if1-2 shared-slice-read-if1-2 returns add-k loop-less loop-again returns-2)

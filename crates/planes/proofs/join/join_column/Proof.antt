@@ -1,0 +1,71 @@
+-- `planes::join::join_column` meets its contract. The invariant of its loop is `ColumnAt`, and the steps are laws of ``Joining``. Assumes nothing.
+use mathlib.Core.Path.{sym, _∙_}
+use mathlib.Core.Logic.{⊎-elim}
+use Prim.Native.Nat.{suc, _-_}
+use native.Mathlib.Omega.{arith}
+use borrow.Author.Needs.{needs}
+use Rattle.planes.proofs.Joining.{ColumnAt, column-start, column-ready, column-end, column-stop, column-found, column-missing}
+use Rattle.planes.proofs.join.join_column.Statement.{statement}
+use Rattle.planes.proofs.join.join_column.Tie as tie
+
+abbrev Inv-loop : tie.InvT-loop
+Inv-loop scratch₀ w left right out j budget trials spent₀ i₀ scratch spent i = ColumnAt scratch₀ w left right out j budget trials scratch spent i
+
+abbrev μ-loop : tie.MeasureT-loop
+μ-loop scratch₀ w left right out j budget trials spent₀ i₀ scratch spent i = suc j - i
+
+loop-holds : tie.Need-loop-holds Inv-loop μ-loop
+loop-holds c = column-start _ _ _ _ _ _ _ _ (c .before .pre .1 .0) (c .before .pre .1 .1 .1)
+
+search-end-requires : tie.Need-search-end-requires Inv-loop μ-loop
+search-end-requires c κs =
+    let p = c .before .before .before .before .pre in
+    let l = c .before .before .loop in
+    let ok = column-ready _ _ _ _ _ _ _ _ (p .0) (p .1 .1 .0) _ _ _ (l .inv) in
+    (c .before .loop-test .taken, (p .0, (l .inv .counting .within, (ok .from-left, ok .from-right))))
+
+is-stopped-requires : tie.Need-is-stopped-requires Inv-loop μ-loop
+is-stopped-requires c κs = search needs
+
+same-length : tie.Need-same-length Inv-loop μ-loop
+same-length c = c .before .before .before .before .before .loop .inv .long
+
+returns : tie.Need-returns Inv-loop μ-loop
+returns c =
+    let p = c .before .before .before .before .before .before .before .pre in
+    column-stop _ _ _ _ _ _ _ _ (p .0) (p .1 .1 .0) _ _ _ (c .before .before .before .before .before .loop .inv) (c .before .before .before .before .loop-test .taken) _ (c .before .before .search-end .ensures) (sym (c .before .is-stopped .ensures) ∙ c .if1 .taken)
+
+trials-of-requires : tie.Need-trials-of-requires Inv-loop μ-loop
+trials-of-requires c κs = search needs
+
+is-found-requires : tie.Need-is-found-requires Inv-loop μ-loop
+is-found-requires c κs = search needs
+
+mark-requires : tie.Need-mark-requires Inv-loop μ-loop
+mark-requires c κs = search needs
+
+add-i : tie.Need-add-i Inv-loop μ-loop
+add-i c = omega arith
+
+loop-less : tie.Need-loop-less Inv-loop μ-loop
+loop-less c = omega arith
+
+loop-again : tie.Need-loop-again Inv-loop μ-loop
+loop-again c =
+    let p = c .before .before .before .before .before .before .before .before .before .before .pre in
+    ⊎-elim
+    (λ w. rw (w .5, w .2 .ensures, c .before .before .trials-of .ensures) (column-found _ _ _ _ _ _ _ _ (p .0) (p .1 .1 .0) _ _ _ (c .before .before .before .before .before .before .before .before .loop .inv) (c .before .before .before .before .before .before .before .loop-test .taken) _ (c .before .before .before .before .before .search-end .ensures) (sym (c .before .before .before .before .is-stopped .ensures) ∙ c .before .before .before .if1 .left) (sym (c .before .is-found .ensures) ∙ w .0 .taken)))
+    (λ w. rw (w .1, c .before .before .trials-of .ensures) (column-missing _ _ _ _ _ _ _ _ (p .0) (p .1 .1 .0) _ _ _ (c .before .before .before .before .before .before .before .before .loop .inv) (c .before .before .before .before .before .before .before .loop-test .taken) _ (c .before .before .before .before .before .search-end .ensures) (sym (c .before .before .before .before .is-stopped .ensures) ∙ c .before .before .before .if1 .left) (sym (c .before .is-found .ensures) ∙ w .0 .left)))
+    (c .if2 .came)
+
+same-length-2 : tie.Need-same-length-2 Inv-loop μ-loop
+same-length-2 c = c .before .loop .inv .long
+
+returns-2 : tie.Need-returns-2 Inv-loop μ-loop
+returns-2 c =
+    let p = c .before .before .before .pre in
+    column-end _ _ _ _ _ _ _ _ (p .0) (p .1 .1 .0) _ _ _ (c .before .loop .inv) (c .loop-test .left)
+
+pub join-column-spec : {M : Type 1} → statement M
+join-column-spec =
+    tie.close (tie.spec Inv-loop μ-loop loop-holds search-end-requires is-stopped-requires same-length returns trials-of-requires is-found-requires mark-requires add-i loop-less loop-again same-length-2 returns-2)

@@ -1,0 +1,71 @@
+-- `planes::made::make` meets its contract: the invariant is `MakeAt`. Assumes nothing.
+use mathlib.Core.Path.{_≡_, _∙_}
+use Prim.Native.Nat.{_-_}
+use native.Mathlib.Omega.{arith}
+use Rattle.planes.proofs.Bodies.{MakeAt, make-few, make-start, make-gather, make-gathered, make-ready, make-end, make-stop, make-step}
+use Rattle.planes.proofs.made.make.Statement.{statement}
+use Rattle.planes.proofs.made.make.Tie as tie
+
+abbrev Inv-loop : tie.InvT-loop
+Inv-loop scratch₀ w top out low times budget trials spent₀ from₀ to₀ k₀ scratch spent from to k =
+    MakeAt scratch₀ w top out low times budget trials scratch spent from to k k
+
+abbrev μ-loop : tie.MeasureT-loop
+μ-loop scratch₀ w top out low times budget trials spent₀ from₀ to₀ k₀ scratch spent from to k = times - k
+
+add-from : tie.Need-add-from Inv-loop μ-loop
+add-from c = omega (arith, make-few _ _ _ _ 0 0 0 0 (c .before .pre .1))
+
+add-to : tie.Need-add-to Inv-loop μ-loop
+add-to c = omega (arith, make-few _ _ _ _ 0 0 0 0 (c .before .pre .1))
+
+loop-holds : tie.Need-loop-holds Inv-loop μ-loop
+loop-holds c = make-start _ _ _ _ _ _ _ _ (c .before .pre .1) (c .before .pre .0)
+
+gather-requires : tie.Need-gather-requires Inv-loop μ-loop
+gather-requires c κs = make-gather _ _ _ _ _ _ _ _ (c .before .before .before .before .pre .1) _ _ _ _ _ (c .before .before .loop .inv)
+
+join-requires : tie.Need-join-requires Inv-loop μ-loop
+join-requires c κs =
+    let p = c .before .before .before .before .before .before .before .before .pre .1 in
+    let g = make-gathered _ _ _ _ _ _ _ _ p _ _ _ _ _ (c .before .before .before .before .before .before .loop .inv) _ (c .before .before .before .gather .kept .0) (c .before .before .before .gather .ensures) in
+    (g .counting .within, make-ready _ _ _ _ _ _ _ _ p _ _ _ _ _ g)
+
+same-length : tie.Need-same-length Inv-loop μ-loop
+same-length c = c .before .before .before .join .kept .0 ∙ c .before .before .before .before .before .before .before .gather .kept .0 ∙ c .before .before .before .before .before .before .before .before .before .before .loop .inv .long
+
+returns : tie.Need-returns Inv-loop μ-loop
+returns c =
+    let p = c .before .before .before .before .before .before .before .before .before .before .before .before .pre .1 in
+    let g = make-gathered _ _ _ _ _ _ _ _ p _ _ _ _ _ (c .before .before .before .before .before .before .before .before .before .before .loop .inv) _ (c .before .before .before .before .before .before .before .gather .kept .0) (c .before .before .before .before .before .before .before .gather .ensures) in
+    make-stop _ _ _ _ _ _ _ _ p _ _ _ _ _ g (c .before .before .before .before .before .before .before .before .before .loop-test .taken) _ _ (c .before .before .before .join .ensures) (c .if1 .taken)
+
+add-k : tie.Need-add-k Inv-loop μ-loop
+add-k c = omega arith
+
+loop-less : tie.Need-loop-less Inv-loop μ-loop
+loop-less c = omega arith
+
+loop-again : tie.Need-loop-again Inv-loop μ-loop
+loop-again c =
+    let p = c .before .before .before .before .before .before .before .before .before .before .before .before .pre .1 in
+    let g = make-gathered _ _ _ _ _ _ _ _ p _ _ _ _ _ (c .before .before .before .before .before .before .before .before .before .before .loop .inv) _ (c .before .before .before .before .before .before .before .gather .kept .0) (c .before .before .before .before .before .before .before .gather .ensures) in
+    make-step _ _ _ _ _ _ _ _ p _ _ _ _ _ g (c .before .before .before .before .before .before .before .before .before .loop-test .taken) _ _ (c .before .before .before .join .ensures) (c .before .before .before .join .kept .0) (c .if1 .left)
+
+gather-requires-2 : tie.Need-gather-requires-2 Inv-loop μ-loop
+gather-requires-2 c κs = make-gather _ _ _ _ _ _ _ _ (c .before .before .before .before .pre .1) _ _ _ _ _ (c .before .before .loop .inv)
+
+same-length-2 : tie.Need-same-length-2 Inv-loop μ-loop
+same-length-2 c = c .before .before .gather2 .kept .0 ∙ c .before .before .before .before .before .loop .inv .long
+
+returns-2 : tie.Need-returns-2 Inv-loop μ-loop
+returns-2 c =
+    let p = c .before .before .before .before .before .before .before .pre .1 in
+    let l = c .before .before .before .before .before .loop in
+    let e : c .before .before .before .before .before .before .before .args .times ≡ l .k = omega (arith, l .inv .counting .below) in
+    let g = make-gathered _ _ _ _ _ _ _ _ p _ _ _ _ _ (l .inv) _ (c .before .before .gather2 .kept .0) (rw e at (c .before .before .gather2 .ensures)) in
+    make-end _ _ _ _ _ _ _ _ p _ _ _ _ _ g (c .before .before .before .before .loop-test .left)
+
+pub make-spec : {M : Type 1} → statement M
+make-spec =
+    tie.close (tie.spec Inv-loop μ-loop add-from add-to loop-holds gather-requires join-requires same-length returns add-k loop-less loop-again gather-requires-2 same-length-2 returns-2)

@@ -1,0 +1,7 @@
+pub mod Cells
+pub mod Budget
+pub mod Seek
+pub mod Joined
+pub mod Whole
+pub mod Filled
+pub mod Made

@@ -1,0 +1,77 @@
+// Planes of w x w cells in one lent slice: the one place that works an index out. What a plane says of the stretch i to j
+// stands in row i and in row j.
+ghost use mathlib.Core.Path.{_≡_};
+ghost use Prim.Native.Nat.{_+_, _*_, _≤_, _<_, _^_};
+ghost use Rattle.planes.specs.Cells.{InRoom, cell, on, bitOf, at, marked};
+ghost use Rattle.planes.specs.Whole.{Blanked, Addable, Added};
+
+// The index of cell (p, i, j).
+fn place(w: usize, p: usize, i: usize, j: usize) -> usize
+    requires { ⌜ i < w ⌝ ∗ ⌜ j < w ⌝ ∗ ⌜ (p + 1) * w * w < 2 ^ 64 ⌝ }
+    ensures { λ r. ⌜ r ≡ at w p i j ⌝ }
+{
+    (p * w + i) * w + j
+}
+
+// The byte of cell (p, i, j): 1 where plane p holds of the stretch i to j, else 0.
+pub fn byte(scratch: &[u8], w: usize, p: usize, i: usize, j: usize) -> u8
+    requires { ⌜ i < w ⌝ ∗ ⌜ j < w ⌝ ∗ ⌜ InRoom (now scratch) w p ⌝ }
+    ensures { λ r. ⌜ r ≡ cell (now (scratch .entry)) w p i j ⌝ }
+{
+    scratch[place(w, p, i, j)]
+}
+
+// Plane p holds of i to j.
+pub fn holds(scratch: &[u8], w: usize, p: usize, i: usize, j: usize) -> bool
+    requires { ⌜ i < w ⌝ ∗ ⌜ j < w ⌝ ∗ ⌜ InRoom (now scratch) w p ⌝ }
+    ensures { λ r. ⌜ r ≡ on (now (scratch .entry)) w p i j ⌝ }
+{
+    byte(scratch, w, p, i, j) != 0
+}
+
+fn bit(b: bool) -> u8
+    ensures { λ r. ⌜ r ≡ bitOf b ⌝ }
+{
+    if b { 1 } else { 0 }
+}
+
+// Makes plane p say b of the stretch i to j.
+pub fn mark(scratch: &mut [u8], w: usize, p: usize, i: usize, j: usize, b: bool)
+    requires { ⌜ i < w ⌝ ∗ ⌜ j < w ⌝ ∗ ⌜ InRoom (now scratch) w p ⌝ }
+    ensures { λ _. ⌜ now (scratch .exit) ≡ marked (now (scratch .entry)) w p i j (bitOf b) ⌝ }
+{
+    let v = bit(b);
+    let begin = place(w, p, i, j);
+    let end = place(w, p, j, i);
+    scratch[begin] = v;
+    scratch[end] = v;
+}
+
+// Takes every stretch out of plane out.
+pub fn blank(scratch: &mut [u8], w: usize, out: usize)
+    requires { ⌜ 1 ≤ w ⌝ ∗ ⌜ InRoom (now scratch) w out ⌝ }
+    ensures { λ _. ⌜ Blanked (now (scratch .entry)) (now (scratch .exit)) w out ⌝ }
+{
+    let b = place(w, out, 0, 0);
+    let len = w * w;
+    let mut k = 0;
+    while k < len {
+        scratch[b + k] = 0;
+        k += 1;
+    }
+}
+
+// Adds what plane from has to plane out: one run over all their cells, which a processor takes many at a time.
+pub fn add(scratch: &mut [u8], w: usize, from: usize, out: usize)
+    requires { ⌜ Addable (now scratch) w from out ⌝ }
+    ensures { λ _. ⌜ Added (now (scratch .entry)) (now (scratch .exit)) w from out ⌝ }
+{
+    let a = place(w, from, 0, 0);
+    let b = place(w, out, 0, 0);
+    let len = w * w;
+    let mut k = 0;
+    while k < len {
+        scratch[b + k] = scratch[a + k] | scratch[b + k];
+        k += 1;
+    }
+}
