@@ -1,5 +1,5 @@
 -- The loops of a join, in plain values: what holds where the stretches that end at j and begin before i, or those that end before j, are stored. Assumes nothing.
-use mathlib.Core.Path.{_≡_, refl, sym, ap, _∙_}
+use mathlib.Core.Path.{_≡_, refl, sym, _∙_}
 use mathlib.Core.Bool.{Bool, true, false}
 use mathlib.Core.List.{List}
 use mathlib.Core.Logic.{⊎-elim}
@@ -10,14 +10,15 @@ use lib.ListN.{length}
 use Rattle.pattern.specs.Decision.{trial, join, any}
 use Rattle.pattern.specs.Trials.{tries}
 use Rattle.planes.specs.declared.join.Search.{Search}
+use Rattle.planes.specs.declared.join.Search.the-variants.{Found, Missing, Stopped}
 use Rattle.planes.specs.declared.join.Tally.{Tally}
 use Rattle.planes.specs.Cells.{Tells, Plane, Kept, Not, on, bitOf, marked}
-use Rattle.planes.specs.Seek.{seek, trialsOf, stoppedOf, foundOf}
+use Rattle.planes.specs.Seek.{seek}
 use Rattle.planes.specs.Whole.{Blanked}
 use Rattle.planes.specs.Joined.{column-trials, join-trials, Ready, Vacant, Off, Columned, Joined}
 use Rattle.planes.proofs.Planes.{Same, Beside, mark-long, mark-tells, mark-kept, kept-all, kept-then, kept-less, tells-same, tells-kept, plane-same, on-kept, read-kept}
 use Rattle.planes.proofs.Relations.{tries-same, any-same, trial-same, join-same, join-trials-same, column-same}
-use Rattle.planes.proofs.Counting.{Counting, count-start, count-step, count-stop, count-end, counted-over, counted-past}
+use Rattle.planes.proofs.Counting.{Counting, count-start, count-step, count-stop, count-end, counted-whole, counted-over}
 use Rattle.planes.proofs.Seeking.{Says, seek-says}
 
 -- a join that could be made still can
@@ -77,31 +78,34 @@ module _ (s₀ : List ℕ) (w left right out j budget trials : ℕ) where
       says : Says budget (spent + tries (suc j - i) (trial (on s w left) (on s w right) i j)) (any (suc j - i) (trial (on s w left) (on s w right) i j)) r
       says = rw got (seek-says (trial (on s w left) (on s w right) i j) i budget (suc j - i) spent (inv .counting .within))
 
-      pub column-stop : stoppedOf r ≡ true → Columned s₀ s w left right out j budget trials record { trials = budget; stopped = true }
+      pub column-stop : r ≡ Stopped → Columned s₀ s w left right out j budget trials record { trials = budget; stopped = true }
       unfolding column-trials
-      column-stop e =
-          let past = counted-past (count-stop _ (suc j) budget trials spent i (inv .counting) (omega arith) _ tried _ _ (says .counted) e) e in
-          record { counted = counted-over past; whole = λ x. absurd (let z : _≡_ {A = Bool} true false = x in let y : _≡_ {A = ℕ} 0 1 = cc in omega arith); kept = inv .kept }
+      column-stop e = record {
+        counted = count-stop _ (suc j) budget trials spent i (inv .counting) (omega arith) _ tried _ _ (counted-over (rw e at says)) refl;
+        whole = λ x. absurd (let z : _≡_ {A = Bool} true false = x in let y : _≡_ {A = ℕ} 0 1 = cc in omega arith);
+        kept = inv .kept;
+      }
 
-      column-step : stoppedOf r ≡ false → (s′ : List ℕ) → length s′ ≡ length s → Tells s′ w out i j (foundOf r) → Kept s s′ w (out + 1) (Beside out i j)
-          → ColumnAt s₀ w left right out j budget trials s′ (trialsOf budget r) (i + 1)
-      column-step e s′ len here k =
+      -- the search came to an end with t trials; f says whether it found one
+      column-step : (t : ℕ) (f : Bool) → (t ≡ spent + tries (suc j - i) (trial (on s w left) (on s w right) i j)) × (spent + tries (suc j - i) (trial (on s w left) (on s w right) i j) ≤ budget) × (any (suc j - i) (trial (on s w left) (on s w right) i j) ≡ f)
+          → (s′ : List ℕ) → length s′ ≡ length s → Tells s′ w out i j f → Kept s s′ w (out + 1) (Beside out i j) → ColumnAt s₀ w left right out j budget trials s′ t (i + 1)
+      column-step t f (e, h, finds) s′ len here k =
           let other : (a : ℕ) → a ≤ j → (a ≡ i → ⊥) → (b : Bool) → Tells s w out a j b → Tells s′ w out a j b
           = λ a l n b. tells-kept k l hj (λ _. (λ y _. n y, λ y z. omega arith), λ _. (λ y z. omega arith, λ _ z. n z)) in
           record {
-            counting = count-step _ (suc j) budget trials spent i (inv .counting) (omega arith) _ tried _ _ (says .counted) e;
+            counting = count-step _ (suc j) budget trials spent i (inv .counting) (omega arith) _ tried t false (rw e (counted-whole h)) refl;
             long = len ∙ inv .long;
-            done = λ a l. ⊎-elim (λ z. rw z (tells-same here (says .finds e ∙ found))) (λ z. other a (omega arith) (λ y. omega arith) _ (inv .done a z)) (eq-or-lt-of-le (let y : a ≤ i = omega arith in y));
+            done = λ a l. ⊎-elim (λ z. rw z (tells-same here (sym finds ∙ found))) (λ z. other a (omega arith) (λ y. omega arith) _ (inv .done a z)) (eq-or-lt-of-le (let y : a ≤ i = omega arith in y));
             ahead = λ a l m. other a m (λ y. omega arith) _ (inv .ahead a (omega arith) m);
             kept = kept-then (inv .kept) k (λ q a b n. n) (λ q a b n x. (λ y z. n x .0 (omega arith) z, λ y z. n x .1 (omega arith) y));
           }
 
-      pub column-found : stoppedOf r ≡ false → foundOf r ≡ true → ColumnAt s₀ w left right out j budget trials (marked s w out i j (bitOf true)) (trialsOf budget r) (i + 1)
-      column-found e f =
-          column-step e (marked s w out i j (bitOf true)) (mark-long w out i j s (bitOf true)) (tells-same (mark-tells w out i j more hj s true (column-ready .into)) (sym f)) (mark-kept w out i j more hj s true)
+      pub column-found : (m t : ℕ) → r ≡ Found m t → ColumnAt s₀ w left right out j budget trials (marked s w out i j (bitOf true)) t (i + 1)
+      column-found m t e =
+          column-step t true (rw e at says) (marked s w out i j (bitOf true)) (mark-long w out i j s (bitOf true)) (mark-tells w out i j more hj s true (column-ready .into)) (mark-kept w out i j more hj s true)
 
-      pub column-missing : stoppedOf r ≡ false → foundOf r ≡ false → ColumnAt s₀ w left right out j budget trials s (trialsOf budget r) (i + 1)
-      column-missing e f = column-step e s refl (tells-same (inv .ahead i (omega arith) more) (sym f)) (kept-all _ _ _ _)
+      pub column-missing : (t : ℕ) → r ≡ Missing t → ColumnAt s₀ w left right out j budget trials s t (i + 1)
+      column-missing t e = column-step t false (rw e at says) s refl (inv .ahead i (omega arith) more) (kept-all _ _ _ _)
 
 -- ---- all ends
 

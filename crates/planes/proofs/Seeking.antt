@@ -1,7 +1,7 @@
 -- The search for an end, step by step, and what it comes to by the paper's count. Assumes nothing.
 use mathlib.Core.Path.{_≡_, refl, _∙_}
 use mathlib.Core.Bool.{Bool, true, false, cond, _||_}
-use Prim.Native.Nat.{ℕ, zero, suc, _+_, _-_, _≤_}
+use Prim.Native.Nat.{ℕ, zero, suc, _+_, _-_, _≤_, _<_}
 use native.Mathlib.Omega.{arith}
 use borrow.Author.Tests.{eq-eqb, ne-eqb, eqb-true, eqb-false}
 use lib.Dec.{eqb}
@@ -9,9 +9,7 @@ use Rattle.pattern.specs.Decision.{any}
 use Rattle.pattern.specs.Trials.{tries}
 use Rattle.planes.specs.declared.join.Search.{Search}
 use Rattle.planes.specs.declared.join.Search.the-variants.{Found, Missing, Stopped}
-use Rattle.planes.specs.Budget.{Counted}
-use Rattle.planes.specs.Seek.{seek, trialsOf, stoppedOf, foundOf}
-use Rattle.planes.proofs.Counting.{counted-whole, counted-over}
+use Rattle.planes.specs.Seek.{seek}
 
 -- m is the end to try
 module _ (p : ℕ → Bool) (i budget m t : ℕ) (h : i ≤ m) where
@@ -40,21 +38,22 @@ module _ (p : ℕ → Bool) (i budget m t : ℕ) (h : i ≤ m) where
       seek-miss z = let o : suc (m - 1) - i ≡ m - i = omega arith in rw o miss
 
 -- what an answer says, where the trials come to total and found says whether an end holds
-pub record Says (budget total : ℕ) (found : Bool) (r : Search) : Type 0 where
-  pub counted : Counted budget total (trialsOf budget r) (stoppedOf r)
-  pub finds : stoppedOf r ≡ false → foundOf r ≡ found
+abbrev pub Says : (budget total : ℕ) → Bool → Search → Type 0
+Says budget total found (Found m t) = (t ≡ total) × (total ≤ budget) × (found ≡ true)
+Says budget total found (Missing t) = (t ≡ total) × (total ≤ budget) × (found ≡ false)
+Says budget total found Stopped = budget < total
 
 pub seek-says : (p : ℕ → Bool) (i budget c t : ℕ) → t ≤ budget → Says budget (t + tries c p) (any c p) (seek p i budget c t)
 unfolding seek tries any
-seek-says p i budget zero t h = let e : t + 0 ≡ t = omega arith in rw e record { counted = counted-whole h; finds = λ _. refl }
+seek-says p i budget zero t h = (omega arith, omega arith, refl)
 seek-says p i budget (suc c) t h = pick (eqb t budget) (p c) (λ e. eqb-true t budget e) (λ e. eqb-false t budget e) (λ l. seek-says p i budget c (t + 1) l)
   where
     pick : (x g : Bool) → (x ≡ true → t ≡ budget) → (x ≡ false → t ≡ budget → ⊥)
         → (t + 1 ≤ budget → Says budget (t + 1 + tries c p) (any c p) (seek p i budget c (t + 1)))
         → Says budget (t + cond g 1 (suc (tries c p))) (g || any c p) (cond x Stopped (cond g (Found (i + c) (t + 1)) (seek p i budget c (t + 1))))
-    pick true true f q rest = let e = f refl in record { counted = counted-over (omega arith); finds = λ b. absurd (let z : true ≡ false = b in eqb-false 0 0 z refl) }
-    pick true false f q rest = let e = f refl in record { counted = counted-over (omega arith); finds = λ b. absurd (let z : true ≡ false = b in eqb-false 0 0 z refl) }
-    pick false true f q rest = let e = q refl in record { counted = counted-whole (omega arith); finds = λ _. refl }
+    pick true true f q rest = let e = f refl in omega arith
+    pick true false f q rest = let e = f refl in omega arith
+    pick false true f q rest = let e = q refl in (refl, omega arith, refl)
     pick false false f q rest =
         let e = q refl in
         let z : t + suc (tries c p) ≡ t + 1 + tries c p = omega arith in

@@ -1,5 +1,5 @@
 -- The search for an end as the code makes it, trial by trial. Assumes nothing.
-use mathlib.Core.Bool.{Bool, true, false, cond}
+use mathlib.Core.Bool.{Bool, cond}
 use Prim.Native.Nat.{ℕ, zero, suc, _+_}
 use lib.Dec.{eqb}
 use Rattle.planes.specs.declared.join.Search.{Search}
@@ -9,18 +9,3 @@ use Rattle.planes.specs.declared.join.Search.the-variants.{Found, Missin
 unfoldable pub seek : (ℕ → Bool) → (i budget c t : ℕ) → Search
 seek p i budget zero t = Missing t
 seek p i budget (suc c) t = cond (eqb t budget) Stopped (cond (p c) (Found (i + c) (t + 1)) (seek p i budget c (t + 1)))
-
-abbrev pub trialsOf : ℕ → Search → ℕ
-trialsOf budget (Found m t) = t
-trialsOf budget (Missing t) = t
-trialsOf budget Stopped = budget
-
-abbrev pub stoppedOf : Search → Bool
-stoppedOf (Found m t) = false
-stoppedOf (Missing t) = false
-stoppedOf Stopped = true
-
-abbrev pub foundOf : Search → Bool
-foundOf (Found m t) = true
-foundOf (Missing t) = false
-foundOf Stopped = false

@@ -3,7 +3,7 @@ ghost use mathlib.Core.Path.{_≡_};
 ghost use Prim.Native.Nat.{suc, _-_, _<_, _≤_};
 ghost use Rattle.pattern.specs.Decision.{trial};
 ghost use Rattle.planes.specs.Cells.{on, Readable};
-ghost use Rattle.planes.specs.Seek.{seek, trialsOf, stoppedOf, foundOf};
+ghost use Rattle.planes.specs.Seek.{seek};
 ghost use Rattle.planes.specs.Joined.{Ready, Vacant, Columned, Joined};
 use crate::cells::blank;
 use crate::cells::byte;
@@ -14,36 +14,6 @@ pub enum Search {
     Found(usize, u64),
     Missing(u64),
     Stopped,
-}
-
-fn is_stopped(s: Search) -> bool
-    ensures { λ r. ⌜ r ≡ stoppedOf s ⌝ }
-{
-    match s {
-        Search::Found(_, _) => false,
-        Search::Missing(_) => false,
-        Search::Stopped => true,
-    }
-}
-
-fn is_found(s: Search) -> bool
-    ensures { λ r. ⌜ r ≡ foundOf s ⌝ }
-{
-    match s {
-        Search::Found(_, _) => true,
-        Search::Missing(_) => false,
-        Search::Stopped => false,
-    }
-}
-
-fn trials_of(s: Search, budget: u64) -> u64
-    ensures { λ r. ⌜ r ≡ trialsOf budget s ⌝ }
-{
-    match s {
-        Search::Found(_, t) => t,
-        Search::Missing(t) => t,
-        Search::Stopped => budget,
-    }
 }
 
 // The trials so far, and whether the budget ran out.
@@ -101,16 +71,20 @@ fn join_column(
     let mut spent = trials;
     let mut i = 0;
     while i <= j {
-        let s = search_end(scratch, w, left, right, i, j, budget, spent);
-        if is_stopped(s) {
-            return Tally {
-                trials: budget,
-                stopped: true,
-            };
-        }
-        spent = trials_of(s, budget);
-        if is_found(s) {
-            mark(scratch, w, out, i, j, true);
+        match search_end(scratch, w, left, right, i, j, budget, spent) {
+            Search::Found(_, t) => {
+                spent = t;
+                mark(scratch, w, out, i, j, true);
+            }
+            Search::Missing(t) => {
+                spent = t;
+            }
+            Search::Stopped => {
+                return Tally {
+                    trials: budget,
+                    stopped: true,
+                };
+            }
         }
         i += 1;
     }

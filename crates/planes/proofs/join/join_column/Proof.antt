@@ -1,5 +1,4 @@
 -- `planes::join::join_column` meets its contract. The invariant of its loop is `ColumnAt`, and the steps are laws of ``Joining``. Assumes nothing.
-use mathlib.Core.Path.{sym, _∙_}
 use mathlib.Core.Logic.{⊎-elim}
 use Prim.Native.Nat.{suc, _-_}
 use native.Mathlib.Omega.{arith}
@@ -24,8 +23,17 @@ search-end-requires c κs =
     let ok = column-ready _ _ _ _ _ _ _ _ (p .0) (p .1 .1 .0) _ _ _ (l .inv) in
     (c .before .loop-test .taken, (p .0, (l .inv .counting .within, (ok .from-left, ok .from-right))))
 
-is-stopped-requires : tie.Need-is-stopped-requires Inv-loop μ-loop
-is-stopped-requires c κs = search needs
+enum-known-t : tie.Need-enum-known-t Inv-loop μ-loop
+enum-known-t c = search needs
+
+mark-requires : tie.Need-mark-requires Inv-loop μ-loop
+mark-requires c κs = search needs
+
+enum-known-t-2 : tie.Need-enum-known-t-2 Inv-loop μ-loop
+enum-known-t-2 c = search needs
+
+enum-told : tie.Need-enum-told Inv-loop μ-loop
+enum-told c = search needs
 
 same-length : tie.Need-same-length Inv-loop μ-loop
 same-length c = c .before .before .before .before .before .loop .inv .long
@@ -33,16 +41,7 @@ same-length c = c .before .before .before .before .before .loop .inv .long
 returns : tie.Need-returns Inv-loop μ-loop
 returns c =
     let p = c .before .before .before .before .before .before .before .pre in
-    column-stop _ _ _ _ _ _ _ _ (p .0) (p .1 .1 .0) _ _ _ (c .before .before .before .before .before .loop .inv) (c .before .before .before .before .loop-test .taken) _ (c .before .before .search-end .ensures) (sym (c .before .is-stopped .ensures) ∙ c .if1 .taken)
-
-trials-of-requires : tie.Need-trials-of-requires Inv-loop μ-loop
-trials-of-requires c κs = search needs
-
-is-found-requires : tie.Need-is-found-requires Inv-loop μ-loop
-is-found-requires c κs = search needs
-
-mark-requires : tie.Need-mark-requires Inv-loop μ-loop
-mark-requires c κs = search needs
+    column-stop _ _ _ _ _ _ _ _ (p .0) (p .1 .1 .0) _ _ _ (c .before .before .before .before .before .loop .inv) (c .before .before .before .before .loop-test .taken) _ (c .before .before .search-end .ensures) (c .enum-told .given .1)
 
 add-i : tie.Need-add-i Inv-loop μ-loop
 add-i c = omega arith
@@ -52,11 +51,14 @@ loop-less c = omega arith
 
 loop-again : tie.Need-loop-again Inv-loop μ-loop
 loop-again c =
-    let p = c .before .before .before .before .before .before .before .before .before .before .pre in
+    let p = c .before .before .before .before .before .before .pre in
+    let l = c .before .before .before .before .loop in
+    let more = c .before .before .before .loop-test .taken in
+    let got = c .before .search-end .ensures in
     ⊎-elim
-    (λ w. rw (w .5, w .2 .ensures, c .before .before .trials-of .ensures) (column-found _ _ _ _ _ _ _ _ (p .0) (p .1 .1 .0) _ _ _ (c .before .before .before .before .before .before .before .before .loop .inv) (c .before .before .before .before .before .before .before .loop-test .taken) _ (c .before .before .before .before .before .search-end .ensures) (sym (c .before .before .before .before .is-stopped .ensures) ∙ c .before .before .before .if1 .left) (sym (c .before .is-found .ensures) ∙ w .0 .taken)))
-    (λ w. rw (w .1, c .before .before .trials-of .ensures) (column-missing _ _ _ _ _ _ _ _ (p .0) (p .1 .1 .0) _ _ _ (c .before .before .before .before .before .before .before .before .loop .inv) (c .before .before .before .before .before .before .before .loop-test .taken) _ (c .before .before .before .before .before .search-end .ensures) (sym (c .before .before .before .before .is-stopped .ensures) ∙ c .before .before .before .if1 .left) (sym (c .before .is-found .ensures) ∙ w .0 .left)))
-    (c .if2 .came)
+    (λ w. rw (w .8, w .7, w .4 .ensures) (column-found _ _ _ _ _ _ _ _ (p .0) (p .1 .1 .0) _ _ _ (l .inv) more _ got _ _ (w .1 .given .1)))
+    (λ w. rw (w .4, w .3) (column-missing _ _ _ _ _ _ _ _ (p .0) (p .1 .1 .0) _ _ _ (l .inv) more _ got _ (w .1 .given .1)))
+    (c .match .came)
 
 same-length-2 : tie.Need-same-length-2 Inv-loop μ-loop
 same-length-2 c = c .before .loop .inv .long
@@ -68,4 +70,5 @@ returns-2 c =
 
 pub join-column-spec : {M : Type 1} → statement M
 join-column-spec =
-    tie.close (tie.spec Inv-loop μ-loop loop-holds search-end-requires is-stopped-requires same-length returns trials-of-requires is-found-requires mark-requires add-i loop-less loop-again same-length-2 returns-2)
+    tie.close
+    (tie.spec Inv-loop μ-loop loop-holds search-end-requires enum-known-t mark-requires enum-known-t-2 enum-told same-length returns add-i loop-less loop-again same-length-2 returns-2)
