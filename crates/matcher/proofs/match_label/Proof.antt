@@ -46,7 +46,12 @@ returns-3 : tie.Need-returns-3
 returns-3 c = few-parts _ _ (sym (c .before .before .before .before .s .given .1) ∙ c .before .before .before .before .before .before .test .ensures) _ _ _ _ (c .before .before .if1 .left) (c .before .if2 .left) (c .if3 .taken)
 
 run-requires : tie.Need-run-requires
-run-requires c κs = all-lent _ _ (sym (c .before .before .before .before .before .before .s .given .1) ∙ c .before .before .before .before .before .before .before .before .test .ensures) _ _ _ 0 (c .before .before .before .before .if1 .left) (c .before .before .before .if2 .left) (c .before .before .if3 .left)
+run-requires c κs =
+    let after-if2 = c .before .before .before in
+    let after-if1 = after-if2 .before in
+    let after-s = after-if1 .before .before in
+    let after-test = after-s .before .before in
+    all-lent _ _ (sym (after-s .s .given .1) ∙ after-test .test .ensures) _ _ _ 0 (after-if1 .if1 .left) (after-if2 .if2 .left) (c .before .before .if3 .left)
 
 returns-4 : tie.Need-returns-4
 returns-4 c = bad-table _ _ _ _ _ (sym (c .enum-told .given .1) ∙ c .before .before .test .ensures)
@@ -58,7 +63,14 @@ same-length-2 : tie.Need-same-length-2
 same-length-2 c = c .before .before .before .before .run .kept .1 .1 .1 .0
 
 returns-5 : tie.Need-returns-5
-returns-5 c = c .before .before .before .before .run .ensures ∙ no-fault _ _ (sym (c .before .before .before .before .before .before .before .before .before .before .before .s .given .1) ∙ c .before .before .before .before .before .before .before .before .before .before .before .before .before .test .ensures) _ _ _ _ (c .before .before .before .before .before .before .before .before .before .if1 .left) (c .before .before .before .before .before .before .before .before .if2 .left) (c .before .before .before .before .before .before .before .if3 .left)
+returns-5 c =
+    let after-run = c .before .before .before .before in
+    let after-if3 = after-run .before .before .before in
+    let after-if2 = after-if3 .before in
+    let after-if1 = after-if2 .before in
+    let after-s = after-if1 .before .before in
+    let after-test = after-s .before .before in
+    after-run .run .ensures ∙ no-fault _ _ (sym (after-s .s .given .1) ∙ after-test .test .ensures) _ _ _ _ (after-if1 .if1 .left) (after-if2 .if2 .left) (after-if3 .if3 .left)
 
 pub match-label-spec : {M : Type 1} → statement M
 match-label-spec =

@@ -24,22 +24,39 @@ settle-all-requires : tie.Need-settle-all-requires
 settle-all-requires c κs = (run-work _ _ _ _ _ (c .before .before .before .before .before .pre), run-top _ _ _ _ _ (c .before .before .before .before .before .pre))
 
 clear-requires : tie.Need-clear-requires
-clear-requires c κs = omega (arith, run-clear _ _ _ _ _ (c .before .before .before .before .before .before .before .before .before .before .pre) (c .before .before .before .before .settle-all .last .1 .1 .0) (c .before .before .before .before .settle-all .kept .1 .1 .0))
+clear-requires c κs =
+    let after-settle-all = c .before .before .before .before in
+    let start = after-settle-all .before .before .before .before .before .before in
+    omega (arith, run-clear _ _ _ _ _ (start .pre) (after-settle-all .settle-all .last .1 .1 .0) (after-settle-all .settle-all .kept .1 .1 .0))
 
 same-length : tie.Need-same-length
 same-length c = c .before .before .clear .kept .0 ∙ c .before .before .before .before .before .before .before .settle-all .kept .1 .1 .0
 
 returns : tie.Need-returns
-returns c = run-stop _ _ _ _ _ (c .before .before .before .before .before .before .before .before .before .before .before .before .before .pre) _ _ (c .before .before .before .before .before .before .before .settle-all .kept .1 .1 .0) _ (c .before .before .before .before .before .before .before .settle-all .ensures) (c .before .before .before .before .if1 .taken) _ (c .before .before .clear .ensures)
+returns c =
+    let after-if1 = c .before .before .before .before in
+    let after-settle-all = after-if1 .before .before .before in
+    let start = after-settle-all .before .before .before .before .before .before in
+    run-stop _ _ _ _ _ (start .pre) _ _ (after-settle-all .settle-all .kept .1 .1 .0) _ (after-settle-all .settle-all .ensures) (after-if1 .if1 .taken) _ (c .before .before .clear .ensures)
 
 holds-requires : tie.Need-holds-requires
-holds-requires c κs = (omega arith, (omega arith, run-cell _ _ _ _ _ (c .before .before .before .before .before .before .before .before .before .before .pre) (c .before .before .before .before .settle-all .last .1 .1 .0) (c .before .before .before .before .settle-all .kept .1 .1 .0)))
+holds-requires c κs =
+    let after-settle-all = c .before .before .before .before in
+    let start = after-settle-all .before .before .before .before .before .before in
+    (omega arith, (omega arith, run-cell _ _ _ _ _ (start .pre) (after-settle-all .settle-all .last .1 .1 .0) (after-settle-all .settle-all .kept .1 .1 .0)))
 
 write-parts-requires : tie.Need-write-parts-requires
-write-parts-requires c κs = run-parting _ _ _ _ _ (c .before .before .before .before .before .before .before .before .before .before .before .before .before .before .pre) _ _ (c .before .before .before .before .before .before .before .before .settle-all .kept .1 .1 .0) _ (c .before .before .before .before .before .before .before .before .settle-all .ensures) (c .before .before .before .before .before .if1 .left)
+write-parts-requires c κs =
+    let after-if1 = c .before .before .before .before .before in
+    let after-settle-all = after-if1 .before .before .before in
+    let start = after-settle-all .before .before .before .before .before .before in
+    run-parting _ _ _ _ _ (start .pre) _ _ (after-settle-all .settle-all .kept .1 .1 .0) _ (after-settle-all .settle-all .ensures) (after-if1 .if1 .left)
 
 clear-requires-2 : tie.Need-clear-requires-2
-clear-requires-2 c κs = run-clear _ _ _ _ _ (c .before .before .before .before .before .before .before .before .before .before .before .before .before .before .before .before .before .before .pre) (c .before .before .before .before .before .before .before .before .before .before .before .before .settle-all .last .1 .1 .0) (c .before .before .before .before .before .before .before .before .before .before .before .before .settle-all .kept .1 .1 .0)
+clear-requires-2 c κs =
+    let after-settle-all = c .before .before .before .before .before .before .before .before .before .before .before .before in
+    let start = after-settle-all .before .before .before .before .before .before in
+    run-clear _ _ _ _ _ (start .pre) (after-settle-all .settle-all .last .1 .1 .0) (after-settle-all .settle-all .kept .1 .1 .0)
 
 same-length-2 : tie.Need-same-length-2
 same-length-2 c = c .before .before .clear2 .kept .0 ∙ c .before .before .before .before .before .before .before .before .before .before .before .before .before .before .before .settle-all .kept .1 .1 .0
@@ -49,17 +66,31 @@ same-length-3 c = c .before .before .before .before .before .before .write-parts
 
 returns-2 : tie.Need-returns-2
 returns-2 c =
-    run-yes _ _ _ _ _ (c .before .before .before .before .before .before .before .before .before .before .before .before .before .before .before .before .before .before .before .before .before .pre) _ _ (c .before .before .before .before .before .before .before .before .before .before .before .before .before .before .before .settle-all .kept .1 .1 .0) _ (c .before .before .before .before .before .before .before .before .before .before .before .before .before .before .before .settle-all .ensures) (c .before .before .before .before .before .before .before .before .before .before .before .before .if1 .left) (sym (c .before .before .before .before .before .before .before .before .before .before .holds .ensures) ∙ c .before .before .before .before .before .before .before .before .before .if2 .taken) _ (c .before .before .before .before .before .before .write-parts .ensures) _ (c .before .before .clear2 .ensures)
+    let after-write-parts = c .before .before .before .before .before .before in
+    let after-if2 = after-write-parts .before .before .before in
+    let after-holds = after-if2 .before in
+    let after-if1 = after-holds .before .before in
+    let after-settle-all = after-if1 .before .before .before in
+    let start = after-settle-all .before .before .before .before .before .before in
+    run-yes _ _ _ _ _ (start .pre) _ _ (after-settle-all .settle-all .kept .1 .1 .0) _ (after-settle-all .settle-all .ensures) (after-if1 .if1 .left) (sym (after-holds .holds .ensures) ∙ after-if2 .if2 .taken) _ (after-write-parts .write-parts .ensures) _ (c .before .before .clear2 .ensures)
 
 clear-requires-3 : tie.Need-clear-requires-3
-clear-requires-3 c κs = run-clear _ _ _ _ _ (c .before .before .before .before .before .before .before .before .before .before .before .before .before .pre) (c .before .before .before .before .before .before .before .settle-all .last .1 .1 .0) (c .before .before .before .before .before .before .before .settle-all .kept .1 .1 .0)
+clear-requires-3 c κs =
+    let after-settle-all = c .before .before .before .before .before .before .before in
+    let start = after-settle-all .before .before .before .before .before .before in
+    run-clear _ _ _ _ _ (start .pre) (after-settle-all .settle-all .last .1 .1 .0) (after-settle-all .settle-all .kept .1 .1 .0)
 
 same-length-4 : tie.Need-same-length-4
 same-length-4 c = c .before .before .clear3 .kept .0 ∙ c .before .before .before .before .before .before .before .before .before .before .settle-all .kept .1 .1 .0
 
 returns-3 : tie.Need-returns-3
 returns-3 c =
-    run-no _ _ _ _ _ (c .before .before .before .before .before .before .before .before .before .before .before .before .before .before .before .before .pre) _ _ (c .before .before .before .before .before .before .before .before .before .before .settle-all .kept .1 .1 .0) _ (c .before .before .before .before .before .before .before .before .before .before .settle-all .ensures) (c .before .before .before .before .before .before .before .if1 .left) (sym (c .before .before .before .before .before .holds .ensures) ∙ c .before .before .before .before .if2 .left) _ (c .before .before .clear3 .ensures)
+    let after-if2 = c .before .before .before .before in
+    let after-holds = after-if2 .before in
+    let after-if1 = after-holds .before .before in
+    let after-settle-all = after-if1 .before .before .before in
+    let start = after-settle-all .before .before .before .before .before .before in
+    run-no _ _ _ _ _ (start .pre) _ _ (after-settle-all .settle-all .kept .1 .1 .0) _ (after-settle-all .settle-all .ensures) (after-if1 .if1 .left) (sym (after-holds .holds .ensures) ∙ after-if2 .if2 .left) _ (c .before .before .clear3 .ensures)
 
 pub run-spec : {M : Type 1} → statement M
 run-spec =

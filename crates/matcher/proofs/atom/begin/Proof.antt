@@ -10,23 +10,40 @@ fill-body-requires : tie.Need-fill-body-requires
 fill-body-requires c κs = c .before .before .before .before .pre
 
 add-fill : tie.Need-add-fill
-add-fill c = omega (arith, work-few (c .before .before .before .before .before .before .before .before .pre .work), c .before .before .before .before .before .before .before .before .pre .topmost)
+add-fill c =
+    let start = c .before .before .before .before .before .before .before .before in
+    omega (arith, work-few (start .pre .work), start .pre .topmost)
 
 fill-requires : tie.Need-fill-requires
-fill-requires c κs = begin-empty _ _ _ _ _ _ (c .before .before .before .before .before .before .before .before .pre) _ (c .before .before .before .fill-body .kept .1 .1 .0) (c .before .before .before .fill-body .ensures)
+fill-requires c κs =
+    let after-fill-body = c .before .before .before in
+    let start = after-fill-body .before .before .before .before .before in
+    begin-empty _ _ _ _ _ _ (start .pre) _ (after-fill-body .fill-body .kept .1 .1 .0) (after-fill-body .fill-body .ensures)
 
 mul-blank : tie.Need-mul-blank
-mul-blank c = omega (arith, work-few (c .before .before .before .before .before .before .before .before .before .before .before .before .pre .work), c .before .before .before .before .before .before .before .before .before .before .before .before .pre .there)
+mul-blank c =
+    let start = c .before .before .before .before .before .before .before .before .before .before .before .before in
+    omega (arith, work-few (start .pre .work), start .pre .there)
 
 blank-requires : tie.Need-blank-requires
-blank-requires c κs = begin-blank _ _ _ _ _ _ (c .before .before .before .before .before .before .before .before .before .before .before .before .pre) _ (c .before .before .before .before .before .before .before .fill-body .kept .1 .1 .0) (c .before .before .before .before .before .before .before .fill-body .ensures) _ (c .before .before .before .fill .kept .1 .1 .0) (c .before .before .before .fill .ensures)
+blank-requires c κs =
+    let after-fill = c .before .before .before in
+    let after-fill-body = after-fill .before .before .before .before in
+    let start = after-fill-body .before .before .before .before .before in
+    begin-blank _ _ _ _ _ _ (start .pre) _ (after-fill-body .fill-body .kept .1 .1 .0) (after-fill-body .fill-body .ensures) _ (after-fill .fill .kept .1 .1 .0) (after-fill .fill .ensures)
 
 same-length : tie.Need-same-length
-same-length c = c .before .before .blank .kept .0 ∙ c .before .before .before .before .before .before .fill .kept .1 .1 .0 ∙ c .before .before .before .before .before .before .before .before .before .before .fill-body .kept .1 .1 .0
+same-length c =
+    let after-fill = c .before .before .before .before .before .before in
+    let after-fill-body = after-fill .before .before .before .before in
+    c .before .before .blank .kept .0 ∙ after-fill .fill .kept .1 .1 .0 ∙ after-fill-body .fill-body .kept .1 .1 .0
 
 returns : tie.Need-returns
 returns c =
-    begin-end _ _ _ _ _ _ (c .before .before .before .before .before .before .before .before .before .before .before .before .before .before .before .pre) _ (c .before .before .before .before .before .before .before .before .before .before .fill-body .kept .1 .1 .0) (c .before .before .before .before .before .before .before .before .before .before .fill-body .ensures) _ (c .before .before .before .before .before .before .fill .kept .1 .1 .0) (c .before .before .before .before .before .before .fill .ensures) _ (c .before .before .blank .kept .0) (c .before .before .blank .ensures)
+    let after-fill = c .before .before .before .before .before .before in
+    let after-fill-body = after-fill .before .before .before .before in
+    let start = after-fill-body .before .before .before .before .before in
+    begin-end _ _ _ _ _ _ (start .pre) _ (after-fill-body .fill-body .kept .1 .1 .0) (after-fill-body .fill-body .ensures) _ (after-fill .fill .kept .1 .1 .0) (after-fill .fill .ensures) _ (c .before .before .blank .kept .0) (c .before .before .blank .ensures)
 
 pub begin-spec : {M : Type 1} → statement M
 begin-spec = tie.close (tie.spec fill-body-requires add-fill fill-requires mul-blank blank-requires same-length returns)

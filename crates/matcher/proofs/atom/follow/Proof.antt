@@ -28,25 +28,41 @@ add-add : tie.Need-add-add
 add-add c = omega (arith, follow-few _ _ _ _ _ (c .before .before .before .before .before .before .before .before .before .before .before .pre .1))
 
 add-requires : tie.Need-add-requires
-add-requires c κs = follow-add _ _ _ _ _ (c .before .before .before .before .before .before .before .before .before .before .before .pre .1) _ (c .before .before .before .blank .kept .0) (c .before .before .before .blank .ensures)
+add-requires c κs =
+    let after-blank = c .before .before .before in
+    let start = after-blank .before .before .before .before .before .before .before .before in
+    follow-add _ _ _ _ _ (start .pre .1) _ (after-blank .blank .kept .0) (after-blank .blank .ensures)
 
 same-length : tie.Need-same-length
 same-length c = c .before .before .add .kept .0 ∙ c .before .before .before .before .before .before .blank .kept .0
 
 returns : tie.Need-returns
-returns c = follow-last _ _ _ _ _ (c .before .before .before .before .before .before .before .before .before .before .before .before .before .before .pre .1) _ (c .before .before .before .before .before .before .blank .kept .0) (c .before .before .before .before .before .before .blank .ensures) _ (c .before .before .before .before .before .before .before .before .before .before .record-at .ensures) _ _ (c .before .before .before .before .before .before .before .before .before .before .before .before .before .before .pre .0) (c .before .before .before .before .before .before .before .before .if1 .taken) _ (c .before .before .add .ensures)
+returns c =
+    let after-blank = c .before .before .before .before .before .before in
+    let after-if1 = after-blank .before .before in
+    let after-record-at = after-if1 .before .before in
+    let start = after-record-at .before .before .before .before in
+    follow-last _ _ _ _ _ (start .pre .1) _ (after-blank .blank .kept .0) (after-blank .blank .ensures) _ (after-record-at .record-at .ensures) _ _ (start .pre .0) (after-if1 .if1 .taken) _ (c .before .before .add .ensures)
 
 after-requires : tie.Need-after-requires
-after-requires c κs = (c .before .before .before .before .before .before .pre .1 .work .good, c .before .before .before .before .before .before .pre .1 .there)
+after-requires c κs =
+    let start = c .before .before .before .before .before .before in
+    (start .pre .1 .work .good, start .pre .1 .there)
 
 mul-join : tie.Need-mul-join
 mul-join c = omega (arith, follow-few _ _ _ _ _ (c .before .before .before .before .before .before .before .before .pre .1))
 
 mul-join-2 : tie.Need-mul-join-2
-mul-join-2 c = omega (arith, work-few (c .before .before .before .before .before .before .before .before .pre .1 .work), follow-next _ _ _ _ _ (c .before .before .before .before .before .before .before .before .pre .1) _ (c .before .before .before .before .record-at .ensures) (c .before .before .if1 .left) _ (c .before .after .ensures))
+mul-join-2 c =
+    let after-record-at = c .before .before .before .before in
+    let start = after-record-at .before .before .before .before in
+    omega (arith, work-few (start .pre .1 .work), follow-next _ _ _ _ _ (start .pre .1) _ (after-record-at .record-at .ensures) (c .before .before .if1 .left) _ (c .before .after .ensures))
 
 add-join : tie.Need-add-join
-add-join c = omega (arith, work-few (c .before .before .before .before .before .before .before .before .pre .1 .work), follow-next _ _ _ _ _ (c .before .before .before .before .before .before .before .before .pre .1) _ (c .before .before .before .before .record-at .ensures) (c .before .before .if1 .left) _ (c .before .after .ensures))
+add-join c =
+    let after-record-at = c .before .before .before .before in
+    let start = after-record-at .before .before .before .before in
+    omega (arith, work-few (start .pre .1 .work), follow-next _ _ _ _ _ (start .pre .1) _ (after-record-at .record-at .ensures) (c .before .before .if1 .left) _ (c .before .after .ensures))
 
 mul-join-3 : tie.Need-mul-join-3
 mul-join-3 c = omega (arith, follow-few _ _ _ _ _ (c .before .before .before .before .before .before .before .before .pre .1))
@@ -55,13 +71,21 @@ add-join-2 : tie.Need-add-join-2
 add-join-2 c = omega (arith, follow-few _ _ _ _ _ (c .before .before .before .before .before .before .before .before .pre .1))
 
 join-requires : tie.Need-join-requires
-join-requires c κs = (c .before .before .before .before .before .before .before .before .pre .0, follow-ready _ _ _ _ _ (c .before .before .before .before .before .before .before .before .pre .1) _ (c .before .before .before .before .record-at .ensures) (c .before .before .if1 .left) _ (c .before .after .ensures))
+join-requires c κs =
+    let after-record-at = c .before .before .before .before in
+    let start = after-record-at .before .before .before .before in
+    (start .pre .0, follow-ready _ _ _ _ _ (start .pre .1) _ (after-record-at .record-at .ensures) (c .before .before .if1 .left) _ (c .before .after .ensures))
 
 same-length-2 : tie.Need-same-length-2
 same-length-2 c = c .before .before .join .kept .0
 
 returns-2 : tie.Need-returns-2
-returns-2 c = follow-then _ _ _ _ _ (c .before .before .before .before .before .before .before .before .before .before .before .pre .1) _ (c .before .before .before .before .before .before .before .record-at .ensures) (c .before .before .before .before .before .if1 .left) _ (c .before .before .before .before .after .ensures) _ _ _ _ (c .before .before .join .ensures)
+returns-2 c =
+    let after-after = c .before .before .before .before in
+    let after-if1 = after-after .before in
+    let after-record-at = after-if1 .before .before in
+    let start = after-record-at .before .before .before .before in
+    follow-then _ _ _ _ _ (start .pre .1) _ (after-record-at .record-at .ensures) (after-if1 .if1 .left) _ (after-after .after .ensures) _ _ _ _ (c .before .before .join .ensures)
 
 pub follow-spec : {M : Type 1} → statement M
 follow-spec =

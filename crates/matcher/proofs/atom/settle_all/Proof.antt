@@ -18,19 +18,31 @@ sub-x : tie.Need-sub-x Inv-loop μ-loop
 sub-x c = omega arith
 
 settle-requires : tie.Need-settle-requires Inv-loop μ-loop
-settle-requires c κs = (c .before .before .loop .inv .within, all-bodying _ _ _ _ _ _ (c .before .before .before .before .before .before .pre .0) (c .before .before .before .before .before .before .pre .1) _ _ _ (c .before .before .loop .inv) (c .before .loop-test .taken))
+settle-requires c κs =
+    let start = c .before .before .before .before .before .before in
+    (c .before .before .loop .inv .within, all-bodying _ _ _ _ _ _ (start .pre .0) (start .pre .1) _ _ _ (c .before .before .loop .inv) (c .before .loop-test .taken))
 
 same-length : tie.Need-same-length Inv-loop μ-loop
 same-length c = c .before .before .before .settle .kept .1 .1 .0 ∙ c .before .before .before .before .before .before .loop .inv .long
 
 returns : tie.Need-returns Inv-loop μ-loop
-returns c = all-stop _ _ _ _ _ _ (c .before .before .before .before .before .before .before .before .before .before .pre .0) (c .before .before .before .before .before .before .before .before .before .before .pre .1) _ _ _ (c .before .before .before .before .before .before .loop .inv) (c .before .before .before .before .before .loop-test .taken) _ _ (c .before .before .before .settle .ensures) (c .if1 .taken)
+returns c =
+    let after-settle = c .before .before .before in
+    let after-loop-test = after-settle .before .before in
+    let turn = after-loop-test .before in
+    let start = turn .before .before .before .before in
+    all-stop _ _ _ _ _ _ (start .pre .0) (start .pre .1) _ _ _ (turn .loop .inv) (after-loop-test .loop-test .taken) _ _ (after-settle .settle .ensures) (c .if1 .taken)
 
 loop-less : tie.Need-loop-less Inv-loop μ-loop
 loop-less c = omega arith
 
 loop-again : tie.Need-loop-again Inv-loop μ-loop
-loop-again c = all-step _ _ _ _ _ _ (c .before .before .before .before .before .before .before .before .before .before .pre .0) (c .before .before .before .before .before .before .before .before .before .before .pre .1) _ _ _ (c .before .before .before .before .before .before .loop .inv) (c .before .before .before .before .before .loop-test .taken) _ _ (c .before .before .before .settle .ensures) (c .before .before .before .settle .kept .1 .1 .0) (c .if1 .left)
+loop-again c =
+    let after-settle = c .before .before .before in
+    let after-loop-test = after-settle .before .before in
+    let turn = after-loop-test .before in
+    let start = turn .before .before .before .before in
+    all-step _ _ _ _ _ _ (start .pre .0) (start .pre .1) _ _ _ (turn .loop .inv) (after-loop-test .loop-test .taken) _ _ (after-settle .settle .ensures) (after-settle .settle .kept .1 .1 .0) (c .if1 .left)
 
 same-length-2 : tie.Need-same-length-2 Inv-loop μ-loop
 same-length-2 c = c .before .loop .inv .long

@@ -23,7 +23,11 @@ same-length : tie.Need-same-length
 same-length c = search needs
 
 returns : tie.Need-returns
-returns c = body-codes _ _ _ _ _ _ (c .before .before .before .before .before .before .before .before .before .before .pre) _ (c .before .before .before .before .before .before .record-at .ensures) _ (c .before .before .before .before .if1 .taken) (c .before .before .fill .ensures)
+returns c =
+    let after-if1 = c .before .before .before .before in
+    let after-record-at = after-if1 .before .before in
+    let start = after-record-at .before .before .before .before in
+    body-codes _ _ _ _ _ _ (start .pre) _ (after-record-at .record-at .ensures) _ (after-if1 .if1 .taken) (c .before .before .fill .ensures)
 
 fill-requires-2 : tie.Need-fill-requires-2
 unfolding Fit
@@ -33,7 +37,12 @@ same-length-2 : tie.Need-same-length-2
 same-length-2 c = search needs
 
 returns-2 : tie.Need-returns-2
-returns-2 c = body-empty _ _ _ _ _ _ (c .before .before .before .before .before .before .before .before .before .before .before .before .before .before .pre) _ (c .before .before .before .before .before .before .before .before .before .before .record-at .ensures) _ (c .before .before .before .before .before .before .if2 .taken) (c .before .before .before .before .if3 .taken) (c .before .before .fill2 .ensures)
+returns-2 c =
+    let after-if3 = c .before .before .before .before in
+    let after-if2 = after-if3 .before .before in
+    let after-record-at = after-if2 .before .before .before .before in
+    let start = after-record-at .before .before .before .before in
+    body-empty _ _ _ _ _ _ (start .pre) _ (after-record-at .record-at .ensures) _ (after-if2 .if2 .taken) (after-if3 .if3 .taken) (c .before .before .fill2 .ensures)
 
 pool-requires : tie.Need-pool-requires
 pool-requires c κs = search needs
@@ -41,8 +50,11 @@ pool-requires c κs = search needs
 -- a literal ends in the table
 words-in : (c : tie.After-struct-known4) → c .before .pool .result + c .before .before .before .before .before .before .before .before .record-at .result .a + c .before .before .before .before .before .before .before .before .record-at .result .b ≤ length (now (c .before .before .before .before .before .before .before .before .before .before .before .before .args .table))
 words-in c =
-    let p = c .before .before .before .before .before .before .before .before .before .before .before .before .pre in
-    rw (c .before .pool .ensures) (told-literal _ (p .work .good) _ (p .there) _ (c .before .before .before .before .before .before .before .before .record-at .ensures) (c .before .before .before .before .if2 .taken) (c .before .before .if3 .left) .1)
+    let after-if2 = c .before .before .before .before in
+    let after-record-at = after-if2 .before .before .before .before in
+    let start = after-record-at .before .before .before .before in
+    let p = start .pre in
+    rw (c .before .pool .ensures) (told-literal _ (p .work .good) _ (p .there) _ (after-record-at .record-at .ensures) (after-if2 .if2 .taken) (c .before .before .if3 .left) .1)
 
 cast-from : tie.Need-cast-from
 cast-from c = search needs
@@ -62,12 +74,20 @@ same-length-3 c = search needs
 
 returns-3 : tie.Need-returns-3
 returns-3 c =
-    body-literal _ _ _ _ _ _ (c .before .before .before .before .before .before .before .before .before .before .before .before .before .before .before .before .before .pre) _ (c .before .before .before .before .before .before .before .before .before .before .before .before .before .record-at .ensures) _ (c .before .before .before .before .before .before .before .before .before .if2 .taken) (c .before .before .before .before .before .before .before .if3 .left) (rw (c .before .before .before .before .before .before .pool .ensures) at (c .before .before .fill3 .ensures))
+    let after-pool = c .before .before .before .before .before .before in
+    let after-if3 = after-pool .before in
+    let after-if2 = after-if3 .before .before in
+    let after-record-at = after-if2 .before .before .before .before in
+    let start = after-record-at .before .before .before .before in
+    body-literal _ _ _ _ _ _ (start .pre) _ (after-record-at .record-at .ensures) _ (after-if2 .if2 .taken) (after-if3 .if3 .left) (rw (after-pool .pool .ensures) at (c .before .before .fill3 .ensures))
 
 unite-requires : tie.Need-unite-requires
 unite-requires c κs =
-    let kind = ap (λ (z : Record). z .kind) (c .before .before .before .before .before .record-at .ensures) in
-    (c .before .before .before .before .before .before .before .before .before .pre, (λ e. c .before .before .before .if1 .left (kind ∙ e), λ e. c .before .if2 .left (kind ∙ e)))
+    let after-if1 = c .before .before .before in
+    let after-record-at = after-if1 .before .before in
+    let start = after-record-at .before .before .before .before in
+    let kind = ap (λ (z : Record). z .kind) (after-record-at .record-at .ensures) in
+    (start .pre, (λ e. after-if1 .if1 .left (kind ∙ e), λ e. c .before .if2 .left (kind ∙ e)))
 
 same-length-4 : tie.Need-same-length-4
 same-length-4 c = search needs

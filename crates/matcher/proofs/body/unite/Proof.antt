@@ -26,7 +26,9 @@ blank-requires : tie.Need-blank-requires Inv-loop μ-loop
 blank-requires c κs = body-blank _ _ _ _ _ _ (c .before .before .before .before .before .before .pre .0)
 
 add-first : tie.Need-add-first Inv-loop μ-loop
-add-first c = omega (arith, work-few (c .before .before .before .before .before .before .before .before .before .pre .0 .work), c .before .before .before .before .before .before .before .before .before .pre .0 .there)
+add-first c =
+    let start = c .before .before .before .before .before .before .before .before .before in
+    omega (arith, work-few (start .pre .0 .work), start .pre .0 .there)
 
 loop-holds : tie.Need-loop-holds Inv-loop μ-loop
 loop-holds c =
@@ -38,10 +40,13 @@ loop-holds c =
 -- the branch that is next begins in the table
 there : (c : tie.After-add-arg Inv-loop μ-loop) → c .before .before .loop .first < atoms (now (c .before .before .before .before .before .before .before .before .before .before .before .before .args .table))
 there c =
-    let p = c .before .before .before .before .before .before .before .before .before .before .before .before .pre in
-    let got = c .before .before .before .before .before .before .before .before .record-at .ensures in
+    let after-blank = c .before .before .before .before .before in
+    let after-record-at = after-blank .before .before .before in
+    let start = after-record-at .before .before .before .before in
+    let p = start .pre in
+    let got = after-record-at .record-at .ensures in
     let kind = ap (λ (z : Record). z .kind) got in
-    unite-there _ _ _ _ _ _ _ (p .0) (c .before .before .before .before .before .blank .kept .0) (c .before .before .before .before .before .blank .ensures) _ got (λ e. p .1 .0 (sym kind ∙ e)) (λ e. p .1 .1 (sym kind ∙ e)) _ _ _ (c .before .before .loop .inv) (c .before .loop-test .taken)
+    unite-there _ _ _ _ _ _ _ (p .0) (after-blank .blank .kept .0) (after-blank .blank .ensures) _ got (λ e. p .1 .0 (sym kind ∙ e)) (λ e. p .1 .1 (sym kind ∙ e)) _ _ _ (c .before .before .loop .inv) (c .before .loop-test .taken)
 
 mul-add : tie.Need-mul-add Inv-loop μ-loop
 mul-add c = omega (arith, there c, work-few (c .before .before .before .before .before .before .before .before .before .before .before .before .pre .0 .work))
@@ -51,10 +56,13 @@ add-add c = omega (arith, there c, work-few (c .before .before .before .before .
 
 add-requires : tie.Need-add-requires Inv-loop μ-loop
 add-requires c κs =
-    let p = c .before .before .before .before .before .before .before .before .before .before .before .before .pre in
-    let got = c .before .before .before .before .before .before .before .before .record-at .ensures in
+    let after-blank = c .before .before .before .before .before in
+    let after-record-at = after-blank .before .before .before in
+    let start = after-record-at .before .before .before .before in
+    let p = start .pre in
+    let got = after-record-at .record-at .ensures in
     let kind = ap (λ (z : Record). z .kind) got in
-    unite-add _ _ _ _ _ _ _ (p .0) (c .before .before .before .before .before .blank .kept .0) (c .before .before .before .before .before .blank .ensures) _ got (λ e. p .1 .0 (sym kind ∙ e)) (λ e. p .1 .1 (sym kind ∙ e)) _ _ _ (c .before .before .loop .inv) (c .before .loop-test .taken)
+    unite-add _ _ _ _ _ _ _ (p .0) (after-blank .blank .kept .0) (after-blank .blank .ensures) _ got (λ e. p .1 .0 (sym kind ∙ e)) (λ e. p .1 .1 (sym kind ∙ e)) _ _ _ (c .before .before .loop .inv) (c .before .loop-test .taken)
 
 branch-end-requires : tie.Need-branch-end-requires Inv-loop μ-loop
 branch-end-requires c κs = (c .before .before .before .before .before .before .before .before .before .before .before .before .before .before .before .pre .0 .work .good, there (c .before .before .before))
@@ -67,21 +75,30 @@ loop-less c = omega arith
 
 loop-again : tie.Need-loop-again Inv-loop μ-loop
 loop-again c =
-    let p = c .before .before .before .before .before .before .before .before .before .before .before .before .before .before .before .before .pre in
-    let got = c .before .before .before .before .before .before .before .before .before .before .before .before .record-at .ensures in
+    let after-add = c .before .before .before in
+    let after-loop-test = after-add .before .before in
+    let turn = after-loop-test .before in
+    let after-blank = turn .before .before .before in
+    let after-record-at = after-blank .before .before .before in
+    let start = after-record-at .before .before .before .before in
+    let p = start .pre in
+    let got = after-record-at .record-at .ensures in
     let kind = ap (λ (z : Record). z .kind) got in
-    unite-step _ _ _ _ _ _ _ (p .0) (c .before .before .before .before .before .before .before .before .before .blank .kept .0) (c .before .before .before .before .before .before .before .before .before .blank .ensures) _ got (λ e. p .1 .0 (sym kind ∙ e)) (λ e. p .1 .1 (sym kind ∙ e)) _ _ _ (c .before .before .before .before .before .before .loop .inv) (c .before .before .before .before .before .loop-test .taken)
-    _ (c .before .before .before .add .kept .0) (c .before .before .before .add .ensures) _ (c .branch-end .ensures)
+    unite-step _ _ _ _ _ _ _ (p .0) (after-blank .blank .kept .0) (after-blank .blank .ensures) _ got (λ e. p .1 .0 (sym kind ∙ e)) (λ e. p .1 .1 (sym kind ∙ e)) _ _ _ (turn .loop .inv) (after-loop-test .loop-test .taken)
+    _ (after-add .add .kept .0) (after-add .add .ensures) _ (c .branch-end .ensures)
 
 same-length : tie.Need-same-length Inv-loop μ-loop
 same-length c = c .before .loop .inv .long ∙ c .before .before .before .before .blank .kept .0
 
 returns : tie.Need-returns Inv-loop μ-loop
 returns c =
-    let p = c .before .before .before .before .before .before .before .before .before .before .before .pre in
-    let got = c .before .before .before .before .before .before .before .record-at .ensures in
+    let after-blank = c .before .before .before .before in
+    let after-record-at = after-blank .before .before .before in
+    let start = after-record-at .before .before .before .before in
+    let p = start .pre in
+    let got = after-record-at .record-at .ensures in
     let kind = ap (λ (z : Record). z .kind) got in
-    unite-end _ _ _ _ _ _ _ (p .0) (c .before .before .before .before .blank .kept .0) (c .before .before .before .before .blank .ensures) _ got (λ e. p .1 .0 (sym kind ∙ e)) (λ e. p .1 .1 (sym kind ∙ e)) _ _ _ (c .before .loop .inv) (c .loop-test .left)
+    unite-end _ _ _ _ _ _ _ (p .0) (after-blank .blank .kept .0) (after-blank .blank .ensures) _ got (λ e. p .1 .0 (sym kind ∙ e)) (λ e. p .1 .1 (sym kind ∙ e)) _ _ _ (c .before .loop .inv) (c .loop-test .left)
 
 pub unite-spec : {M : Type 1} → statement M
 unite-spec =

@@ -30,12 +30,15 @@ byte-requires-2 c κs = let p = c .before .before .before .before .pre in (p .1 
 
 returns : tie.Need-returns Inv-loop μ-loop
 returns c =
-    let p = c .before .before .before .before .before .before .pre in
-    let l = c .before .before .before .before .loop in
+    let after-loop-test = c .before .before .before in
+    let turn = after-loop-test .before in
+    let start = turn .before .before in
+    let p = start .pre in
+    let l = turn .loop in
     let h : bitAnd (c .before .before .byte .result) (c .before .byte2 .result) ≡ 0 → ⊥ = c .if1 .taken in
     let hit = trial-hit _ _ _ _ (p .1 .1 .0 .flags) (p .1 .1 .1 .flags) _ (l .m) _ (omega arith) (omega arith) (p .1 .0) (rw (c .before .before .byte .ensures, c .before .byte2 .ensures) at h) in
-    let a = c .before .before .before .before .before .before .args in
-    omega (arith, l .inv .2, longest-hit (trial (on (now (a .scratch)) (a .w) (a .left)) (on (now (a .scratch)) (a .w) (a .right)) (a .i) (a .n)) (a .i) (l .m) (c .before .before .before .loop-test .taken) hit)
+    let a = start .args in
+    omega (arith, l .inv .2, longest-hit (trial (on (now (a .scratch)) (a .w) (a .left)) (on (now (a .scratch)) (a .w) (a .right)) (a .i) (a .n)) (a .i) (l .m) (after-loop-test .loop-test .taken) hit)
 
 sub-m : tie.Need-sub-m Inv-loop μ-loop
 sub-m c = omega arith
@@ -45,11 +48,14 @@ loop-less c = omega arith
 
 loop-again : tie.Need-loop-again Inv-loop μ-loop
 loop-again c =
-    let p = c .before .before .before .before .before .before .pre in
-    let l = c .before .before .before .before .loop in
+    let after-loop-test = c .before .before .before in
+    let turn = after-loop-test .before in
+    let start = turn .before .before in
+    let p = start .pre in
+    let l = turn .loop in
     let h : bitAnd (c .before .before .byte .result) (c .before .byte2 .result) ≡ 0 = c .if1 .left in
     let miss = trial-miss _ _ _ _ (p .1 .1 .0 .flags) (p .1 .1 .1 .flags) _ (l .m) _ (omega arith) (omega arith) (p .1 .0) (rw (c .before .before .byte .ensures, c .before .byte2 .ensures) at h) in
-    (omega arith, omega arith, l .inv .2 ∙ longest-miss _ _ (l .m) (c .before .before .before .loop-test .taken) miss)
+    (omega arith, omega arith, l .inv .2 ∙ longest-miss _ _ (l .m) (after-loop-test .loop-test .taken) miss)
 
 returns-2 : tie.Need-returns-2 Inv-loop μ-loop
 returns-2 c =

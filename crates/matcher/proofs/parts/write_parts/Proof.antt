@@ -23,13 +23,21 @@ record-at-requires : tie.Need-record-at-requires Inv-loop μ-loop
 record-at-requires c κs = (c .before .before .before .before .before .pre .work .good, c .loop .inv .there)
 
 put-requires : tie.Need-put-requires Inv-loop μ-loop
-put-requires c κs = (parts-room _ _ _ _ _ (c .before .before .before .before .before .before .before .before .before .pre) _ _ _ _ (c .before .before .before .before .loop .inv), omega (arith, c .before .before .before .before .before .before .before .before .before .pre .work .short))
+put-requires c κs =
+    let turn = c .before .before .before .before in
+    let start = turn .before .before .before .before .before in
+    (parts-room _ _ _ _ _ (start .pre) _ _ _ _ (turn .loop .inv), omega (arith, start .pre .work .short))
 
 same-length : tie.Need-same-length Inv-loop μ-loop
 same-length c = c .before .before .put .kept .0 ∙ c .before .before .before .before .before .before .before .loop .inv .long
 
 returns : tie.Need-returns Inv-loop μ-loop
-returns c = parts-end _ _ _ _ _ (c .before .before .before .before .before .before .before .before .before .before .before .before .pre) _ _ _ _ (c .before .before .before .before .before .before .before .loop .inv) _ (c .before .before .before .before .before .before .record-at .ensures) (c .before .before .before .before .if1 .taken) _ (c .before .before .put .ensures)
+returns c =
+    let after-if1 = c .before .before .before .before in
+    let after-record-at = after-if1 .before .before in
+    let turn = after-record-at .before in
+    let start = turn .before .before .before .before .before in
+    parts-end _ _ _ _ _ (start .pre) _ _ _ _ (turn .loop .inv) _ (after-record-at .record-at .ensures) (after-if1 .if1 .taken) _ (c .before .before .put .ensures)
 
 after-requires : tie.Need-after-requires Inv-loop μ-loop
 after-requires c κs = (c .before .before .before .before .before .before .before .before .pre .work .good, c .before .before .before .loop .inv .there)
@@ -38,43 +46,73 @@ mul-last-end : tie.Need-mul-last-end Inv-loop μ-loop
 mul-last-end c = omega (arith, work-few (c .before .before .before .before .before .before .before .before .before .pre .work), c .before .before .before .before .loop .inv .there)
 
 mul-last-end-2 : tie.Need-mul-last-end-2 Inv-loop μ-loop
-mul-last-end-2 c = omega (arith, work-few (c .before .before .before .before .before .before .before .before .before .pre .work), parts-next _ _ _ _ _ (c .before .before .before .before .before .before .before .before .before .pre) _ _ _ _ (c .before .before .before .before .loop .inv) _ (c .before .before .before .record-at .ensures) (c .before .if1 .left) _ (c .after .ensures))
+mul-last-end-2 c =
+    let after-record-at = c .before .before .before in
+    let turn = after-record-at .before in
+    let start = turn .before .before .before .before .before in
+    omega (arith, work-few (start .pre .work), parts-next _ _ _ _ _ (start .pre) _ _ _ _ (turn .loop .inv) _ (after-record-at .record-at .ensures) (c .before .if1 .left) _ (c .after .ensures))
 
 add-last-end : tie.Need-add-last-end Inv-loop μ-loop
-add-last-end c = omega (arith, work-few (c .before .before .before .before .before .before .before .before .before .pre .work), parts-next _ _ _ _ _ (c .before .before .before .before .before .before .before .before .before .pre) _ _ _ _ (c .before .before .before .before .loop .inv) _ (c .before .before .before .record-at .ensures) (c .before .if1 .left) _ (c .after .ensures))
+add-last-end c =
+    let after-record-at = c .before .before .before in
+    let turn = after-record-at .before in
+    let start = turn .before .before .before .before .before in
+    omega (arith, work-few (start .pre .work), parts-next _ _ _ _ _ (start .pre) _ _ _ _ (turn .loop .inv) _ (after-record-at .record-at .ensures) (c .before .if1 .left) _ (c .after .ensures))
 
 last-end-requires : tie.Need-last-end-requires Inv-loop μ-loop
 last-end-requires c κs =
-    let p = c .before .before .before .before .before .before .before .before .before .pre in
-    let l = c .before .before .before .before .loop in (
+    let after-record-at = c .before .before .before in
+    let turn = after-record-at .before in
+    let start = turn .before .before .before .before .before in
+    let p = start .pre in
+    let l = turn .loop in (
       l .inv .inner,
       (
         omega (arith, p .work .wide),
         (
-          parts-left _ _ _ _ _ p _ _ _ _ (l .inv) _ (c .before .before .before .record-at .ensures) (c .before .if1 .left) _ (c .after .ensures),
-          parts-right _ _ _ _ _ p _ _ _ _ (l .inv) _ (c .before .before .before .record-at .ensures) (c .before .if1 .left) _ (c .after .ensures),
+          parts-left _ _ _ _ _ p _ _ _ _ (l .inv) _ (after-record-at .record-at .ensures) (c .before .if1 .left) _ (c .after .ensures),
+          parts-right _ _ _ _ _ p _ _ _ _ (l .inv) _ (after-record-at .record-at .ensures) (c .before .if1 .left) _ (c .after .ensures),
         ),
       ),
     )
 
 put-requires-2 : tie.Need-put-requires-2 Inv-loop μ-loop
 put-requires-2 c κs =
-    let p = c .before .before .before .before .before .before .before .before .before .before .before .pre in
-    let l = c .before .before .before .before .before .before .loop in (
+    let after-if1 = c .before .before .before in
+    let after-record-at = after-if1 .before .before in
+    let turn = after-record-at .before in
+    let start = turn .before .before .before .before .before in
+    let p = start .pre in
+    let l = turn .loop in (
       parts-room _ _ _ _ _ p _ _ _ _ (l .inv),
-      omega (arith, p .work .short, parts-in _ _ _ _ _ p _ _ _ _ (l .inv) _ (c .before .before .before .before .before .record-at .ensures) (c .before .before .before .if1 .left) _ (c .before .before .after .ensures) _ (c .before .last-end .ensures)),
+      omega (arith, p .work .short, parts-in _ _ _ _ _ p _ _ _ _ (l .inv) _ (after-record-at .record-at .ensures) (after-if1 .if1 .left) _ (c .before .before .after .ensures) _ (c .before .last-end .ensures)),
     )
 
 add-at : tie.Need-add-at Inv-loop μ-loop
-add-at c = omega (arith, parts-room _ _ _ _ _ (c .before .before .before .before .before .before .before .before .before .before .before .before .before .before .pre) _ _ _ _ (c .before .before .before .before .before .before .before .before .before .loop .inv), c .before .before .before .before .before .before .before .before .before .loop .inv .long)
+add-at c =
+    let turn = c .before .before .before .before .before .before .before .before .before in
+    let start = turn .before .before .before .before .before in
+    omega (arith, parts-room _ _ _ _ _ (start .pre) _ _ _ _ (turn .loop .inv), turn .loop .inv .long)
 
 loop-less : tie.Need-loop-less Inv-loop μ-loop
 loop-less c =
-    let n = parts-next _ _ _ _ _ (c .before .before .before .before .before .before .before .before .before .before .before .before .before .before .pre) _ _ _ _ (c .before .before .before .before .before .before .before .before .before .loop .inv) _ (c .before .before .before .before .before .before .before .before .record-at .ensures) (c .before .before .before .before .before .before .if1 .left) _ (c .before .before .before .before .before .after .ensures) in
-    omega (arith, n, c .before .before .before .before .before .after .ensures, some-atom (head (node (now (c .before .before .before .before .before .before .before .before .before .before .before .before .before .before .args .table)) (c .before .before .before .before .before .before .before .before .before .loop .x))))
+    let after-after = c .before .before .before .before .before in
+    let after-if1 = after-after .before in
+    let after-record-at = after-if1 .before .before in
+    let turn = after-record-at .before in
+    let start = turn .before .before .before .before .before in
+    let n = parts-next _ _ _ _ _ (start .pre) _ _ _ _ (turn .loop .inv) _ (after-record-at .record-at .ensures) (after-if1 .if1 .left) _ (after-after .after .ensures) in
+    omega (arith, n, after-after .after .ensures, some-atom (head (node (now (start .args .table)) (turn .loop .x))))
 
 loop-again : tie.Need-loop-again Inv-loop μ-loop
-loop-again c = parts-step _ _ _ _ _ (c .before .before .before .before .before .before .before .before .before .before .before .before .before .before .pre) _ _ _ _ (c .before .before .before .before .before .before .before .before .before .loop .inv) _ (c .before .before .before .before .before .before .before .before .record-at .ensures) (c .before .before .before .before .before .before .if1 .left) _ (c .before .before .before .before .before .after .ensures) _ (c .before .before .before .before .last-end .ensures) _ (c .before .before .put2 .ensures)
+loop-again c =
+    let after-last-end = c .before .before .before .before in
+    let after-after = after-last-end .before in
+    let after-if1 = after-after .before in
+    let after-record-at = after-if1 .before .before in
+    let turn = after-record-at .before in
+    let start = turn .before .before .before .before .before in
+    parts-step _ _ _ _ _ (start .pre) _ _ _ _ (turn .loop .inv) _ (after-record-at .record-at .ensures) (after-if1 .if1 .left) _ (after-after .after .ensures) _ (after-last-end .last-end .ensures) _ (c .before .before .put2 .ensures)
 
 pub write-parts-spec : {M : Type 1} → statement M
 write-parts-spec =

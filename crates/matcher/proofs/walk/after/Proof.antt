@@ -15,7 +15,10 @@ add-result : tie.Need-add-result
 add-result c = omega (arith, record-in _ (c .before .before .before .before .pre .0) _ (c .before .before .before .before .pre .1))
 
 returns : tie.Need-returns
-returns c = after-group _ (c .before .before .before .before .before .pre .0) _ (c .before .before .before .before .before .pre .1) _ (c .before .before .before .record-at .ensures) (c .before .if1 .taken)
+returns c =
+    let after-record-at = c .before .before .before in
+    let start = after-record-at .before .before in
+    after-group _ (start .pre .0) _ (start .pre .1) _ (after-record-at .record-at .ensures) (c .before .if1 .taken)
 
 returns-2 : tie.Need-returns-2
 returns-2 c = after-plain _ (c .before .before .before .before .pre .0) _ (c .before .before .before .before .pre .1) _ (c .before .before .record-at .ensures) (c .if1 .left)

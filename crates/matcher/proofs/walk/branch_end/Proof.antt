@@ -26,20 +26,30 @@ record-at-requires : tie.Need-record-at-requires Inv-loop μ-loop
 record-at-requires c κs = (c .before .before .before .pre .0, c .before .loop .inv .0)
 
 returns : tie.Need-returns Inv-loop μ-loop
-returns c = omega (arith, c .before .before .before .after .ensures, c .before .before .before .before .loop .inv .1, branch-last _ (c .before .before .before .before .before .before .pre .0) _ (c .before .before .before .before .loop .inv .0) _ (c .before .before .record-at .ensures) (c .if1 .taken))
+returns c =
+    let after-after = c .before .before .before in
+    let turn = after-after .before in
+    let start = turn .before .before in
+    omega (arith, after-after .after .ensures, turn .loop .inv .1, branch-last _ (start .pre .0) _ (turn .loop .inv .0) _ (c .before .before .record-at .ensures) (c .if1 .taken))
 
 loop-less : tie.Need-loop-less Inv-loop μ-loop
 loop-less c =
-    let n = ends-then _ (c .before .before .before .before .before .before .pre .0) _ (c .before .before .before .before .loop .inv .0) _ (c .before .before .record-at .ensures) (c .if1 .left) in
-    omega (arith, c .before .before .before .after .ensures, n .1, some-atom (head (node (now (c .before .before .before .before .before .before .args .table)) (c .before .before .before .before .loop .y))))
+    let after-after = c .before .before .before in
+    let turn = after-after .before in
+    let start = turn .before .before in
+    let n = ends-then _ (start .pre .0) _ (turn .loop .inv .0) _ (c .before .before .record-at .ensures) (c .if1 .left) in
+    omega (arith, after-after .after .ensures, n .1, some-atom (head (node (now (start .args .table)) (turn .loop .y))))
 
 loop-again : tie.Need-loop-again Inv-loop μ-loop
 loop-again c =
-    let good = c .before .before .before .before .before .before .pre .0 in
-    let h = c .before .before .before .before .loop .inv .0 in
+    let after-after = c .before .before .before in
+    let turn = after-after .before in
+    let start = turn .before .before in
+    let good = start .pre .0 in
+    let h = turn .loop .inv .0 in
     let got = c .before .before .record-at .ensures in
     let n = ends-then _ good _ h _ got (c .if1 .left) in
-    rw (c .before .before .before .after .ensures) (n .1, omega (arith, c .before .before .before .before .loop .inv .1, branch-then _ good _ h _ got (c .if1 .left)))
+    rw (after-after .after .ensures) (n .1, omega (arith, turn .loop .inv .1, branch-then _ good _ h _ got (c .if1 .left)))
 
 pub branch-end-spec : {M : Type 1} → statement M
 branch-end-spec = tie.close (tie.spec Inv-loop μ-loop loop-holds after-requires record-at-requires returns loop-less loop-again)

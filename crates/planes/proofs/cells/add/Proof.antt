@@ -61,10 +61,14 @@ loop-less c = omega arith
 
 loop-again : tie.Need-loop-again Inv-loop μ-loop
 loop-again c =
-    let p = c .before .before .before .before .before .before .before .pre in
-    let same = pass-same _ _ _ _ _ _ (c .before .before .before .loop .inv) (p .wide) (c .before .before .loop-test .taken) in
-    rw (c .before .before .before .before .place2 .ensures, c .before .before .before .before .before .place .ensures)
-    (pass-step _ _ _ _ _ _ (c .before .before .before .loop .inv) (p .wide) (c .before .before .loop-test .taken) (p .into .room) _ (ap₂ bitOr (same _) (same _)))
+    let turn = c .before .before .before in
+    let after-place2 = turn .before in
+    let after-place = after-place2 .before in
+    let start = after-place .before .before in
+    let p = start .pre in
+    let same = pass-same _ _ _ _ _ _ (turn .loop .inv) (p .wide) (c .before .before .loop-test .taken) in
+    rw (after-place2 .place2 .ensures, after-place .place .ensures)
+    (pass-step _ _ _ _ _ _ (turn .loop .inv) (p .wide) (c .before .before .loop-test .taken) (p .into .room) _ (ap₂ bitOr (same _) (same _)))
 
 same-length : tie.Need-same-length Inv-loop μ-loop
 same-length c = c .before .loop .inv .long

@@ -19,16 +19,25 @@ width-requires : tie.Need-width-requires Inv-loop μ-loop
 width-requires c κs = tt
 
 loop-holds : tie.Need-loop-holds Inv-loop μ-loop
-loop-holds c = rw (c .width .ensures) (fill-start _ _ _ _ _ _ _ (c .before .before .before .before .before .before .before .before .pre) (c .before .before .before .blank .kept .0) (c .before .before .before .blank .ensures))
+loop-holds c =
+    let after-blank = c .before .before .before in
+    let start = after-blank .before .before .before .before .before in
+    rw (c .width .ensures) (fill-start _ _ _ _ _ _ _ (start .pre) (after-blank .blank .kept .0) (after-blank .blank .ensures))
 
 sub-i : tie.Need-sub-i Inv-loop μ-loop
 sub-i c = omega (arith, c .before .loop .inv .from)
 
 value-requires : tie.Need-value-requires Inv-loop μ-loop
-value-requires c κs = (omega (arith, c .before .before .loop .inv .from, c .before .before .before .before .before .before .before .before .before .before .before .pre .wide), c .before .before .before .before .before .before .before .before .before .before .before .pre .fit)
+value-requires c κs =
+    let start = c .before .before .before .before .before .before .before .before .before .before .before in
+    (omega (arith, c .before .before .loop .inv .from, start .pre .wide), start .pre .fit)
 
 mark-requires : tie.Need-mark-requires Inv-loop μ-loop
-mark-requires c κs = (omega arith, (c .before .before .loop-test .taken, rw (c .before .before .before .loop .inv .long ∙ c .before .before .before .before .before .before .before .blank .kept .0) (c .before .before .before .before .before .before .before .before .before .before .before .before .pre .into)))
+mark-requires c κs =
+    let turn = c .before .before .before in
+    let after-blank = turn .before .before .before .before in
+    let start = after-blank .before .before .before .before .before in
+    (omega arith, (c .before .before .loop-test .taken, rw (turn .loop .inv .long ∙ after-blank .blank .kept .0) (start .pre .into)))
 
 add-j : tie.Need-add-j Inv-loop μ-loop
 add-j c = omega arith
@@ -37,13 +46,22 @@ loop-less : tie.Need-loop-less Inv-loop μ-loop
 loop-less c = omega arith
 
 loop-again : tie.Need-loop-again Inv-loop μ-loop
-loop-again c = rw (c .before .before .mark .ensures) (fill-step _ _ _ _ _ _ _ (c .before .before .before .before .before .before .before .before .before .before .before .before .before .before .before .pre) (c .before .before .before .before .before .before .before .before .before .before .blank .kept .0) (c .before .before .before .before .before .before .before .before .before .before .blank .ensures) _ _ (c .before .before .before .before .before .before .loop .inv) (c .before .before .before .before .before .loop-test .taken) _ (omega (arith, c .before .before .before .before .before .before .loop .inv .from)) _ (c .before .before .before .value .ensures))
+loop-again c =
+    let after-value = c .before .before .before in
+    let after-loop-test = after-value .before .before in
+    let turn = after-loop-test .before in
+    let after-blank = turn .before .before .before .before in
+    let start = after-blank .before .before .before .before .before in
+    rw (c .before .before .mark .ensures) (fill-step _ _ _ _ _ _ _ (start .pre) (after-blank .blank .kept .0) (after-blank .blank .ensures) _ _ (turn .loop .inv) (after-loop-test .loop-test .taken) _ (omega (arith, turn .loop .inv .from)) _ (after-value .value .ensures))
 
 same-length : tie.Need-same-length Inv-loop μ-loop
 same-length c = c .before .loop .inv .long ∙ c .before .before .before .before .before .blank .kept .0
 
 returns : tie.Need-returns Inv-loop μ-loop
-returns c = fill-end _ _ _ _ _ _ _ (c .before .before .before .before .before .before .before .before .before .before .pre) (c .before .before .before .before .before .blank .kept .0) (c .before .before .before .before .before .blank .ensures) _ _ (c .before .loop .inv) (c .loop-test .left)
+returns c =
+    let after-blank = c .before .before .before .before .before in
+    let start = after-blank .before .before .before .before .before in
+    fill-end _ _ _ _ _ _ _ (start .pre) (after-blank .blank .kept .0) (after-blank .blank .ensures) _ _ (c .before .loop .inv) (c .loop-test .left)
 
 pub fill-spec : {M : Type 1} → statement M
 fill-spec = tie.close (tie.spec Inv-loop μ-loop blank-requires width-requires loop-holds sub-i value-requires mark-requires add-j loop-less loop-again same-length returns)

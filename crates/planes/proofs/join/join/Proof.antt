@@ -20,17 +20,28 @@ loop-holds c = plane-start _ _ _ _ _ _ _ (c .before .before .before .before .bef
 
 join-column-requires : tie.Need-join-column-requires Inv-loop μ-loop
 join-column-requires c κs =
-    let ok = join-ready (c .before .before .before .before .before .before .before .before .pre .1) (c .before .before .before .before .before .blank .ensures) (c .before .before .before .before .before .blank .kept .0) in
+    let after-blank = c .before .before .before .before .before in
+    let start = after-blank .before .before .before in
+    let ok = join-ready (start .pre .1) (after-blank .blank .ensures) (after-blank .blank .kept .0) in
     let l = c .before .before .loop in
     (c .before .loop-test .taken, (l .inv .counting .within, (plane-ready _ _ _ _ _ _ _ ok _ _ _ (l .inv), plane-vacant _ _ _ _ _ _ _ ok _ _ _ (l .inv) (c .before .loop-test .taken))))
 
 same-length : tie.Need-same-length Inv-loop μ-loop
-same-length c = c .before .before .before .join-column .kept .0 ∙ c .before .before .before .before .before .before .loop .inv .long ∙ c .before .before .before .before .before .before .before .before .before .blank .kept .0
+same-length c =
+    let after-join-column = c .before .before .before in
+    let turn = after-join-column .before .before .before in
+    let after-blank = turn .before .before .before in
+    after-join-column .join-column .kept .0 ∙ turn .loop .inv .long ∙ after-blank .blank .kept .0
 
 returns : tie.Need-returns Inv-loop μ-loop
 returns c =
-    let ok = join-ready (c .before .before .before .before .before .before .before .before .before .before .before .before .pre .1) (c .before .before .before .before .before .before .before .before .before .blank .ensures) (c .before .before .before .before .before .before .before .before .before .blank .kept .0) in
-    join-blank (c .before .before .before .before .before .before .before .before .before .before .before .before .pre .1) (c .before .before .before .before .before .before .before .before .before .blank .ensures) (plane-stop _ _ _ _ _ _ _ ok _ _ _ (c .before .before .before .before .before .before .loop .inv) (c .before .before .before .before .before .loop-test .taken) _ _ (c .before .before .before .join-column .ensures) (c .if1 .taken))
+    let after-join-column = c .before .before .before in
+    let after-loop-test = after-join-column .before .before in
+    let turn = after-loop-test .before in
+    let after-blank = turn .before .before .before in
+    let start = after-blank .before .before .before in
+    let ok = join-ready (start .pre .1) (after-blank .blank .ensures) (after-blank .blank .kept .0) in
+    join-blank (start .pre .1) (after-blank .blank .ensures) (plane-stop _ _ _ _ _ _ _ ok _ _ _ (turn .loop .inv) (after-loop-test .loop-test .taken) _ _ (after-join-column .join-column .ensures) (c .if1 .taken))
 
 add-j : tie.Need-add-j Inv-loop μ-loop
 add-j c = omega arith
@@ -40,16 +51,23 @@ loop-less c = omega arith
 
 loop-again : tie.Need-loop-again Inv-loop μ-loop
 loop-again c =
-    let ok = join-ready (c .before .before .before .before .before .before .before .before .before .before .before .before .pre .1) (c .before .before .before .before .before .before .before .before .before .blank .ensures) (c .before .before .before .before .before .before .before .before .before .blank .kept .0) in
-    plane-step _ _ _ _ _ _ _ ok _ _ _ (c .before .before .before .before .before .before .loop .inv) (c .before .before .before .before .before .loop-test .taken) _ _ (c .before .before .before .join-column .ensures) (c .before .before .before .join-column .kept .0) (c .if1 .left)
+    let after-join-column = c .before .before .before in
+    let after-loop-test = after-join-column .before .before in
+    let turn = after-loop-test .before in
+    let after-blank = turn .before .before .before in
+    let start = after-blank .before .before .before in
+    let ok = join-ready (start .pre .1) (after-blank .blank .ensures) (after-blank .blank .kept .0) in
+    plane-step _ _ _ _ _ _ _ ok _ _ _ (turn .loop .inv) (after-loop-test .loop-test .taken) _ _ (after-join-column .join-column .ensures) (after-join-column .join-column .kept .0) (c .if1 .left)
 
 same-length-2 : tie.Need-same-length-2 Inv-loop μ-loop
 same-length-2 c = c .before .loop .inv .long ∙ c .before .before .before .before .blank .kept .0
 
 returns-2 : tie.Need-returns-2 Inv-loop μ-loop
 returns-2 c =
-    let ok = join-ready (c .before .before .before .before .before .before .before .pre .1) (c .before .before .before .before .blank .ensures) (c .before .before .before .before .blank .kept .0) in
-    join-blank (c .before .before .before .before .before .before .before .pre .1) (c .before .before .before .before .blank .ensures) (plane-end _ _ _ _ _ _ _ ok _ _ _ (c .before .loop .inv) (c .loop-test .left))
+    let after-blank = c .before .before .before .before in
+    let start = after-blank .before .before .before in
+    let ok = join-ready (start .pre .1) (after-blank .blank .ensures) (after-blank .blank .kept .0) in
+    join-blank (start .pre .1) (after-blank .blank .ensures) (plane-end _ _ _ _ _ _ _ ok _ _ _ (c .before .loop .inv) (c .loop-test .left))
 
 pub join-spec : {M : Type 1} → statement M
 join-spec = tie.close (tie.spec Inv-loop μ-loop blank-requires loop-holds join-column-requires same-length returns add-j loop-less loop-again same-length-2 returns-2)

@@ -40,8 +40,11 @@ same-length c = c .before .before .before .before .before .loop .inv .long
 
 returns : tie.Need-returns Inv-loop μ-loop
 returns c =
-    let p = c .before .before .before .before .before .before .before .pre in
-    column-stop _ _ _ _ _ _ _ _ (p .0) (p .1 .1 .0) _ _ _ (c .before .before .before .before .before .loop .inv) (c .before .before .before .before .loop-test .taken) _ (c .before .before .search-end .ensures) (c .enum-told .given .1)
+    let after-loop-test = c .before .before .before .before in
+    let turn = after-loop-test .before in
+    let start = turn .before .before in
+    let p = start .pre in
+    column-stop _ _ _ _ _ _ _ _ (p .0) (p .1 .1 .0) _ _ _ (turn .loop .inv) (after-loop-test .loop-test .taken) _ (c .before .before .search-end .ensures) (c .enum-told .given .1)
 
 add-i : tie.Need-add-i Inv-loop μ-loop
 add-i c = omega arith
@@ -51,9 +54,12 @@ loop-less c = omega arith
 
 loop-again : tie.Need-loop-again Inv-loop μ-loop
 loop-again c =
-    let p = c .before .before .before .before .before .before .pre in
-    let l = c .before .before .before .before .loop in
-    let more = c .before .before .before .loop-test .taken in
+    let after-loop-test = c .before .before .before in
+    let turn = after-loop-test .before in
+    let start = turn .before .before in
+    let p = start .pre in
+    let l = turn .loop in
+    let more = after-loop-test .loop-test .taken in
     let got = c .before .search-end .ensures in
     ⊎-elim
     (λ w. rw (w .8, w .7, w .4 .ensures) (column-found _ _ _ _ _ _ _ _ (p .0) (p .1 .1 .0) _ _ _ (l .inv) more _ got _ _ (w .1 .given .1)))

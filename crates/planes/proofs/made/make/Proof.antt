@@ -27,18 +27,30 @@ gather-requires c κs = make-gather _ _ _ _ _ _ _ _ (c .before .before .before .
 
 join-requires : tie.Need-join-requires Inv-loop μ-loop
 join-requires c κs =
-    let p = c .before .before .before .before .before .before .before .before .pre .1 in
-    let g = make-gathered _ _ _ _ _ _ _ _ p _ _ _ _ _ (c .before .before .before .before .before .before .loop .inv) _ (c .before .before .before .gather .kept .0) (c .before .before .before .gather .ensures) in
+    let after-gather = c .before .before .before in
+    let turn = after-gather .before .before .before in
+    let start = turn .before .before in
+    let p = start .pre .1 in
+    let g = make-gathered _ _ _ _ _ _ _ _ p _ _ _ _ _ (turn .loop .inv) _ (after-gather .gather .kept .0) (after-gather .gather .ensures) in
     (g .counting .within, make-ready _ _ _ _ _ _ _ _ p _ _ _ _ _ g)
 
 same-length : tie.Need-same-length Inv-loop μ-loop
-same-length c = c .before .before .before .join .kept .0 ∙ c .before .before .before .before .before .before .before .gather .kept .0 ∙ c .before .before .before .before .before .before .before .before .before .before .loop .inv .long
+same-length c =
+    let after-join = c .before .before .before in
+    let after-gather = after-join .before .before .before .before in
+    let turn = after-gather .before .before .before in
+    after-join .join .kept .0 ∙ after-gather .gather .kept .0 ∙ turn .loop .inv .long
 
 returns : tie.Need-returns Inv-loop μ-loop
 returns c =
-    let p = c .before .before .before .before .before .before .before .before .before .before .before .before .pre .1 in
-    let g = make-gathered _ _ _ _ _ _ _ _ p _ _ _ _ _ (c .before .before .before .before .before .before .before .before .before .before .loop .inv) _ (c .before .before .before .before .before .before .before .gather .kept .0) (c .before .before .before .before .before .before .before .gather .ensures) in
-    make-stop _ _ _ _ _ _ _ _ p _ _ _ _ _ g (c .before .before .before .before .before .before .before .before .before .loop-test .taken) _ _ (c .before .before .before .join .ensures) (c .if1 .taken)
+    let after-join = c .before .before .before in
+    let after-gather = after-join .before .before .before .before in
+    let after-loop-test = after-gather .before .before in
+    let turn = after-loop-test .before in
+    let start = turn .before .before in
+    let p = start .pre .1 in
+    let g = make-gathered _ _ _ _ _ _ _ _ p _ _ _ _ _ (turn .loop .inv) _ (after-gather .gather .kept .0) (after-gather .gather .ensures) in
+    make-stop _ _ _ _ _ _ _ _ p _ _ _ _ _ g (after-loop-test .loop-test .taken) _ _ (after-join .join .ensures) (c .if1 .taken)
 
 add-k : tie.Need-add-k Inv-loop μ-loop
 add-k c = omega arith
@@ -48,9 +60,14 @@ loop-less c = omega arith
 
 loop-again : tie.Need-loop-again Inv-loop μ-loop
 loop-again c =
-    let p = c .before .before .before .before .before .before .before .before .before .before .before .before .pre .1 in
-    let g = make-gathered _ _ _ _ _ _ _ _ p _ _ _ _ _ (c .before .before .before .before .before .before .before .before .before .before .loop .inv) _ (c .before .before .before .before .before .before .before .gather .kept .0) (c .before .before .before .before .before .before .before .gather .ensures) in
-    make-step _ _ _ _ _ _ _ _ p _ _ _ _ _ g (c .before .before .before .before .before .before .before .before .before .loop-test .taken) _ _ (c .before .before .before .join .ensures) (c .before .before .before .join .kept .0) (c .if1 .left)
+    let after-join = c .before .before .before in
+    let after-gather = after-join .before .before .before .before in
+    let after-loop-test = after-gather .before .before in
+    let turn = after-loop-test .before in
+    let start = turn .before .before in
+    let p = start .pre .1 in
+    let g = make-gathered _ _ _ _ _ _ _ _ p _ _ _ _ _ (turn .loop .inv) _ (after-gather .gather .kept .0) (after-gather .gather .ensures) in
+    make-step _ _ _ _ _ _ _ _ p _ _ _ _ _ g (after-loop-test .loop-test .taken) _ _ (after-join .join .ensures) (after-join .join .kept .0) (c .if1 .left)
 
 gather-requires-2 : tie.Need-gather-requires-2 Inv-loop μ-loop
 gather-requires-2 c κs = make-gather _ _ _ _ _ _ _ _ (c .before .before .before .before .pre .1) _ _ _ _ _ (c .before .before .loop .inv)
@@ -60,11 +77,14 @@ same-length-2 c = c .before .before .gather2 .kept .0 ∙ c .before .before .bef
 
 returns-2 : tie.Need-returns-2 Inv-loop μ-loop
 returns-2 c =
-    let p = c .before .before .before .before .before .before .before .pre .1 in
-    let l = c .before .before .before .before .before .loop in
-    let e : c .before .before .before .before .before .before .before .args .times ≡ l .k = omega (arith, l .inv .counting .below) in
+    let after-loop-test = c .before .before .before .before in
+    let turn = after-loop-test .before in
+    let start = turn .before .before in
+    let p = start .pre .1 in
+    let l = turn .loop in
+    let e : start .args .times ≡ l .k = omega (arith, l .inv .counting .below) in
     let g = make-gathered _ _ _ _ _ _ _ _ p _ _ _ _ _ (l .inv) _ (c .before .before .gather2 .kept .0) (rw e at (c .before .before .gather2 .ensures)) in
-    make-end _ _ _ _ _ _ _ _ p _ _ _ _ _ g (c .before .before .before .before .loop-test .left)
+    make-end _ _ _ _ _ _ _ _ p _ _ _ _ _ g (after-loop-test .loop-test .left)
 
 pub make-spec : {M : Type 1} → statement M
 make-spec =
