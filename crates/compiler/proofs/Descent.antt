@@ -17,10 +17,10 @@ use Rattle.pattern.specs.Scan.{low, high, depth, body-begins, begins, begun, re
 use Rattle.pattern.proofs.Tests.{le-or-lt}
 use Rattle.pattern.proofs.Notation.{kind-byte}
 use Rattle.pattern.proofs.SpeltReads.{ended, ended-closes, ended-parts}
-use Rattle.compiler.specs.Places.{kind-at, count-flag, flag, Kind-not}
-use Rattle.compiler.specs.Scans.{scanned}
+use Rattle.scanner.specs.Places.{kind-at, count-flag, flag, Kind-not}
+use Rattle.scanner.specs.Scans.{scanned}
 use Rattle.compiler.specs.Readers.{Settled, tail}
-use Rattle.compiler.proofs.Steps.{fault-here, begun-here, onward, faulty, stuck, short}
+use Rattle.scanner.proofs.Steps.{fault-here, begun-here, onward, faulty, stuck, short}
 
 -- a body may begin after a count
 enters : (r : Run) (k : Around) (b : Starter) (c : ℕ) → ¬ (r ≡ empty) → kind c ≡ starts b → step (counting r, k) c ≡ some (enter (low r) (high r) k b c)

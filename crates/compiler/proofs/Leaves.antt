@@ -9,17 +9,17 @@ use Rattle.pattern.specs.Bytes.{Bytes}
 use Rattle.pattern.specs.Syntax.{codes, literal, size}
 use Rattle.pattern.specs.Table.{pool, kind-field, a-field, b-field, records, flat}
 use Rattle.pattern.specs.declared.repeat.Repeat.{Repeat}
-use Rattle.compiler.specs.declared.cursor.Cursor.{Cursor}
-use Rattle.compiler.specs.declared.body.Letters.{Letters}
-use Rattle.compiler.specs.declared.body.Letters.the-variants as letters
-use Rattle.compiler.specs.declared.body.Literal.{Literal}
-use Rattle.compiler.specs.declared.body.Literal.the-variants as literals
+use Rattle.scanner.specs.declared.cursor.Cursor.{Cursor}
+use Rattle.scanner.specs.declared.body.Letters.{Letters}
+use Rattle.scanner.specs.declared.body.Letters.the-variants as letters
+use Rattle.scanner.specs.declared.body.Literal.{Literal}
+use Rattle.scanner.specs.declared.body.Literal.the-variants as literals
 use Rattle.compiler.specs.declared.reader.State.{State}
 use Rattle.compiler.specs.declared.reader.Parsed.the-variants as parsed
-use Rattle.compiler.specs.Places.{flag}
+use Rattle.scanner.specs.Places.{flag}
 use Rattle.pattern.specs.Stores.{stored}
 use Rattle.compiler.specs.Records.{rec-of}
-use Rattle.compiler.specs.Bodies.{CodesRead, LiteralIs, LiteralRead}
+use Rattle.scanner.specs.Bodies.{CodesRead, LiteralIs, LiteralRead}
 use Rattle.compiler.specs.Readers.{Settled, LeafRead, CodedRead, WordedRead}
 
 abbrev pub state : Cursor → ℕ → ℕ → State

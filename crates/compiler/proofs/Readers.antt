@@ -16,24 +16,24 @@ use Rattle.pattern.specs.Table.{pool, choices, flat}
 use Rattle.pattern.specs.declared.repeat.Repeat.{Repeat}
 use Rattle.pattern.proofs.RoundTrip.{some-pattern}
 use Rattle.pattern.proofs.SpeltReads.{ended}
-use Rattle.compiler.specs.declared.cursor.Cursor.{Cursor}
-use Rattle.compiler.specs.declared.cursor.Class.{Class}
-use Rattle.compiler.specs.declared.cursor.Class.the-variants as class
-use Rattle.compiler.specs.declared.cursor.Separator.{Separator}
-use Rattle.compiler.specs.declared.cursor.Separator.the-variants as separator
-use Rattle.compiler.specs.declared.count.Counted.{Counted}
-use Rattle.compiler.specs.declared.count.Counted.the-variants as counted
+use Rattle.scanner.specs.declared.cursor.Cursor.{Cursor}
+use Rattle.scanner.specs.declared.cursor.Class.{Class}
+use Rattle.scanner.specs.declared.cursor.Class.the-variants as class
+use Rattle.scanner.specs.declared.cursor.Separator.{Separator}
+use Rattle.scanner.specs.declared.cursor.Separator.the-variants as separator
+use Rattle.scanner.specs.declared.count.Counted.{Counted}
+use Rattle.scanner.specs.declared.count.Counted.the-variants as counted
 use Rattle.compiler.specs.declared.reader.State.{State}
 use Rattle.compiler.specs.declared.reader.Parsed.{Parsed}
 use Rattle.compiler.specs.declared.reader.Parsed.the-variants as parsed
 use Rattle.compiler.specs.declared.reader.Grouped.{Grouped}
 use Rattle.compiler.specs.declared.reader.Grouped.the-variants as grouped
-use Rattle.compiler.specs.Places.{flag, kind-at, ByteIs, KindIs, ClassRead, SeparatorRead}
-use Rattle.compiler.specs.Scans.{scanned}
+use Rattle.scanner.specs.Places.{flag, kind-at, ByteIs, KindIs, ClassRead, SeparatorRead}
+use Rattle.scanner.specs.Scans.{scanned}
 use Rattle.pattern.specs.Stores.{stored}
 use Rattle.compiler.specs.Records.{rec-of}
-use Rattle.compiler.specs.Bodies.{Inside, in-codes, in-literal}
-use Rattle.compiler.specs.Counts.{CountIs, CountRefused, CountRead}
+use Rattle.scanner.specs.Bodies.{Inside, in-codes, in-literal}
+use Rattle.scanner.specs.Counts.{CountIs, CountRefused, CountRead}
 use Rattle.compiler.specs.Readers.{Ready, Settled, tail, LeafRead, CodedRead, WordedRead, Refused, AtomIs, AtomRead, PatternIs, PatternRead, GroupIs, GroupRefused, GroupRead}
 use Rattle.compiler.proofs.Leaves.{state}
 use Rattle.pattern.proofs.Stores.{stored-none}
