@@ -55,7 +55,7 @@ pub digit-not : (b : ℕ) → is-digit b ≡ false → ¬ (kind b ≡ counts dig
 unfolding is-digit
 digit-not b e h = let z : true ≡ false = sym (ap digit-kind h) ∙ e in let y : _≡_ {A = ℕ} 0 1 = cc in omega arith
 
-pub letter-is : (b : ℕ) → is-letter b ≡ true → kind b ≡ starts letter
+letter-is : (b : ℕ) → is-letter b ≡ true → kind b ≡ starts letter
 unfolding is-letter
 letter-is b e = go (kind b) e
   where
@@ -66,7 +66,7 @@ letter-is b e = go (kind b) e
     go (starts opening) h = cc
     go (ends x) h = cc
 
-pub letter-not : (b : ℕ) → is-letter b ≡ false → ¬ (kind b ≡ starts letter)
+letter-not : (b : ℕ) → is-letter b ≡ false → ¬ (kind b ≡ starts letter)
 unfolding is-letter
 letter-not b e h = let z : true ≡ false = sym (ap letter-kind h) ∙ e in let y : _≡_ {A = ℕ} 0 1 = cc in omega arith
 
@@ -79,7 +79,7 @@ digit-range b h e = go (leb 48 b) refl (digit-test b h ∙ e)
     go false f g = let y : _≡_ {A = ℕ} 0 1 = cc in absurd (omega arith)
 
 -- what a kind of one byte only says of it
-pub only-at : (b c : ℕ) (x : Kind) → (Spelt x b → b ≡ c) → ¬ (b ≡ c) → ¬ (kind b ≡ x)
+only-at : (b c : ℕ) (x : Kind) → (Spelt x b → b ≡ c) → ¬ (b ≡ c) → ¬ (kind b ≡ x)
 only-at b c x f d h = d (f (rw h at (kind-byte b)))
 
 module _ (s : Bytes) (at : ℕ) where
@@ -101,6 +101,17 @@ module _ (s : Bytes) (at : ℕ) where
 
     pub not-kind : (x : Kind) → ¬ (kind c ≡ x) → Kind-not s at x
     not-kind x d = record { not = λ l. rw (is .value) at d }
+
+    -- by the code's test for a letter
+    pub letter-here : (t : Bool) → t ≡ is-letter c → t ≡ true → KindIs s at (starts letter) next
+    letter-here t e f = of-kind (starts letter) (letter-is c (sym e ∙ f))
+
+    pub no-letter : (t : Bool) → t ≡ is-letter c → t ≡ false → Kind-not s at (starts letter)
+    no-letter t e f = not-kind (starts letter) (letter-not c (sym e ∙ f))
+
+    -- it is not the one byte of a kind
+    pub not-only : (b : ℕ) (x : Kind) → (Spelt x c → c ≡ b) → ¬ (c ≡ b) → Kind-not s at x
+    not-only b x f d = not-kind x (only-at c b x f d)
 
     -- the byte is known
     pub of-byte : (b : ℕ) → c ≡ b → ByteIs s at b next

@@ -4,7 +4,7 @@ use mathlib.Core.Bool.{Bool, true, false, cond}
 use Prim.Native.Nat.{ℕ, suc, _-_, _≤_, _<_}
 use lib.Dec.{ltb}
 use lib.ListN.{length, getD}
-use Rattle.pattern.specs.Numbers.{closing-byte, comma-byte, zero-byte}
+use Rattle.pattern.specs.Numbers.{opening-byte, closing-byte, comma-byte, zero-byte}
 use Rattle.pattern.specs.Bytes.{Bytes}
 use Rattle.pattern.specs.Spelling.{letter, quote, opening, digit, point, Kind, counts, starts, ends, kind, Text, plain, quoting, barred, text}
 use Rattle.scanner.specs.declared.cursor.Cursor.{Cursor}
@@ -101,7 +101,7 @@ PointRead s at points.None = Kind-not s at (counts point)
 unfoldable pub ClassRead : Bytes → ℕ → Class → Type 0
 ClassRead s at class.Letter = (at < length s) × (kind-at s at ≡ starts letter)
 ClassRead s at (class.Quote next) = KindIs s at (starts quote) next
-ClassRead s at (class.Opening next) = ByteIs s at 40 next
+ClassRead s at (class.Opening next) = ByteIs s at opening-byte next
 ClassRead s at class.Other = Kind-not s at (starts letter) × Kind-not s at (starts quote) × Kind-not s at (starts opening)
 
 unfoldable pub SeparatorRead : Bytes → ℕ → Separator → Type 0

@@ -1,4 +1,5 @@
-// A place in the source, by value: each method answers what stands there beside the advanced cursor.
+// A place in the source, by value: a method answers what it took there beside the advanced cursor.
+// `last`, and `class` at a letter, only look and take nothing.
 ghost use mathlib.Core.Path.{_≡_};
 ghost use Rattle.scanner.specs.Places.{is-digit, is-letter, is-plain, flag, ByteRead, DigitRead, PointRead, LetterRead, ClassRead, SeparatorRead};
 ghost use Rattle.scanner.specs.Bodies.{TextRead};

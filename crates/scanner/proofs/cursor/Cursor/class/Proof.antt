@@ -1,9 +1,9 @@
 -- `Cursor::class` meets its contract. Assumes nothing.
-use mathlib.Core.Path.{sym, ap, _∙_}
+use mathlib.Core.Path.{ap}
 use Rattle.pattern.specs.Bytes.{between}
 use Rattle.pattern.specs.Spelling.{letter, quote, opening, starts, kind}
 use Rattle.scanner.specs.Places.{ClassRead}
-use Rattle.scanner.proofs.Places.{byte-is, end-not, of-kind, not-kind, of-byte, only-at, letter-is, letter-not}
+use Rattle.scanner.proofs.Places.{byte-is, end-not, of-kind, of-byte, letter-here, no-letter, not-only}
 use borrow.Author.Needs.{needs}
 use Rattle.scanner.proofs.cursor.Cursor.class.Statement.{statement}
 use Rattle.scanner.proofs.cursor.Cursor.class.Tie as tie
@@ -22,7 +22,7 @@ enum-told c = search needs
 
 returns : tie.Need-returns
 unfolding ClassRead
-returns c = let b = (byte-is _ _ _ _ _ (c .before .before .before .b .given .1) (c .before .before .before .before .before .byte .ensures)) in let k = of-kind _ _ _ _ b (starts letter) (letter-is _ (sym (c .before .is-letter .ensures) ∙ c .if1 .taken)) in (k .within, k .kind)
+returns c = let b = (byte-is _ _ _ _ _ (c .before .before .before .b .given .1) (c .before .before .before .before .before .byte .ensures)) in let k = letter-here _ _ _ _ b _ (c .before .is-letter .ensures) (c .if1 .taken) in (k .within, k .kind)
 
 returns-2 : tie.Need-returns-2
 unfolding ClassRead kind between
@@ -30,11 +30,11 @@ returns-2 c = of-kind _ _ _ _ (byte-is _ _ _ _ _ (c .before .before .before .bef
 
 returns-3 : tie.Need-returns-3
 unfolding ClassRead
-returns-3 c = of-byte _ _ _ _ (byte-is _ _ _ _ _ (c .before .before .before .before .before .b .given .1) (c .before .before .before .before .before .before .before .byte .ensures)) 40 (c .if3 .taken)
+returns-3 c = of-byte _ _ _ _ (byte-is _ _ _ _ _ (c .before .before .before .before .before .b .given .1) (c .before .before .before .before .before .before .before .byte .ensures)) _ (c .if3 .taken)
 
 returns-4 : tie.Need-returns-4
 unfolding ClassRead
-returns-4 c = let b = (byte-is _ _ _ _ _ (c .before .before .before .before .before .b .given .1) (c .before .before .before .before .before .before .before .byte .ensures)) in (not-kind _ _ _ _ b (starts letter) (letter-not _ (sym (c .before .before .before .is-letter .ensures) ∙ c .before .before .if1 .left)), not-kind _ _ _ _ b (starts quote) (only-at _ 34 (starts quote) (λ h. h) (c .before .if2 .left)), not-kind _ _ _ _ b (starts opening) (only-at _ 40 (starts opening) (λ h. h) (c .if3 .left)))
+returns-4 c = let b = (byte-is _ _ _ _ _ (c .before .before .before .before .before .b .given .1) (c .before .before .before .before .before .before .before .byte .ensures)) in (no-letter _ _ _ _ b _ (c .before .before .before .is-letter .ensures) (c .before .before .if1 .left), not-only _ _ _ _ b _ (starts quote) (λ h. h) (c .before .if2 .left), not-only _ _ _ _ b _ (starts opening) (λ h. h) (c .if3 .left))
 
 returns-5 : tie.Need-returns-5
 unfolding ClassRead

@@ -1,8 +1,7 @@
 -- `Cursor::letter` meets its contract. Assumes nothing.
-use mathlib.Core.Path.{sym, _∙_}
 use Rattle.pattern.specs.Spelling.{letter, starts}
 use Rattle.scanner.specs.Places.{LetterRead}
-use Rattle.scanner.proofs.Places.{byte-is, end-not, of-kind, not-kind, letter-is, letter-not}
+use Rattle.scanner.proofs.Places.{byte-is, end-not, letter-here, no-letter}
 use borrow.Author.Needs.{needs}
 use Rattle.scanner.proofs.cursor.Cursor.letter.Statement.{statement}
 use Rattle.scanner.proofs.cursor.Cursor.letter.Tie as tie
@@ -21,11 +20,11 @@ enum-told c = search needs
 
 returns : tie.Need-returns
 unfolding LetterRead
-returns c = let b = (byte-is _ _ _ _ _ (c .before .before .before .b .given .1) (c .before .before .before .before .before .byte .ensures)) in (of-kind _ _ _ _ b (starts letter) (letter-is _ (sym (c .before .is-letter .ensures) ∙ c .if1 .taken)), b .value)
+returns c = let b = (byte-is _ _ _ _ _ (c .before .before .before .b .given .1) (c .before .before .before .before .before .byte .ensures)) in (letter-here _ _ _ _ b _ (c .before .is-letter .ensures) (c .if1 .taken), b .value)
 
 returns-2 : tie.Need-returns-2
 unfolding LetterRead
-returns-2 c = not-kind _ _ _ _ (byte-is _ _ _ _ _ (c .before .before .before .b .given .1) (c .before .before .before .before .before .byte .ensures)) (starts letter) (letter-not _ (sym (c .before .is-letter .ensures) ∙ c .if1 .left))
+returns-2 c = no-letter _ _ _ _ (byte-is _ _ _ _ _ (c .before .before .before .b .given .1) (c .before .before .before .before .before .byte .ensures)) _ (c .before .is-letter .ensures) (c .if1 .left)
 
 returns-3 : tie.Need-returns-3
 unfolding LetterRead

@@ -3,7 +3,7 @@ use mathlib.Core.Path.{ap}
 use Rattle.pattern.specs.Bytes.{between}
 use Rattle.pattern.specs.Spelling.{point, counts, kind}
 use Rattle.scanner.specs.Places.{PointRead}
-use Rattle.scanner.proofs.Places.{byte-is, end-not, of-kind, not-kind, only-at}
+use Rattle.scanner.proofs.Places.{byte-is, end-not, of-kind, not-only}
 use borrow.Author.Needs.{needs}
 use Rattle.scanner.proofs.cursor.Cursor.point.Statement.{statement}
 use Rattle.scanner.proofs.cursor.Cursor.point.Tie as tie
@@ -23,7 +23,7 @@ returns c = of-kind _ _ _ _ (byte-is _ _ _ _ _ (c .before .before .b .given .1) 
 
 returns-2 : tie.Need-returns-2
 unfolding PointRead
-returns-2 c = not-kind _ _ _ _ (byte-is _ _ _ _ _ (c .before .before .b .given .1) (c .before .before .before .before .byte .ensures)) (counts point) (only-at _ 46 (counts point) (λ h. h) (c .if1 .left))
+returns-2 c = not-only _ _ _ _ (byte-is _ _ _ _ _ (c .before .before .b .given .1) (c .before .before .before .before .byte .ensures)) _ (counts point) (λ h. h) (c .if1 .left)
 
 returns-3 : tie.Need-returns-3
 unfolding PointRead

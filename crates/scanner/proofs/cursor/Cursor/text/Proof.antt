@@ -1,7 +1,7 @@
 -- `Cursor::text` meets its contract. Assumes nothing.
 use mathlib.Core.Path.{sym, _∙_}
 use Rattle.pattern.specs.Spelling.{quote, starts}
-use Rattle.scanner.proofs.Places.{byte-is, byte-end, end-not, not-kind, only-at}
+use Rattle.scanner.proofs.Places.{byte-is, byte-end, end-not, not-only}
 use Rattle.scanner.proofs.Texts.{text-plain, text-barred, text-ends, text-doubled, text-short}
 use borrow.Author.Needs.{needs}
 use Rattle.scanner.proofs.cursor.Cursor.text.Statement.{statement}
@@ -35,7 +35,7 @@ returns-2 : tie.Need-returns-2
 returns-2 c = text-doubled _ _ _ _ (byte-is _ _ _ _ _ (c .before .before .before .before .before .before .before .before .before .b .given .1) (c .before .before .before .before .before .before .before .before .before .before .before .byte .ensures)) (c .before .before .before .before .before .if2 .taken) _ _ (byte-is _ _ _ _ _ (c .before .before .d .given .1) (c .before .before .before .before .byte2 .ensures)) (c .if3 .taken)
 
 returns-3 : tie.Need-returns-3
-returns-3 c = text-ends _ _ _ _ (byte-is _ _ _ _ _ (c .before .before .before .before .before .before .before .before .before .b .given .1) (c .before .before .before .before .before .before .before .before .before .before .before .byte .ensures)) (c .before .before .before .before .before .if2 .taken) (not-kind _ _ _ _ (byte-is _ _ _ _ _ (c .before .before .d .given .1) (c .before .before .before .before .byte2 .ensures)) (starts quote) (only-at _ 34 (starts quote) (λ h. h) (c .if3 .left)))
+returns-3 c = text-ends _ _ _ _ (byte-is _ _ _ _ _ (c .before .before .before .before .before .before .before .before .before .b .given .1) (c .before .before .before .before .before .before .before .before .before .before .before .byte .ensures)) (c .before .before .before .before .before .if2 .taken) (not-only _ _ _ _ (byte-is _ _ _ _ _ (c .before .before .d .given .1) (c .before .before .before .before .byte2 .ensures)) _ (starts quote) (λ h. h) (c .if3 .left))
 
 returns-4 : tie.Need-returns-4
 returns-4 c = text-ends _ _ _ _ (byte-is _ _ _ _ _ (c .before .before .before .before .before .before .before .b .given .1) (c .before .before .before .before .before .before .before .before .before .byte .ensures)) (c .before .before .before .if2 .taken) (end-not _ _ _ (c .enum-told .given .1) (c .before .before .byte2 .ensures) (starts quote))
