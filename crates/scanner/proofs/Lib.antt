@@ -1,8 +1,8 @@
-pub mod Places
-pub mod Pass
+mod Places
+mod Pass
 pub mod Steps
-pub mod Texts
-pub mod Bodies
-pub mod Numbers
-pub mod Runs
-pub mod Counts
+mod Texts
+mod Bodies
+mod Numbers
+mod Runs
+mod Counts

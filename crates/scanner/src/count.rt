@@ -14,9 +14,9 @@ use pattern::repeat::Repeat;
 const LARGE: u16 = 10000;
 
 // A run of digits: its value, or LARGE, and where it ends.
-pub struct Number {
-    pub value: u16,
-    pub end: Cursor,
+struct Number {
+    value: u16,
+    end: Cursor,
 }
 
 pub enum Counted {

@@ -8,7 +8,7 @@ pub struct Cursor {
     pub at: usize,
 }
 
-pub enum Byte {
+enum Byte {
     Is(u8, Cursor),
     End,
 }
@@ -83,7 +83,7 @@ fn is_plain(b: u8) -> bool
 }
 
 impl Cursor {
-    pub fn byte(self, s: &[u8]) -> Byte
+    fn byte(self, s: &[u8]) -> Byte
         ensures { λ r. ⌜ ByteRead (now (s .entry)) (self .at) r ⌝ }
     {
         let at = self.at;
