@@ -87,6 +87,10 @@ module _ (s : Bytes) (at : ℕ) where
   unfolding ByteRead
   byte-is r c next e h = subst (λ r. ByteRead s at r) e h
 
+  -- the byte is known
+  pub of-byte : (r : Byte) (c : ℕ) (next : Cursor) → r ≡ byte.Is c next → ByteRead s at r → (b : ℕ) → c ≡ b → ByteIs s at b next
+  of-byte r c next e h b f = rw f at (byte-is r c next e h)
+
   pub byte-end : (r : Byte) → r ≡ byte.End → ByteRead s at r → length s ≤ at
   unfolding ByteRead
   byte-end r e h = subst (λ r. ByteRead s at r) e h
@@ -112,10 +116,6 @@ module _ (s : Bytes) (at : ℕ) where
     -- it is not the one byte of a kind
     pub not-only : (b : ℕ) (x : Kind) → (Spelt x c → c ≡ b) → ¬ (c ≡ b) → Kind-not s at x
     not-only b x f d = not-kind x (only-at c b x f d)
-
-    -- the byte is known
-    pub of-byte : (b : ℕ) → c ≡ b → ByteIs s at b next
-    of-byte b e = record { within = is .within; value = sym e ∙ is .value; past = is .past }
 
     pub flag-is : flag s at ≡ count-flag (kind c)
     unfolding flag

@@ -30,7 +30,7 @@ returns-2 c = of-kind _ _ _ _ (byte-is _ _ _ _ _ (c .before .before .before .bef
 
 returns-3 : tie.Need-returns-3
 unfolding ClassRead
-returns-3 c = of-byte _ _ _ _ (byte-is _ _ _ _ _ (c .before .before .before .before .before .b .given .1) (c .before .before .before .before .before .before .before .byte .ensures)) _ (c .if3 .taken)
+returns-3 c = of-byte _ _ _ _ _ (c .before .before .before .before .before .b .given .1) (c .before .before .before .before .before .before .before .byte .ensures) _ (c .if3 .taken)
 
 returns-4 : tie.Need-returns-4
 unfolding ClassRead

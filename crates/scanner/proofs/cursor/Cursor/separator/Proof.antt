@@ -18,11 +18,11 @@ enum-told c = search needs
 
 returns : tie.Need-returns
 unfolding SeparatorRead
-returns c = of-byte _ _ _ _ (byte-is _ _ _ _ _ (c .before .before .b .given .1) (c .before .before .before .before .byte .ensures)) _ (c .if1 .taken)
+returns c = of-byte _ _ _ _ _ (c .before .before .b .given .1) (c .before .before .before .before .byte .ensures) _ (c .if1 .taken)
 
 returns-2 : tie.Need-returns-2
 unfolding SeparatorRead
-returns-2 c = of-byte _ _ _ _ (byte-is _ _ _ _ _ (c .before .before .before .b .given .1) (c .before .before .before .before .before .byte .ensures)) _ (c .if2 .taken)
+returns-2 c = of-byte _ _ _ _ _ (c .before .before .before .b .given .1) (c .before .before .before .before .before .byte .ensures) _ (c .if2 .taken)
 
 returns-3 : tie.Need-returns-3
 unfolding SeparatorRead
