@@ -8,7 +8,7 @@ use native.Mathlib.Omega.{arith}
 use lib.ListN.{length, drop, getD}
 use lib.Seq.{drop-cons, drop-length}
 use borrow.Author.Tests.{le-leb, lt-leb, lt-ltb, le-ltb}
-use Rattle.pattern.specs.Numbers.{depth-limit, FORM, DEPTH}
+use Rattle.pattern.specs.Numbers.{depth-limit, closing-byte, comma-byte, FORM, DEPTH}
 use Rattle.pattern.specs.Bytes.{Bytes, between}
 use Rattle.pattern.specs.Syntax.{pattern, atom, body, Syntax, last, then, repeat, codes, literal, group, only}
 use Rattle.pattern.specs.Spelling.{Starter, letter, quote, opening, Ender, closing, comma, neither, Mark, Kind, counts, starts, ends, kind}
@@ -17,10 +17,10 @@ use Rattle.pattern.specs.Scan.{low, high, depth, body-begins, begins, begun, re
 use Rattle.pattern.proofs.Tests.{le-or-lt}
 use Rattle.pattern.proofs.Notation.{kind-byte}
 use Rattle.pattern.proofs.SpeltReads.{ended, ended-closes, ended-parts}
-use Rattle.compiler.specs.Places.{kind-at, count-flag, flag, Kind-not}
-use Rattle.compiler.specs.Scans.{scanned}
+use Rattle.scanner.specs.Places.{kind-at, count-flag, flag, Kind-not}
+use Rattle.scanner.specs.Scans.{scanned}
 use Rattle.compiler.specs.Readers.{Settled, tail}
-use Rattle.compiler.proofs.Steps.{fault-here, begun-here, onward, faulty, stuck, short}
+use Rattle.scanner.proofs.Steps.{fault-here, begun-here, onward, faulty, stuck, short}
 
 -- a body may begin after a count
 enters : (r : Run) (k : Around) (b : Starter) (c : ℕ) → ¬ (r ≡ empty) → kind c ≡ starts b → step (counting r, k) c ≡ some (enter (low r) (high r) k b c)
@@ -137,12 +137,12 @@ module _ (s : Bytes) (j m : ℕ) (w : j < length s) (e : Ender) (f : kind-at s j
 
 module _ (s : Bytes) (j m : ℕ) (t : Syntax pattern) (k : Around) (l : ℕ) (h : Option ℕ) (others : List (Syntax pattern)) where
   -- a closing bracket after a branch
-  pub closes : j < length s → 41 ≡ getD s j 0 → scanned s (ended (within k l h others []) t) j m ≡ scanned s (after l h (group (fork others (only t))), k) (suc j) m
+  pub closes : j < length s → closing-byte ≡ getD s j 0 → scanned s (ended (within k l h others []) t) j m ≡ scanned s (after l h (group (fork others (only t))), k) (suc j) m
   unfolding kind between chain
   closes w e = branch-next s j m w closing (ap kind (sym e)) t (within k l h others []) _ (rw e at (ended-closes k l h others t []))
 
   -- a comma
-  pub parts : j < length s → 44 ≡ getD s j 0 → scanned s (ended (within k l h others []) t) j m ≡ scanned s (counting empty, within k l h (t ∷ others) []) (suc j) m
+  pub parts : j < length s → comma-byte ≡ getD s j 0 → scanned s (ended (within k l h others []) t) j m ≡ scanned s (counting empty, within k l h (t ∷ others) []) (suc j) m
   unfolding kind between chain
   parts w e = branch-next s j m w comma (ap kind (sym e)) t (within k l h others []) _ (rw e at (ended-parts k l h others t []))
 
@@ -199,7 +199,7 @@ ended-short (then a t) k l h others before = ended-short t k l h others (a ∷ b
 
 -- a branch that neither a comma nor a bracket follows
 pub branch-form : (s : Bytes) (j m : ℕ) (t : Syntax pattern) (k : Around) (l : ℕ) (h : Option ℕ) (others : List (Syntax pattern)) → Settled s j (tail t) → flag s j ≡ 1
-    → (j < length s → ¬ (getD s j 0 ≡ 41) × ¬ (getD s j 0 ≡ 44)) → scanned s (ended (within k l h others []) t) j m ≡ refused FORM j
+    → (j < length s → ¬ (getD s j 0 ≡ closing-byte) × ¬ (getD s j 0 ≡ comma-byte)) → scanned s (ended (within k l h others []) t) j m ≡ refused FORM j
 unfolding Ends-not
 branch-form s j m t k l h others o f d = ⊎-elim
     (λ w. short s j m w (ended (within k l h others []) t) (ended-short t k l h others []))

@@ -20,7 +20,7 @@ use Rattle.pattern.proofs.SpeltReads.{ended}
 use Rattle.compiler.specs.declared.reader.State.{State}
 use Rattle.compiler.specs.declared.reader.Parsed.{Parsed}
 use Rattle.compiler.specs.declared.reader.Parsed.the-variants as parsed
-use Rattle.compiler.specs.Scans.{scanned}
+use Rattle.scanner.specs.Scans.{scanned}
 use Rattle.pattern.specs.Stores.{stored}
 use Rattle.compiler.specs.Readers.{Refused, PatternIs, PatternRead}
 use Rattle.compiler.specs.Compiling.{Emits, emitted}
@@ -119,16 +119,8 @@ module _ (s table : Bytes) (short : length s ≤ source-limit) (recs recs′ tex
       atoms-are : u .atoms ≡ size (h .tree)
       atoms-are = let w = h .wrote in omega (arith, w .atoms)
 
-      pub text-are : u .pool ≡ length (pool (h .tree))
+      text-are : u .pool ≡ length (pool (h .tree))
       text-are = let w = h .wrote in omega (arith, w .pooled)
-
-      pub emits-all : length recs′ ≡ length recs → length text′ ≡ length text → Emits (u .atoms) (u .pool) recs′ text′
-      emits-all x y = let m = h .moved in record {
-        atoms = m .atoms;
-        source = omega (arith, m .pool, m .within);
-        recs-there = omega (arith, m .atoms);
-        text-there = omega (arith, m .pool, m .within);
-      }
 
       pub compile-table : length s ≤ u .at .at → (o : Output) → o ≡ emitted (u .at .at) (u .atoms) (u .pool) recs′ text′ table → o ≡ compileOf s table
       unfolding emitted depth encode

@@ -1,12 +1,4 @@
-pub mod Places
-pub mod Pass
-pub mod Steps
-pub mod Texts
 pub mod Records
-pub mod Bodies
-pub mod Numbers
-pub mod Runs
-pub mod Counts
 pub mod Leaves
 pub mod Descent
 pub mod Written

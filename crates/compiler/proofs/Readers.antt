@@ -6,7 +6,7 @@ use Prim.Native.Nat.{ℕ, suc, _+_, _-_, _*_, _<_, _≤_}
 use native.Mathlib.Omega.{arith}
 use native.Mathlib.Numerals.{add-one}
 use lib.ListN.{length}
-use Rattle.pattern.specs.Numbers.{atom-limit, depth-limit, record-size, FORM, DEPTH}
+use Rattle.pattern.specs.Numbers.{atom-limit, depth-limit, opening-byte, comma-byte, group-kind, record-size, FORM, DEPTH}
 use Rattle.pattern.specs.Bytes.{Bytes, between}
 use Rattle.pattern.specs.Syntax.{pattern, atom, body, branches, Syntax, last, then, repeat, group, only, or, size}
 use Rattle.pattern.specs.Spelling.{quote, opening, starts, kind}
@@ -16,24 +16,24 @@ use Rattle.pattern.specs.Table.{pool, choices, flat}
 use Rattle.pattern.specs.declared.repeat.Repeat.{Repeat}
 use Rattle.pattern.proofs.RoundTrip.{some-pattern}
 use Rattle.pattern.proofs.SpeltReads.{ended}
-use Rattle.compiler.specs.declared.cursor.Cursor.{Cursor}
-use Rattle.compiler.specs.declared.cursor.Class.{Class}
-use Rattle.compiler.specs.declared.cursor.Class.the-variants as class
-use Rattle.compiler.specs.declared.cursor.Separator.{Separator}
-use Rattle.compiler.specs.declared.cursor.Separator.the-variants as separator
-use Rattle.compiler.specs.declared.count.Counted.{Counted}
-use Rattle.compiler.specs.declared.count.Counted.the-variants as counted
+use Rattle.scanner.specs.declared.cursor.Cursor.{Cursor}
+use Rattle.scanner.specs.declared.cursor.Class.{Class}
+use Rattle.scanner.specs.declared.cursor.Class.the-variants as class
+use Rattle.scanner.specs.declared.cursor.Separator.{Separator}
+use Rattle.scanner.specs.declared.cursor.Separator.the-variants as separator
+use Rattle.scanner.specs.declared.count.Counted.{Counted}
+use Rattle.scanner.specs.declared.count.Counted.the-variants as counted
 use Rattle.compiler.specs.declared.reader.State.{State}
 use Rattle.compiler.specs.declared.reader.Parsed.{Parsed}
 use Rattle.compiler.specs.declared.reader.Parsed.the-variants as parsed
 use Rattle.compiler.specs.declared.reader.Grouped.{Grouped}
 use Rattle.compiler.specs.declared.reader.Grouped.the-variants as grouped
-use Rattle.compiler.specs.Places.{flag, kind-at, ByteIs, KindIs, ClassRead, SeparatorRead}
-use Rattle.compiler.specs.Scans.{scanned}
+use Rattle.scanner.specs.Places.{flag, kind-at, ByteIs, KindIs, ClassRead, SeparatorRead}
+use Rattle.scanner.specs.Scans.{scanned}
 use Rattle.pattern.specs.Stores.{stored}
 use Rattle.compiler.specs.Records.{rec-of}
-use Rattle.compiler.specs.Bodies.{Inside, in-codes, in-literal}
-use Rattle.compiler.specs.Counts.{CountIs, CountRefused, CountRead}
+use Rattle.scanner.specs.Bodies.{Inside, in-codes, in-literal}
+use Rattle.scanner.specs.Counts.{CountIs, CountRefused, CountRead}
 use Rattle.compiler.specs.Readers.{Ready, Settled, tail, LeafRead, CodedRead, WordedRead, Refused, AtomIs, AtomRead, PatternIs, PatternRead, GroupIs, GroupRefused, GroupRead}
 use Rattle.compiler.proofs.Leaves.{state}
 use Rattle.pattern.proofs.Stores.{stored-none}
@@ -101,7 +101,7 @@ module _ (s : Bytes) (st : State) (d : ℕ) (recs text : Bytes) where
 
     -- a group
     module _ (later : Cursor) (e : r ≡ class.Opening later) where
-      pub opening-is : ByteIs s (at .at) 40 later
+      pub opening-is : ByteIs s (at .at) opening-byte later
       unfolding ClassRead
       opening-is = subst (λ r. ClassRead s (at .at) r) e h
 
@@ -128,7 +128,7 @@ module _ (s : Bytes) (st : State) (d : ℕ) (recs text : Bytes) where
             record { scan = λ k z. opened k z ∙ v .scan k (low (c .run)) (high (c .run)) [] (omega arith) }
 
         pub atom-group : (u : State) (b f : ℕ) (recs₁ recs₂ text′ : Bytes) → GroupIs s (state later (st .atoms + 1) (st .pool)) (d + 1) recs recs₁ text text′ u b → f ≡ flag s (u .at .at)
-            → recs₂ ≡ stored recs₁ (record-size * st .atoms) (flat (rec-of 3 f rep b (u .atoms) ∷ []) []) → AtomRead s st d recs recs₂ text text′ (parsed.Done u)
+            → recs₂ ≡ stored recs₁ (record-size * st .atoms) (flat (rec-of group-kind f rep b (u .atoms) ∷ []) []) → AtomRead s st d recs recs₂ text text′ (parsed.Done u)
         unfolding AtomRead Settled fork
         atom-group u b f recs₁ recs₂ text′ v g w =
             let m = v .moved in
@@ -261,7 +261,7 @@ module _ (s : Bytes) (st : State) (d : ℕ) (recs recs₁ text text₁ : Bytes) 
         }
 
     module _ (later : Cursor) (e : r ≡ separator.Comma later) where
-      pub comma-is : ByteIs s (u .at .at) 44 later
+      pub comma-is : ByteIs s (u .at .at) comma-byte later
       unfolding SeparatorRead
       comma-is = subst (λ r. SeparatorRead s (u .at .at) r) e h
 

@@ -6,7 +6,7 @@ use Prim.Native.Nat.{ℕ, suc, _+_, _*_}
 use native.Mathlib.Omega.{arith}
 use native.Mathlib.Numerals.{add-one}
 use lib.ListN.{length, length-append}
-use Rattle.pattern.specs.Numbers.{record-size}
+use Rattle.pattern.specs.Numbers.{group-kind, record-size}
 use Rattle.pattern.specs.Bytes.{Bytes, word}
 use Rattle.pattern.specs.Syntax.{Sort, pattern, atom, body, branches, Syntax, last, then, repeat, group, only, or, size}
 use Rattle.pattern.specs.Table.{pool, choices, Rec, kind-field, a-field, b-field, rec, records, flat}
@@ -89,14 +89,14 @@ wrote-leaf e low high b rep n p m q recs recs′ text text′ alone z f g h r t 
 -- a group: its record goes before those of its contents
 pub wrote-group : (e low : ℕ) (high : Option ℕ) (bs : Syntax branches) (rep : Repeat) (c n p m q : ℕ) (recs recs₁ recs₂ text text′ : Bytes)
     → rep ≡ repeat-of low high → c ≡ choices bs → Wrote 1 bs (n + 1) p m q recs recs₁ text text′
-    → recs₂ ≡ stored recs₁ (record-size * n) (flat (rec-of 3 e rep c m ∷ []) []) → Wrote e (repeat low high (group bs)) n p m q recs recs₂ text text′
+    → recs₂ ≡ stored recs₁ (record-size * n) (flat (rec-of group-kind e rep c m ∷ []) []) → Wrote e (repeat low high (group bs)) n p m q recs recs₂ text text′
 unfolding size pool records kind-field a-field b-field flat
 wrote-group e low high bs rep c n p m q recs recs₁ recs₂ text text′ f g w r =
     let x : Rec = rec e low high (group bs) n p in
     let y : Bytes = flat (records 1 bs (suc n) p) [] in
     let a : n + 1 ≡ suc n = add-one n in
     let z : m ≡ suc n + size bs = omega (arith, w .atoms) in
-    let j : record-size * suc n ≡ record-size * n + 10 = omega arith in
+    let j : record-size * suc n ≡ record-size * n + record-size = omega arith in
     let k : recs₁ ≡ stored recs (record-size * suc n) y = w .recs-are ∙ ap (λ i. stored recs (record-size * i) (flat (records 1 bs i p) [])) a in
     let v : recs₂ ≡ stored recs₁ (record-size * n) (flat (x ∷ []) []) = r ∙ rw (f, g, z) in
     record {

@@ -18,11 +18,11 @@ use Rattle.compiler.specs.declared.reader.Parsed.{Parsed}
 use Rattle.compiler.specs.declared.reader.Parsed.the-variants as parsed
 use Rattle.compiler.specs.declared.reader.Grouped.{Grouped}
 use Rattle.compiler.specs.declared.reader.Grouped.the-variants as grouped
-use Rattle.compiler.specs.Places.{flag, Kind-not}
-use Rattle.compiler.specs.Scans.{scanned}
+use Rattle.scanner.specs.Places.{flag, Kind-not}
+use Rattle.scanner.specs.Scans.{scanned}
 use Rattle.pattern.specs.Stores.{stored}
 use Rattle.compiler.specs.Records.{rec-of}
-use Rattle.compiler.specs.Bodies.{Inside, in-codes, in-literal, Refuses}
+use Rattle.scanner.specs.Bodies.{Inside, in-codes, in-literal, Refuses}
 
 -- where a reader may start, in d groups
 pub record Ready (s : Bytes) (st : State) (d : ℕ) : Type 0 where

@@ -3,6 +3,7 @@ ghost use mathlib.Core.Path.{_≡_};
 ghost use mathlib.Core.List.{[], _∷_};
 ghost use Prim.Native.Nat.{_+_, _*_, _≤_};
 ghost use lib.ListN.{length, take};
+ghost use Rattle.pattern.specs.Numbers.{record-size};
 ghost use Rattle.pattern.specs.Bytes.{word};
 ghost use Rattle.pattern.specs.Table.{flat};
 ghost use Rattle.pattern.specs.Stores.{stored};
@@ -33,8 +34,8 @@ pub fn put16(to: &mut [u8], at: usize, x: u16)
 
 // The record of atom i.
 pub fn put_record(recs: &mut [u8], i: usize, kind: u8, last: u8, rep: Repeat, a: u16, b: u16)
-    requires { ⌜ 10 * i + 10 ≤ length (now recs) ⌝ }
-    ensures { λ _. ⌜ now (recs .exit) ≡ stored (now (recs .entry)) (10 * i) (flat (rec-of kind last rep a b ∷ []) []) ⌝ }
+    requires { ⌜ record-size * i + record-size ≤ length (now recs) ⌝ }
+    ensures { λ _. ⌜ now (recs .exit) ≡ stored (now (recs .entry)) (record-size * i) (flat (rec-of kind last rep a b ∷ []) []) ⌝ }
 {
     let at = limits::RECORD_SIZE * i;
     recs[at] = kind;

@@ -3,20 +3,17 @@ ghost use mathlib.Core.Path.{_≡_};
 ghost use Rattle.pattern.specs.Answers.{compileOf};
 ghost use Rattle.compiler.specs.Compiling.{answer-of};
 
-mod body;
 mod copy;
-mod count;
-mod cursor;
 mod emit;
 mod reader;
 
-use crate::cursor::Cursor;
 use crate::emit::emit;
 use crate::reader::Parsed;
 use crate::reader::State;
 use crate::reader::read_pattern;
 use pattern::limits;
 use pattern::refusal;
+use scanner::cursor::Cursor;
 
 // The length of the table, or a refusal and its position.
 pub enum Compiled {

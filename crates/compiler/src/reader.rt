@@ -2,20 +2,20 @@
 ghost use Prim.Native.Nat.{_≤_};
 ghost use lib.ListN.{length};
 ghost use Rattle.compiler.specs.Readers.{Ready, Room, LeafReady, CodedRead, WordedRead, PatternRead, AtomRead, GroupRead};
-use crate::body::Letters;
-use crate::body::Literal;
-use crate::body::codes_from;
-use crate::body::quoted;
 use crate::copy::put_record;
-use crate::count::Counted;
-use crate::count::count;
-use crate::cursor::Class;
-use crate::cursor::Cursor;
-use crate::cursor::Separator;
 use pattern::kind;
 use pattern::limits;
 use pattern::refusal;
 use pattern::repeat::Repeat;
+use scanner::body::Letters;
+use scanner::body::Literal;
+use scanner::body::codes_from;
+use scanner::body::quoted;
+use scanner::count::Counted;
+use scanner::count::count;
+use scanner::cursor::Class;
+use scanner::cursor::Cursor;
+use scanner::cursor::Separator;
 
 // How far a reader has come: the place in the source, the atoms so far, and the length of the pool.
 pub struct State {

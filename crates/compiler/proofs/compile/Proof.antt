@@ -1,7 +1,7 @@
 -- `compile` meets its contract: the reader's answer is the scan's. Assumes nothing.
 use native.Mathlib.Omega.{arith}
 use Rattle.compiler.proofs.Readers.{pattern-is}
-use Rattle.compiler.proofs.Emits.{compile-long, compile-fault, compile-form, emits-all, compile-table}
+use Rattle.compiler.proofs.Emits.{compile-long, compile-fault, compile-form, compile-table}
 use borrow.Author.Needs.{needs}
 use Rattle.compiler.proofs.compile.Statement.{statement}
 use Rattle.compiler.proofs.compile.Tie as tie
@@ -28,7 +28,7 @@ slice-aggregate-emit-2 : tie.Need-slice-aggregate-emit-2
 slice-aggregate-emit-2 c = search needs
 
 emit-requires : tie.Need-emit-requires
-emit-requires c κs = emits-all _ (c .before .before .before .before .before .before .before .before .before .before .before .before .before .before .before .before .args .table .now) (omega (arith, c .before .before .before .before .before .before .before .before .before .before .before .before .before .if1 .left)) _ _ _ _ _ (pattern-is _ _ _ _ _ _ _ _ _ (c .before .before .before .before .before .before .end .given .1) (c .before .before .before .before .before .before .before .before .before .before .read-pattern .ensures)) (omega arith) (omega arith) (c .before .before .before .before .before .before .before .before .before .before .read-pattern .kept .1 .1 .1 .0) (c .before .before .before .before .before .before .before .before .before .before .read-pattern .kept .1 .1 .1 .1 .0)
+emit-requires c κs = let m = (pattern-is _ _ _ _ _ _ _ _ _ (c .before .before .before .before .before .before .end .given .1) (c .before .before .before .before .before .before .before .before .before .before .read-pattern .ensures)) .moved in search (needs, m)
 
 enum-known-no : tie.Need-enum-known-no
 enum-known-no c = search needs

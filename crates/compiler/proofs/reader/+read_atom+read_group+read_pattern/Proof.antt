@@ -4,7 +4,7 @@ use mathlib.Core.Path.{_∙_}
 use Prim.Native.Nat.{_+_}
 use native.Mathlib.Omega.{arith}
 use borrow.Author.Needs.{needs}
-use Rattle.compiler.specs.Counts.{CountIs}
+use Rattle.scanner.specs.Counts.{CountIs}
 use Rattle.compiler.specs.Readers.{Ready, Room}
 use Rattle.compiler.proofs.Readers.{reach, count-is, quote-is, atom-fault, atom-coded, atom-worded, atom-other, opening-is, atom-deep, group-ready, atom-group-fault, atom-group, group-is, atom-is, pattern-is, Going, going-start, going-fault, going-last, going-more, comma-is, Branching, branching-start, branching-fault, branching-other, branching-close, branching-more, count-few}
 use Prim.Native.Nat.{ℕ, _<_}
@@ -20,10 +20,10 @@ use Rattle.compiler.proofs.reader.read_pattern.Reads as read-pattern
 use Rattle.compiler.proofs.reader.read_pattern.Kinds as read-pattern-kinds
 use Rattle.compiler.proofs.reader.+read_atom+read_group+read_pattern.Lts-read_pattern as read-pattern-lts
 use Rattle.compiler.proofs.copy.put_record.Reads as put-record-reads
-use Rattle.compiler.proofs.count.count.Reads as count-reads
-use Rattle.compiler.proofs.cursor.Cursor.class.Reads as class-reads
-use Rattle.compiler.proofs.cursor.Cursor.last.Reads as last-reads
-use Rattle.compiler.proofs.cursor.Cursor.separator.Reads as separator-reads
+use Rattle.scanner.proofs.count.count.Reads as count-reads
+use Rattle.scanner.proofs.cursor.Cursor.class.Reads as class-reads
+use Rattle.scanner.proofs.cursor.Cursor.last.Reads as last-reads
+use Rattle.scanner.proofs.cursor.Cursor.separator.Reads as separator-reads
 use Rattle.compiler.proofs.reader.coded.Reads as coded-reads
 use Rattle.compiler.proofs.reader.worded.Reads as worded-reads
 use Rattle.compiler.proofs.reader.+read_atom+read_group+read_pattern.{statement}

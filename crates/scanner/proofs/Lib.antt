@@ -1,0 +1,8 @@
+mod Places
+mod Pass
+pub mod Steps
+mod Texts
+mod Bodies
+mod Numbers
+mod Runs
+mod Counts

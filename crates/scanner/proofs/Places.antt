@@ -1,0 +1,135 @@
+-- What the byte at a place says of it. Assumes nothing.
+use mathlib.Core.Path.{_≡_, refl, sym, ap, _∙_, subst}
+use mathlib.Core.Bool.{Bool, true, false, not, cond}
+use Prim.Native.Nat.{ℕ, _≤_, _<_}
+use native.Mathlib.Omega.{arith}
+use lib.Dec.{T, leb, eqb}
+use lib.ListN.{length}
+use borrow.Author.Tests.{leb-true, lt-ltb, le-ltb}
+use Rattle.pattern.specs.Bytes.{Bytes, between}
+use Rattle.pattern.specs.Spelling.{letter, quote, opening, digit, point, Kind, counts, starts, ends, kind, text}
+use Rattle.pattern.proofs.Tests.{all, all-at}
+use Rattle.pattern.proofs.Notation.{Byte as Spelt, kind-byte}
+use Rattle.scanner.specs.declared.cursor.Cursor.{Cursor}
+use Rattle.scanner.specs.declared.cursor.Byte.{Byte}
+use Rattle.scanner.specs.declared.cursor.Byte.the-variants as byte
+use Rattle.scanner.specs.Places.{digit-kind, letter-kind, is-digit, is-letter, is-plain, count-flag, flag, ByteIs, KindIs, Kind-not, ByteRead}
+
+-- two tests that agree
+agree : Bool → Bool → Bool
+agree true b = b
+agree false b = not b
+
+agreed : (a b : Bool) → T (agree a b) → a ≡ b
+unfolding agree
+agreed true true t = refl
+agreed true false t = absurd t
+agreed false true t = absurd t
+agreed false false t = refl
+
+-- the code's tests of a byte, each compared at all 256 of them
+pub digit-test : (b : ℕ) → b < 256 → cond (leb 48 b) (leb b 57) false ≡ is-digit b
+unfolding is-digit kind between all agree
+digit-test b h = agreed _ _ (all-at 256 (λ b. agree (cond (leb 48 b) (leb b 57) false) (is-digit b)) tt b h)
+
+pub letter-test : (b : ℕ) → b < 256 → cond (leb b 90) (leb 65 b) (cond (leb 97 b) (leb b 122) false) ≡ is-letter b
+unfolding is-letter kind between all agree
+letter-test b h = agreed _ _ (all-at 256 (λ b. agree (cond (leb b 90) (leb 65 b) (cond (leb 97 b) (leb b 122) false)) (is-letter b)) tt b h)
+
+pub plain-test : (b : ℕ) → b < 256 → cond (eqb b 34) false (cond (leb 32 b) (leb b 126) false) ≡ is-plain b
+unfolding is-plain text between all agree
+plain-test b h = agreed _ _ (all-at 256 (λ b. agree (cond (eqb b 34) false (cond (leb 32 b) (leb b 126) false)) (is-plain b)) tt b h)
+
+-- what they say of its kind
+pub digit-is : (b : ℕ) → is-digit b ≡ true → kind b ≡ counts digit
+unfolding is-digit
+digit-is b e = go (kind b) e
+  where
+    go : (x : Kind) → digit-kind x ≡ true → x ≡ counts digit
+    go (counts digit) h = refl
+    go (counts point) h = cc
+    go (starts x) h = cc
+    go (ends x) h = cc
+
+pub digit-not : (b : ℕ) → is-digit b ≡ false → ¬ (kind b ≡ counts digit)
+unfolding is-digit
+digit-not b e h = let z : true ≡ false = sym (ap digit-kind h) ∙ e in let y : _≡_ {A = ℕ} 0 1 = cc in omega arith
+
+letter-is : (b : ℕ) → is-letter b ≡ true → kind b ≡ starts letter
+unfolding is-letter
+letter-is b e = go (kind b) e
+  where
+    go : (x : Kind) → letter-kind x ≡ true → x ≡ starts letter
+    go (counts x) h = cc
+    go (starts letter) h = refl
+    go (starts quote) h = cc
+    go (starts opening) h = cc
+    go (ends x) h = cc
+
+letter-not : (b : ℕ) → is-letter b ≡ false → ¬ (kind b ≡ starts letter)
+unfolding is-letter
+letter-not b e h = let z : true ≡ false = sym (ap letter-kind h) ∙ e in let y : _≡_ {A = ℕ} 0 1 = cc in omega arith
+
+-- a digit is from 48 to 57
+pub digit-range : (b : ℕ) → b < 256 → is-digit b ≡ true → (48 ≤ b) × (b ≤ 57)
+digit-range b h e = go (leb 48 b) refl (digit-test b h ∙ e)
+  where
+    go : (t : Bool) → leb 48 b ≡ t → cond t (leb b 57) false ≡ true → (48 ≤ b) × (b ≤ 57)
+    go true f g = (leb-true 48 b f, leb-true b 57 g)
+    go false f g = let y : _≡_ {A = ℕ} 0 1 = cc in absurd (omega arith)
+
+-- what a kind of one byte only says of it
+only-at : (b c : ℕ) (x : Kind) → (Spelt x b → b ≡ c) → ¬ (b ≡ c) → ¬ (kind b ≡ x)
+only-at b c x f d h = d (f (rw h at (kind-byte b)))
+
+module _ (s : Bytes) (at : ℕ) where
+  pub byte-is : (r : Byte) (c : ℕ) (next : Cursor) → r ≡ byte.Is c next → ByteRead s at r → ByteIs s at c next
+  unfolding ByteRead
+  byte-is r c next e h = subst (λ r. ByteRead s at r) e h
+
+  -- the byte is known
+  pub of-byte : (r : Byte) (c : ℕ) (next : Cursor) → r ≡ byte.Is c next → ByteRead s at r → (b : ℕ) → c ≡ b → ByteIs s at b next
+  of-byte r c next e h b f = rw f at (byte-is r c next e h)
+
+  pub byte-end : (r : Byte) → r ≡ byte.End → ByteRead s at r → length s ≤ at
+  unfolding ByteRead
+  byte-end r e h = subst (λ r. ByteRead s at r) e h
+
+  -- nothing stands at the end
+  pub end-not : (r : Byte) → r ≡ byte.End → ByteRead s at r → (x : Kind) → Kind-not s at x
+  end-not r e h x = let b = byte-end r e h in record { not = λ l k. omega arith }
+
+  module _ (c : ℕ) (next : Cursor) (is : ByteIs s at c next) where
+    pub of-kind : (x : Kind) → kind c ≡ x → KindIs s at x next
+    of-kind x e = record { within = is .within; kind = rw (is .value) at e; past = is .past }
+
+    pub not-kind : (x : Kind) → ¬ (kind c ≡ x) → Kind-not s at x
+    not-kind x d = record { not = λ l. rw (is .value) at d }
+
+    -- by the code's test for a letter
+    pub letter-here : (t : Bool) → t ≡ is-letter c → t ≡ true → KindIs s at (starts letter) next
+    letter-here t e f = of-kind (starts letter) (letter-is c (sym e ∙ f))
+
+    pub no-letter : (t : Bool) → t ≡ is-letter c → t ≡ false → Kind-not s at (starts letter)
+    no-letter t e f = not-kind (starts letter) (letter-not c (sym e ∙ f))
+
+    -- it is not the one byte of a kind
+    pub not-only : (b : ℕ) (x : Kind) → (Spelt x c → c ≡ b) → ¬ (c ≡ b) → Kind-not s at x
+    not-only b x f d = not-kind x (only-at c b x f d)
+
+    pub flag-is : flag s at ≡ count-flag (kind c)
+    unfolding flag
+    flag-is = simp (lt-ltb at (length s) (is .within)) (rw (is .value))
+
+  pub flag-end : length s ≤ at → flag s at ≡ 1
+  unfolding flag
+  flag-end h = simp (le-ltb at (length s) h)
+
+pub flag-other : (b : ℕ) → is-digit b ≡ false → ¬ (b ≡ 46) → count-flag (kind b) ≡ 1
+flag-other b e d = go (kind b) (digit-not b e) (only-at b 46 (counts point) (λ h. h) d)
+  where
+    go : (x : Kind) → ¬ (x ≡ counts digit) → ¬ (x ≡ counts point) → count-flag x ≡ 1
+    go (counts digit) u v = absurd (u refl)
+    go (counts point) u v = absurd (v refl)
+    go (starts x) u v = refl
+    go (ends x) u v = refl

@@ -1,0 +1,47 @@
+-- `Cursor::last` meets its contract. Assumes nothing.
+use mathlib.Core.Path.{sym, ap, _∙_}
+use Rattle.pattern.specs.Bytes.{between}
+use Rattle.pattern.specs.Spelling.{kind}
+use Rattle.scanner.specs.Places.{count-flag}
+use Rattle.scanner.proofs.Places.{byte-is, byte-end, digit-is, flag-is, flag-end, flag-other}
+use borrow.Author.Needs.{needs}
+use Rattle.scanner.proofs.cursor.Cursor.last.Statement.{statement}
+use Rattle.scanner.proofs.cursor.Cursor.last.Tie as tie
+
+byte-requires : tie.Need-byte-requires
+byte-requires c κs = search needs
+
+enum-known-b : tie.Need-enum-known-b
+enum-known-b c = search needs
+
+is-digit-requires : tie.Need-is-digit-requires
+is-digit-requires c κs = search needs
+
+enum-told : tie.Need-enum-told
+enum-told c = search needs
+
+returns : tie.Need-returns
+returns c = sym (flag-is _ _ _ _ (byte-is _ _ _ _ _ (c .before .before .before .b .given .1) (c .before .before .before .before .before .byte .ensures)) ∙ ap count-flag (digit-is _ (sym (c .before .is-digit .ensures) ∙ c .if1 .taken)))
+
+returns-2 : tie.Need-returns-2
+unfolding kind between
+returns-2 c = sym (flag-is _ _ _ _ (byte-is _ _ _ _ _ (c .before .before .before .before .b .given .1) (c .before .before .before .before .before .before .byte .ensures)) ∙ ap (λ b. count-flag (kind b)) (c .if2 .taken))
+
+returns-3 : tie.Need-returns-3
+returns-3 c = sym (flag-is _ _ _ _ (byte-is _ _ _ _ _ (c .before .before .before .before .b .given .1) (c .before .before .before .before .before .before .byte .ensures)) ∙ flag-other _ (sym (c .before .before .is-digit .ensures) ∙ c .before .if1 .left) (c .if2 .left))
+
+returns-4 : tie.Need-returns-4
+returns-4 c = sym (flag-end _ _ (byte-end _ _ _ (c .enum-told .given .1) (c .before .before .byte .ensures)))
+
+pub last-spec : {M : Type 1} → statement M
+last-spec =
+    tie.close
+    (tie.spec
+    byte-requires
+    enum-known-b
+    is-digit-requires
+    enum-told
+    returns
+    returns-2
+    returns-3
+    returns-4)

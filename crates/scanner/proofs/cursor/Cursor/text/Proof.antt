@@ -1,0 +1,65 @@
+-- `Cursor::text` meets its contract. Assumes nothing.
+use mathlib.Core.Path.{sym, _∙_}
+use Rattle.pattern.specs.Spelling.{quote, starts}
+use Rattle.scanner.proofs.Places.{byte-is, byte-end, end-not, not-only}
+use Rattle.scanner.proofs.Texts.{text-plain, text-barred, text-ends, text-doubled, text-short}
+use borrow.Author.Needs.{needs}
+use Rattle.scanner.proofs.cursor.Cursor.text.Statement.{statement}
+use Rattle.scanner.proofs.cursor.Cursor.text.Tie as tie
+
+byte-requires : tie.Need-byte-requires
+byte-requires c κs = search needs
+
+enum-known-b : tie.Need-enum-known-b
+enum-known-b c = search needs
+
+is-plain-requires : tie.Need-is-plain-requires
+is-plain-requires c κs = search needs
+
+byte-requires-2 : tie.Need-byte-requires-2
+byte-requires-2 c κs = search needs
+
+enum-known-d : tie.Need-enum-known-d
+enum-known-d c = search needs
+
+enum-told : tie.Need-enum-told
+enum-told c = search needs
+
+enum-told-2 : tie.Need-enum-told-2
+enum-told-2 c = search needs
+
+returns : tie.Need-returns
+returns c = text-plain _ _ _ _ (byte-is _ _ _ _ _ (c .before .before .before .b .given .1) (c .before .before .before .before .before .byte .ensures)) (sym (c .before .is-plain .ensures) ∙ c .if1 .taken)
+
+returns-2 : tie.Need-returns-2
+returns-2 c = text-doubled _ _ _ _ (byte-is _ _ _ _ _ (c .before .before .before .before .before .before .before .before .before .b .given .1) (c .before .before .before .before .before .before .before .before .before .before .before .byte .ensures)) (c .before .before .before .before .before .if2 .taken) _ _ (byte-is _ _ _ _ _ (c .before .before .d .given .1) (c .before .before .before .before .byte2 .ensures)) (c .if3 .taken)
+
+returns-3 : tie.Need-returns-3
+returns-3 c = text-ends _ _ _ _ (byte-is _ _ _ _ _ (c .before .before .before .before .before .before .before .before .before .b .given .1) (c .before .before .before .before .before .before .before .before .before .before .before .byte .ensures)) (c .before .before .before .before .before .if2 .taken) (not-only _ _ _ _ (byte-is _ _ _ _ _ (c .before .before .d .given .1) (c .before .before .before .before .byte2 .ensures)) _ (starts quote) (λ h. h) (c .if3 .left))
+
+returns-4 : tie.Need-returns-4
+returns-4 c = text-ends _ _ _ _ (byte-is _ _ _ _ _ (c .before .before .before .before .before .before .before .b .given .1) (c .before .before .before .before .before .before .before .before .before .byte .ensures)) (c .before .before .before .if2 .taken) (end-not _ _ _ (c .enum-told .given .1) (c .before .before .byte2 .ensures) (starts quote))
+
+returns-5 : tie.Need-returns-5
+returns-5 c = text-barred _ _ _ _ (byte-is _ _ _ _ _ (c .before .before .before .before .b .given .1) (c .before .before .before .before .before .before .byte .ensures)) (sym (c .before .before .is-plain .ensures) ∙ c .before .if1 .left) (c .if2 .left)
+
+returns-6 : tie.Need-returns-6
+returns-6 c = text-short _ _ (byte-end _ _ _ (c .enum-told2 .given .1) (c .before .before .byte .ensures))
+
+pub text-spec : {M : Type 1} → statement M
+text-spec =
+    tie.close
+    (tie.spec
+    byte-requires
+    enum-known-b
+    is-plain-requires
+    byte-requires-2
+    enum-known-d
+    enum-told
+    enum-told-2
+    returns
+    returns-2
+    returns-3
+    returns-4
+    returns-5
+    returns-6)

@@ -1,0 +1,69 @@
+-- Repeat counts: the promises of their readers. Assumes nothing.
+use mathlib.Core.Path.{_≡_}
+use mathlib.Core.Bool.{cond}
+use mathlib.Core.List.{[], _∷_}
+use mathlib.Core.Option.{none}
+use Prim.Native.Nat.{ℕ, suc, _+_, _-_, _*_, _≤_, _<_}
+use lib.Dec.{leb, ltb, eqb}
+use lib.ListN.{length, drop, getD}
+use Rattle.pattern.specs.Numbers.{zero-byte, number-limit, atom-limit, NUMBER, RANGE, ATOMS}
+use Rattle.pattern.specs.Bytes.{Bytes}
+use Rattle.pattern.specs.Repeats.{repeat-of}
+use Rattle.pattern.specs.Spelling.{Mark, digit, point, counts, starts, ends, kind}
+use Rattle.pattern.specs.Reading.{Run, empty, counting, Around, grow}
+use Rattle.pattern.specs.Scan.{low, high, refused}
+use Rattle.pattern.specs.declared.repeat.Repeat.{Repeat}
+use Rattle.scanner.specs.declared.cursor.Cursor.{Cursor}
+use Rattle.scanner.specs.declared.count.Number.{Number}
+use Rattle.scanner.specs.declared.count.Counted.{Counted}
+use Rattle.scanner.specs.declared.count.Counted.the-variants as counted
+use Rattle.scanner.specs.Places.{Onward, kind-at}
+use Rattle.scanner.specs.Scans.{scanned}
+
+-- how many digits come first
+unfoldable pub lead : Bytes → ℕ
+lead [] = 0
+lead (c ∷ s) = elim (kind c) [ counts m ↦ elim m [ digit ↦ suc (lead s) | point ↦ 0 ] | starts b ↦ 0 | ends e ↦ 0 ]
+
+-- the number that they spell, after v
+unfoldable pub number : ℕ → Bytes → ℕ
+number v [] = v
+number v (c ∷ s) = elim (kind c) [ counts m ↦ elim m [ digit ↦ number (10 * v + (c - zero-byte)) s | point ↦ v ] | starts b ↦ v | ends e ↦ v ]
+
+-- the code's number for every one over the limit
+abbrev pub large-number : ℕ
+large-number = 10000
+
+-- a number, held at that
+unfoldable pub cap : ℕ → ℕ
+cap x = cond (leb x number-limit) x large-number
+
+pub record NumberRead (s : Bytes) (i : ℕ) (r : Number) : Type 0 where
+  pub value : r .value ≡ cap (number 0 (drop i s))
+  pub end : r .end .at ≡ i + lead (drop i s)
+  pub within : r .end .at ≤ length s
+
+-- the faults of a count at its first byte, then that of its second number, which begins at from
+unfoldable pub judge : Repeat → (n start from : ℕ) → Cursor → Counted
+judge rep n start from end =
+    cond (ltb number-limit (rep .low)) (counted.Fault NUMBER start)
+    (cond (ltb (rep .high) (rep .low)) (counted.Fault RANGE start)
+    (cond (leb atom-limit n) (counted.Fault ATOMS start)
+    (cond (eqb (rep .high) large-number) (counted.Fault NUMBER from) (counted.Repeat rep end))))
+
+-- the scan goes on after the longest run
+pub record CountIs (s : Bytes) (i n : ℕ) (rep : Repeat) (next : Cursor) : Type 0 where
+  pub run : Run
+  pub some-run : ¬ (run ≡ empty)
+  pub rep-is : rep ≡ repeat-of (low run) (high run)
+  pub onward : Onward s i next
+  pub room : n < atom-limit
+  pub stops : (m : Mark) → next .at < length s → kind-at s (next .at) ≡ counts m → grow run m (getD s (next .at) 0) ≡ none
+  pub scan : (k : Around) → scanned s (counting empty, k) i n ≡ scanned s (counting run, k) (next .at) (suc n)
+
+pub record CountRefused (s : Bytes) (i n f p : ℕ) : Type 0 where
+  pub scan : (k : Around) → scanned s (counting empty, k) i n ≡ refused f p
+
+unfoldable pub CountRead : Bytes → (i n : ℕ) → Counted → Type 0
+CountRead s i n (counted.Repeat rep next) = CountIs s i n rep next
+CountRead s i n (counted.Fault f p) = CountRefused s i n f p

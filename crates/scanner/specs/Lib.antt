@@ -1,0 +1,4 @@
+pub mod Places
+pub mod Scans
+pub mod Bodies
+pub mod Counts

@@ -1,0 +1,104 @@
+// A repeat count, taken as the longest run.
+ghost use mathlib.Core.Path.{_≡_};
+ghost use Prim.Native.Nat.{_+_, _*_, _≤_};
+ghost use lib.ListN.{length};
+ghost use Rattle.scanner.specs.Counts.{cap, judge, NumberRead, CountRead};
+use crate::cursor::Cursor;
+use crate::cursor::Digit;
+use crate::cursor::Point;
+use pattern::limits;
+use pattern::refusal;
+use pattern::repeat::Repeat;
+
+// Stands for every number over the limit.
+const LARGE: u16 = 10000;
+
+// A run of digits: its value, or LARGE, and where it ends.
+struct Number {
+    value: u16,
+    end: Cursor,
+}
+
+pub enum Counted {
+    Repeat(Repeat, Cursor),
+    Fault(u32, usize),
+}
+
+// The number v and then the digit d.
+fn grown(v: u16, d: u16) -> u16
+    requires { ⌜ (v ≤ 10000) × (d ≤ 9) ⌝ }
+    ensures { λ r. ⌜ (r ≤ 10000) × (r ≡ cap (10 * v + d)) ⌝ }
+{
+    if 999 < v { LARGE } else { 10 * v + d }
+}
+
+fn digits(s: &[u8], c: Cursor) -> Number
+    requires { ⌜ c .at ≤ length (now s) ⌝ }
+    ensures { λ r. ⌜ NumberRead (now (s .entry)) (c .at) r ⌝ }
+{
+    let mut at = c;
+    let mut v: u16 = 0;
+    loop {
+        match at.digit(s) {
+            Digit::Is(d, next) => {
+                v = grown(v, d);
+                at = next;
+            }
+            Digit::None => return Number { value: v, end: at },
+        }
+    }
+}
+
+// A count from start to end, its second number at from, of an atom after n others: its first fault, or the count.
+fn judged(rep: Repeat, n: usize, start: usize, from: usize, end: Cursor) -> Counted
+    ensures { λ r. ⌜ r ≡ judge rep n start from end ⌝ }
+{
+    if limits::NUMBER_LIMIT < rep.low {
+        return Counted::Fault(refusal::NUMBER, start);
+    }
+    if rep.high < rep.low {
+        return Counted::Fault(refusal::RANGE, start);
+    }
+    if limits::ATOM_LIMIT <= n {
+        return Counted::Fault(refusal::ATOMS, start);
+    }
+    if rep.high == LARGE {
+        return Counted::Fault(refusal::NUMBER, from);
+    }
+    Counted::Repeat(rep, end)
+}
+
+// The count at the cursor, of an atom after n others.
+pub fn count(s: &[u8], c: Cursor, n: usize) -> Counted
+    requires { ⌜ c .at ≤ length (now s) ⌝ }
+    ensures { λ r. ⌜ CountRead (now (s .entry)) (c .at) n r ⌝ }
+{
+    let start = c.at;
+    let first = digits(s, c);
+    let end = first.end;
+    match end.point(s) {
+        Point::Is(next) => {
+            let from = next.at;
+            let second = digits(s, next);
+            let stop = second.end;
+            if stop.at == from {
+                judged(Repeat::open(first.value), n, start, from, stop)
+            } else {
+                judged(
+                    Repeat::closed(first.value, second.value),
+                    n,
+                    start,
+                    from,
+                    stop,
+                )
+            }
+        }
+        Point::None => {
+            if end.at == start {
+                Counted::Fault(refusal::FORM, start)
+            } else {
+                judged(Repeat::exact(first.value), n, start, start, end)
+            }
+        }
+    }
+}

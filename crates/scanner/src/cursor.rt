@@ -1,0 +1,221 @@
+// A place in the source, by value: a method answers what it took there beside the advanced cursor.
+// `last`, and `class` at a letter, only look and take nothing.
+ghost use mathlib.Core.Path.{_≡_};
+ghost use Rattle.scanner.specs.Places.{is-digit, is-letter, is-plain, flag, ByteRead, DigitRead, PointRead, LetterRead, ClassRead, SeparatorRead};
+ghost use Rattle.scanner.specs.Bodies.{TextRead};
+
+pub struct Cursor {
+    pub at: usize,
+}
+
+enum Byte {
+    Is(u8, Cursor),
+    End,
+}
+
+pub enum Digit {
+    Is(u16, Cursor),
+    None,
+}
+
+pub enum Letter {
+    Is(u8, Cursor),
+    None,
+}
+
+// Whether the point of a count stands at a cursor.
+pub enum Point {
+    Is(Cursor),
+    None,
+}
+
+// With what a body begins; a letter stays to be read.
+pub enum Class {
+    Letter,
+    Quote(Cursor),
+    Opening(Cursor),
+    Other,
+}
+
+// With what a branch ends.
+pub enum Separator {
+    Comma(Cursor),
+    Closing(Cursor),
+    Other,
+}
+
+// Inside a literal: a byte of its value, a quote inside undoubled; its end; or neither.
+pub enum Text {
+    Byte(u8, Cursor),
+    End(Cursor),
+    Broken,
+}
+
+fn is_digit(b: u8) -> bool
+    ensures { λ r. ⌜ r ≡ is-digit b ⌝ }
+{
+    if b'0' <= b { b <= b'9' } else { false }
+}
+
+fn is_letter(b: u8) -> bool
+    ensures { λ r. ⌜ r ≡ is-letter b ⌝ }
+{
+    if b <= b'Z' {
+        b'A' <= b
+    } else if b'a' <= b {
+        b <= b'z'
+    } else {
+        false
+    }
+}
+
+// A byte other than a quote that may stand in a literal.
+fn is_plain(b: u8) -> bool
+    ensures { λ r. ⌜ r ≡ is-plain b ⌝ }
+{
+    if b == b'"' {
+        false
+    } else if b' ' <= b {
+        b <= b'~'
+    } else {
+        false
+    }
+}
+
+impl Cursor {
+    fn byte(self, s: &[u8]) -> Byte
+        ensures { λ r. ⌜ ByteRead (now (s .entry)) (self .at) r ⌝ }
+    {
+        let at = self.at;
+        if at < s.len() {
+            Byte::Is(s[at], Cursor { at: at + 1 })
+        } else {
+            Byte::End
+        }
+    }
+
+    pub fn digit(self, s: &[u8]) -> Digit
+        ensures { λ r. ⌜ DigitRead (now (s .entry)) (self .at) r ⌝ }
+    {
+        match self.byte(s) {
+            Byte::Is(b, next) => {
+                if is_digit(b) {
+                    Digit::Is((b - b'0') as u16, next)
+                } else {
+                    Digit::None
+                }
+            }
+            Byte::End => Digit::None,
+        }
+    }
+
+    pub fn point(self, s: &[u8]) -> Point
+        ensures { λ r. ⌜ PointRead (now (s .entry)) (self .at) r ⌝ }
+    {
+        match self.byte(s) {
+            Byte::Is(b, next) => {
+                if b == b'.' {
+                    Point::Is(next)
+                } else {
+                    Point::None
+                }
+            }
+            Byte::End => Point::None,
+        }
+    }
+
+    pub fn letter(self, s: &[u8]) -> Letter
+        ensures { λ r. ⌜ LetterRead (now (s .entry)) (self .at) r ⌝ }
+    {
+        match self.byte(s) {
+            Byte::Is(b, next) => {
+                if is_letter(b) {
+                    Letter::Is(b, next)
+                } else {
+                    Letter::None
+                }
+            }
+            Byte::End => Letter::None,
+        }
+    }
+
+    // 0 where an atom begins at the cursor, else 1: then the atom before it is the last of its branch.
+    pub fn last(self, s: &[u8]) -> u8
+        ensures { λ r. ⌜ r ≡ flag (now (s .entry)) (self .at) ⌝ }
+    {
+        match self.byte(s) {
+            Byte::Is(b, _) => {
+                if is_digit(b) {
+                    0
+                } else if b == b'.' {
+                    0
+                } else {
+                    1
+                }
+            }
+            Byte::End => 1,
+        }
+    }
+
+    pub fn class(self, s: &[u8]) -> Class
+        ensures { λ r. ⌜ ClassRead (now (s .entry)) (self .at) r ⌝ }
+    {
+        match self.byte(s) {
+            Byte::Is(b, next) => {
+                if is_letter(b) {
+                    Class::Letter
+                } else if b == b'"' {
+                    Class::Quote(next)
+                } else if b == b'(' {
+                    Class::Opening(next)
+                } else {
+                    Class::Other
+                }
+            }
+            Byte::End => Class::Other,
+        }
+    }
+
+    pub fn separator(self, s: &[u8]) -> Separator
+        ensures { λ r. ⌜ SeparatorRead (now (s .entry)) (self .at) r ⌝ }
+    {
+        match self.byte(s) {
+            Byte::Is(b, next) => {
+                if b == b',' {
+                    Separator::Comma(next)
+                } else if b == b')' {
+                    Separator::Closing(next)
+                } else {
+                    Separator::Other
+                }
+            }
+            Byte::End => Separator::Other,
+        }
+    }
+
+    pub fn text(self, s: &[u8]) -> Text
+        ensures { λ r. ⌜ TextRead (now (s .entry)) (self .at) r ⌝ }
+    {
+        match self.byte(s) {
+            Byte::Is(b, next) => {
+                if is_plain(b) {
+                    Text::Byte(b, next)
+                } else if b == b'"' {
+                    match next.byte(s) {
+                        Byte::Is(d, after) => {
+                            if d == b'"' {
+                                Text::Byte(b'"', after)
+                            } else {
+                                Text::End(next)
+                            }
+                        }
+                        Byte::End => Text::End(next),
+                    }
+                } else {
+                    Text::Broken
+                }
+            }
+            Byte::End => Text::Broken,
+        }
+    }
+}
