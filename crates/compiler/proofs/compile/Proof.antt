@@ -28,19 +28,31 @@ slice-aggregate-emit-2 : tie.Need-slice-aggregate-emit-2
 slice-aggregate-emit-2 c = search needs
 
 emit-requires : tie.Need-emit-requires
-emit-requires c κs = let m = (pattern-is _ _ _ _ _ _ _ _ _ (c .before .before .before .before .before .before .end .given .1) (c .before .before .before .before .before .before .before .before .before .before .read-pattern .ensures)) .moved in search (needs, m)
+emit-requires c κs =
+    let after-end = c .before .before .before .before .before .before in
+    let after-read-pattern = after-end .before .before .before .before in
+    let m = (pattern-is _ _ _ _ _ _ _ _ _ (after-end .end .given .1) (after-read-pattern .read-pattern .ensures)) .moved in search (needs, m)
 
 enum-known-no : tie.Need-enum-known-no
 enum-known-no c = search needs
 
 returns-2 : tie.Need-returns-2
-returns-2 c = compile-form _ _ (omega (arith, c .before .before .before .before .before .before .before .before .before .before .if1 .left)) _ _ _ _ _ (pattern-is _ _ _ _ _ _ _ _ _ (c .before .before .before .end .given .1) (c .before .before .before .before .before .before .before .read-pattern .ensures)) (c .if2 .taken)
+returns-2 c =
+    let after-end = c .before .before .before in
+    let after-read-pattern = after-end .before .before .before .before in
+    let after-if1 = after-read-pattern .before .before .before in
+    compile-form _ _ (omega (arith, after-if1 .if1 .left)) _ _ _ _ _ (pattern-is _ _ _ _ _ _ _ _ _ (after-end .end .given .1) (after-read-pattern .read-pattern .ensures)) (c .if2 .taken)
 
 same-length : tie.Need-same-length
 same-length c = search needs
 
 returns-3 : tie.Need-returns-3
-returns-3 c = compile-table _ _ (omega (arith, c .before .before .before .before .before .before .before .before .before .before .before .before .before .before .before .before .if1 .left)) _ _ _ _ _ (pattern-is _ _ _ _ _ _ _ _ _ (c .before .before .before .before .before .before .before .before .before .end .given .1) (c .before .before .before .before .before .before .before .before .before .before .before .before .before .read-pattern .ensures)) (omega arith) (omega arith) (omega (arith, c .before .before .before .before .before .before .if2 .left)) _ (c .before .before .emit .ensures)
+returns-3 c =
+    let after-if2 = c .before .before .before .before .before .before in
+    let after-end = after-if2 .before .before .before in
+    let after-read-pattern = after-end .before .before .before .before in
+    let after-if1 = after-read-pattern .before .before .before in
+    compile-table _ _ (omega (arith, after-if1 .if1 .left)) _ _ _ _ _ (pattern-is _ _ _ _ _ _ _ _ _ (after-end .end .given .1) (after-read-pattern .read-pattern .ensures)) (omega arith) (omega arith) (omega (arith, after-if2 .if2 .left)) _ (c .before .before .emit .ensures)
 
 returns-4 : tie.Need-returns-4
 returns-4 c = compile-fault _ _ (omega (arith, c .before .before .before .before .before .before .before .before .if1 .left)) _ _ _ _ _ _ _ (c .before .no .given .1) (c .before .before .before .before .before .read-pattern .ensures)

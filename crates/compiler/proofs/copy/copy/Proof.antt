@@ -24,7 +24,9 @@ add-to : tie.Need-add-to Inv-loop μ-loop
 add-to c = omega arith
 
 slice-write-to : tie.Need-slice-write-to Inv-loop μ-loop
-slice-write-to c = omega (arith, ap length (c .before .before .loop .inv .1), length-stored (c .before .before .before .args .to .now) (c .before .before .before .args .at) (take (c .before .before .loop .i) (c .before .before .before .args .from .now)))
+slice-write-to c =
+    let start = c .before .before .before in
+    omega (arith, ap length (c .before .before .loop .inv .1), length-stored (start .args .to .now) (start .args .at) (take (c .before .before .loop .i) (start .args .from .now)))
 
 add-i : tie.Need-add-i Inv-loop μ-loop
 add-i c = omega arith
@@ -33,7 +35,9 @@ loop-less : tie.Need-loop-less Inv-loop μ-loop
 loop-less c = omega arith
 
 loop-again : tie.Need-loop-again Inv-loop μ-loop
-loop-again c = (omega arith, ap (λ m. set m (c .before .before .before .args .at + c .before .before .loop .i) (getD (c .before .before .before .args .from .now) (c .before .before .loop .i) 0)) (c .before .before .loop .inv .1) ∙ copied (c .before .before .before .args .to .now) (c .before .before .before .args .from .now) (c .before .before .before .args .at) (c .before .before .loop .i) (omega arith))
+loop-again c =
+    let start = c .before .before .before in
+    (omega arith, ap (λ m. set m (start .args .at + c .before .before .loop .i) (getD (start .args .from .now) (c .before .before .loop .i) 0)) (c .before .before .loop .inv .1) ∙ copied (start .args .to .now) (start .args .from .now) (start .args .at) (c .before .before .loop .i) (omega arith))
 
 same-length : tie.Need-same-length Inv-loop μ-loop
 same-length c = ap length (c .before .loop .inv .1) ∙ length-stored _ _ _

@@ -41,13 +41,25 @@ add-put16-4 : tie.Need-add-put16-4
 add-put16-4 c = search needs
 
 put16-requires-4 : tie.Need-put16-requires-4
-put16-requires-4 c κs = let k = simp length-set at (c .before .before .before .before .before .before .before .before .before .before .before .put16 .kept .0) in omega (arith, k, c .before .before .before .before .before .before .before .put162 .kept .0, c .before .before .before .put163 .kept .0)
+put16-requires-4 c κs =
+    let after-put163 = c .before .before .before in
+    let after-put162 = after-put163 .before .before .before .before in
+    let after-put16 = after-put162 .before .before .before .before in
+    let k = simp length-set at (after-put16 .put16 .kept .0) in omega (arith, k, after-put162 .put162 .kept .0, after-put163 .put163 .kept .0)
 
 same-length : tie.Need-same-length
-same-length c = c .before .before .put164 .kept .0 ∙ c .before .before .before .before .before .before .put163 .kept .0 ∙ c .before .before .before .before .before .before .before .before .before .before .put162 .kept .0 ∙ (simp length-set at (c .before .before .before .before .before .before .before .before .before .before .before .before .before .before .put16 .kept .0))
+same-length c =
+    let after-put163 = c .before .before .before .before .before .before in
+    let after-put162 = after-put163 .before .before .before .before in
+    let after-put16 = after-put162 .before .before .before .before in
+    c .before .before .put164 .kept .0 ∙ after-put163 .put163 .kept .0 ∙ after-put162 .put162 .kept .0 ∙ (simp length-set at (after-put16 .put16 .kept .0))
 
 returns : tie.Need-returns
-returns c = record-puts _ _ _ _ _ _ _ (c .before .before .before .before .before .before .before .before .before .before .before .before .before .before .put16 .ensures) (c .before .before .before .before .before .before .before .before .before .before .put162 .ensures) (c .before .before .before .before .before .before .put163 .ensures) (c .before .before .put164 .ensures)
+returns c =
+    let after-put163 = c .before .before .before .before .before .before in
+    let after-put162 = after-put163 .before .before .before .before in
+    let after-put16 = after-put162 .before .before .before .before in
+    record-puts _ _ _ _ _ _ _ (after-put16 .put16 .ensures) (after-put162 .put162 .ensures) (after-put163 .put163 .ensures) (c .before .before .put164 .ensures)
 
 pub put-record-spec : {M : Type 1} → statement M
 put-record-spec =

@@ -44,16 +44,38 @@ mul-copy : tie.Need-mul-copy
 mul-copy c = search needs
 
 copy-requires-2 : tie.Need-copy-requires-2
-copy-requires-2 c κs = let k = simp length-set at (c .before .before .before .put16 .kept .0) in (c .before .before .before .before .before .before .before .before .before .before .before .before .before .before .before .pre .recs-there, omega (arith, k, c .before .before .before .before .before .before .before .copy .kept .1 .1 .0, c .before .before .before .before .before .before .before .before .before .before .before .if1 .left))
+copy-requires-2 c κs =
+    let after-put16 = c .before .before .before in
+    let after-copy = after-put16 .before .before .before .before in
+    let after-if1 = after-copy .before .before .before .before in
+    let start = after-if1 .before .before .before .before in
+    let k = simp length-set at (after-put16 .put16 .kept .0) in (start .pre .recs-there, omega (arith, k, after-copy .copy .kept .1 .1 .0, after-if1 .if1 .left))
 
 copy-requires-3 : tie.Need-copy-requires-3
-copy-requires-3 c κs = let k = simp length-set at (c .before .before .before .before .before .before .before .put16 .kept .0) in (c .before .before .before .before .before .before .before .before .before .before .before .before .before .before .before .before .before .before .before .pre .text-there, omega (arith, k, c .before .before .before .copy2 .kept .1 .1 .0, c .before .before .before .before .before .before .before .before .before .before .before .copy .kept .1 .1 .0, c .before .before .before .before .before .before .before .before .before .before .before .before .before .before .before .if1 .left))
+copy-requires-3 c κs =
+    let after-copy2 = c .before .before .before in
+    let after-put16 = after-copy2 .before .before .before .before in
+    let after-copy = after-put16 .before .before .before .before in
+    let after-if1 = after-copy .before .before .before .before in
+    let start = after-if1 .before .before .before .before in
+    let k = simp length-set at (after-put16 .put16 .kept .0) in (start .pre .text-there, omega (arith, k, after-copy2 .copy2 .kept .1 .1 .0, after-copy .copy .kept .1 .1 .0, after-if1 .if1 .left))
 
 same-length : tie.Need-same-length
-same-length c = c .before .before .copy3 .kept .1 .1 .0 ∙ c .before .before .before .before .before .before .copy2 .kept .1 .1 .0 ∙ (simp length-set at (c .before .before .before .before .before .before .before .before .before .before .put16 .kept .0)) ∙ c .before .before .before .before .before .before .before .before .before .before .before .before .before .before .copy .kept .1 .1 .0
+same-length c =
+    let after-copy2 = c .before .before .before .before .before .before in
+    let after-put16 = after-copy2 .before .before .before .before in
+    let after-copy = after-put16 .before .before .before .before in
+    c .before .before .copy3 .kept .1 .1 .0 ∙ after-copy2 .copy2 .kept .1 .1 .0 ∙ (simp length-set at (after-put16 .put16 .kept .0)) ∙ after-copy .copy .kept .1 .1 .0
 
 returns-2 : tie.Need-returns-2
-returns-2 c = emits-table _ _ _ _ _ _ (c .before .before .before .before .before .before .before .before .before .before .before .before .before .before .before .before .before .before .before .before .before .before .pre) _ _ _ _ _ (c .before .before .before .before .before .before .before .before .before .before .before .before .before .before .before .before .before .before .if1 .left) (c .before .before .before .before .before .before .before .before .before .before .before .before .before .before .before .before .before .marked .ensures) (c .before .before .before .before .before .before .before .before .before .before .before .before .before .before .copy .ensures) (c .before .before .before .before .before .before .before .before .before .before .put16 .ensures) (c .before .before .before .before .before .before .copy2 .ensures) (c .before .before .copy3 .ensures)
+returns-2 c =
+    let after-copy2 = c .before .before .before .before .before .before in
+    let after-put16 = after-copy2 .before .before .before .before in
+    let after-copy = after-put16 .before .before .before .before in
+    let after-marked = after-copy .before .before .before in
+    let after-if1 = after-marked .before in
+    let start = after-if1 .before .before .before .before in
+    emits-table _ _ _ _ _ _ (start .pre) _ _ _ _ _ (after-if1 .if1 .left) (after-marked .marked .ensures) (after-copy .copy .ensures) (after-put16 .put16 .ensures) (after-copy2 .copy2 .ensures) (c .before .before .copy3 .ensures)
 
 pub emit-spec : {M : Type 1} → statement M
 emit-spec =

@@ -29,7 +29,12 @@ same-length : tie.Need-same-length
 same-length c = search needs
 
 returns : tie.Need-returns
-returns c = coded-done _ _ _ _ _ _ _ _ (c .before .before .before .before .before .before .before .before .codes-from .ensures) _ _ _ (c .before .before .before .before .before .before .set .given .1) (c .before .before .before .last .ensures) (c .before .before .put-record .ensures) (c .before .before .before .before .before .before .before .before .before .before .before .pre .pool)
+returns c =
+    let after-last = c .before .before .before in
+    let after-set = after-last .before .before .before in
+    let after-codes-from = after-set .before .before in
+    let start = after-codes-from .before .before .before in
+    coded-done _ _ _ _ _ _ _ _ (after-codes-from .codes-from .ensures) _ _ _ (after-set .set .given .1) (after-last .last .ensures) (c .before .before .put-record .ensures) (start .pre .pool)
 
 returns-2 : tie.Need-returns-2
 returns-2 c = coded-fault _ _ _ _ _ _ _ _ (c .before .before .before .codes-from .ensures) _ (c .before .pos .given .1)

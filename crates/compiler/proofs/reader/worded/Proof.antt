@@ -18,10 +18,18 @@ cast-put-record : tie.Need-cast-put-record
 cast-put-record c = search needs
 
 sub-put-record : tie.Need-sub-put-record
-sub-put-record c = let v = literal-is _ _ (c .before .before .before .before .before .before .before .before .before .before .before .before .args .n) _ (c .before .before .before .before .before .before .before .before .before .before .before .before .args .rep) (c .before .before .before .before .before .before .before .before .before .before .before .before .args .recs .now) (c .before .before .before .before .before .before .before .before .before .before .before .before .args .recs .now) _ _ _ (c .before .before .before .before .before .before .before .quoted .ensures) _ _ (c .before .before .before .next .given .1) in omega (arith, v .end-is)
+sub-put-record c =
+    let after-next = c .before .before .before in
+    let after-quoted = after-next .before .before .before .before in
+    let start = after-quoted .before .before .before .before .before in
+    let v = literal-is _ _ (start .args .n) _ (start .args .rep) (start .args .recs .now) (start .args .recs .now) _ _ _ (after-quoted .quoted .ensures) _ _ (after-next .next .given .1) in omega (arith, v .end-is)
 
 cast-put-record-2 : tie.Need-cast-put-record-2
-cast-put-record-2 c = let v = literal-is _ _ (c .before .before .before .before .before .before .before .before .before .before .before .before .args .n) _ (c .before .before .before .before .before .before .before .before .before .before .before .before .args .rep) (c .before .before .before .before .before .before .before .before .before .before .before .before .args .recs .now) (c .before .before .before .before .before .before .before .before .before .before .before .before .args .recs .now) _ _ _ (c .before .before .before .before .before .before .before .quoted .ensures) _ _ (c .before .before .before .next .given .1) in let r = c .before .before .before .before .before .before .before .before .before .before .before .before .pre .0 in record { fits = omega (arith, v .fits, v .onward .within, r .source) }
+cast-put-record-2 c =
+    let after-next = c .before .before .before in
+    let after-quoted = after-next .before .before .before .before in
+    let start = after-quoted .before .before .before .before .before in
+    let v = literal-is _ _ (start .args .n) _ (start .args .rep) (start .args .recs .now) (start .args .recs .now) _ _ _ (after-quoted .quoted .ensures) _ _ (after-next .next .given .1) in let r = start .pre .0 in record { fits = omega (arith, v .fits, v .onward .within, r .source) }
 
 put-record-requires : tie.Need-put-record-requires
 put-record-requires c κs = search needs
@@ -39,7 +47,11 @@ same-length-2 : tie.Need-same-length-2
 same-length-2 c = search needs
 
 returns : tie.Need-returns
-returns c = worded-done _ _ _ _ _ _ _ _ _ _ (c .before .before .before .before .before .before .before .before .before .before .quoted .ensures) _ _ _ (c .before .before .before .before .before .before .next .given .1) (c .before .before .before .last .ensures) (c .before .before .put-record .ensures)
+returns c =
+    let after-last = c .before .before .before in
+    let after-next = after-last .before .before .before in
+    let after-quoted = after-next .before .before .before .before in
+    worded-done _ _ _ _ _ _ _ _ _ _ (after-quoted .quoted .ensures) _ _ _ (after-next .next .given .1) (after-last .last .ensures) (c .before .before .put-record .ensures)
 
 same-length-3 : tie.Need-same-length-3
 same-length-3 c = search needs

@@ -27,13 +27,25 @@ bit-requires : tie.Need-bit-requires Inv-loop μ-loop
 bit-requires c κs = search needs
 
 returns : tie.Need-returns Inv-loop μ-loop
-returns c = coding-fault _ _ _ _ (c .before .before .before .before .before .before .loop .inv) _ (c .before .before .before .before .before .letter .ensures) _ _ _ (c .before .before .before .b .given .1) (c .before .bit .ensures) (c .if1 .taken)
+returns c =
+    let after-b = c .before .before .before in
+    let after-letter = after-b .before .before in
+    let turn = after-letter .before in
+    coding-fault _ _ _ _ (turn .loop .inv) _ (after-letter .letter .ensures) _ _ _ (after-b .b .given .1) (c .before .bit .ensures) (c .if1 .taken)
 
 loop-less : tie.Need-loop-less Inv-loop μ-loop
-loop-less c = let o = coding-past _ _ _ _ (c .before .before .before .before .before .before .loop .inv) _ (c .before .before .before .before .before .letter .ensures) _ _ _ (c .before .before .before .b .given .1) (c .before .bit .ensures) in omega (arith, o .0, o .1)
+loop-less c =
+    let after-b = c .before .before .before in
+    let after-letter = after-b .before .before in
+    let turn = after-letter .before in
+    let o = coding-past _ _ _ _ (turn .loop .inv) _ (after-letter .letter .ensures) _ _ _ (after-b .b .given .1) (c .before .bit .ensures) in omega (arith, o .0, o .1)
 
 loop-again : tie.Need-loop-again Inv-loop μ-loop
-loop-again c = coding-more _ _ _ _ (c .before .before .before .before .before .before .loop .inv) _ (c .before .before .before .before .before .letter .ensures) _ _ _ (c .before .before .before .b .given .1) (c .before .bit .ensures) (omega arith)
+loop-again c =
+    let after-b = c .before .before .before in
+    let after-letter = after-b .before .before in
+    let turn = after-letter .before in
+    coding-more _ _ _ _ (turn .loop .inv) _ (after-letter .letter .ensures) _ _ _ (after-b .b .given .1) (c .before .bit .ensures) (omega arith)
 
 enum-told : tie.Need-enum-told Inv-loop μ-loop
 enum-told c = search needs

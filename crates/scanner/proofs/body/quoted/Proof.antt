@@ -25,7 +25,10 @@ enum-known-b : tie.Need-enum-known-b Inv-loop μ-loop
 enum-known-b c = search needs
 
 slice-write-pool : tie.Need-slice-write-pool Inv-loop μ-loop
-slice-write-pool c = let o = quoting-past _ _ _ _ _ _ _ (c .before .before .before .before .loop .inv) _ (c .before .before .before .text .ensures) _ _ (c .before .b .given .1) in let v = c .before .before .before .before .loop .inv in omega (arith, o .on, o .within, v .fits, v .room)
+slice-write-pool c =
+    let after-text = c .before .before .before in
+    let turn = after-text .before in
+    let o = quoting-past _ _ _ _ _ _ _ (turn .loop .inv) _ (after-text .text .ensures) _ _ (c .before .b .given .1) in let v = turn .loop .inv in omega (arith, o .on, o .within, v .fits, v .room)
 
 add-end : tie.Need-add-end Inv-loop μ-loop
 add-end c = let v = c .before .before .before .before .loop .inv in omega (arith, v .fits, v .within)

@@ -24,7 +24,10 @@ enum-known-d : tie.Need-enum-known-d Inv-loop μ-loop
 enum-known-d c = search needs
 
 grown-requires : tie.Need-grown-requires Inv-loop μ-loop
-grown-requires c κs = (c .before .before .before .before .loop .inv .small, digit-small _ _ _ _ (c .before .before .before .before .loop .inv) _ (c .before .before .before .digit .ensures) _ _ (c .before .d .given .1))
+grown-requires c κs =
+    let after-digit = c .before .before .before in
+    let turn = after-digit .before in
+    (turn .loop .inv .small, digit-small _ _ _ _ (turn .loop .inv) _ (after-digit .digit .ensures) _ _ (c .before .d .given .1))
 
 loop-less : tie.Need-loop-less Inv-loop μ-loop
 loop-less c = let o = digit-past _ _ _ _ (c .before .before .before .before .before .loop .inv) _ (c .before .before .before .before .digit .ensures) _ _ (c .before .before .d .given .1) in omega (arith, o .on, o .within)

@@ -34,7 +34,11 @@ returns-3 c = of-byte _ _ _ _ _ (c .before .before .before .before .before .b .g
 
 returns-4 : tie.Need-returns-4
 unfolding ClassRead
-returns-4 c = let b = (byte-is _ _ _ _ _ (c .before .before .before .before .before .b .given .1) (c .before .before .before .before .before .before .before .byte .ensures)) in (no-letter _ _ _ _ b _ (c .before .before .before .is-letter .ensures) (c .before .before .if1 .left), not-only _ _ _ _ b _ (starts quote) (λ h. h) (c .before .if2 .left), not-only _ _ _ _ b _ (starts opening) (λ h. h) (c .if3 .left))
+returns-4 c =
+    let after-is-letter = c .before .before .before in
+    let after-b = after-is-letter .before .before in
+    let after-byte = after-b .before .before in
+    let b = (byte-is _ _ _ _ _ (after-b .b .given .1) (after-byte .byte .ensures)) in (no-letter _ _ _ _ b _ (after-is-letter .is-letter .ensures) (c .before .before .if1 .left), not-only _ _ _ _ b _ (starts quote) (λ h. h) (c .before .if2 .left), not-only _ _ _ _ b _ (starts opening) (λ h. h) (c .if3 .left))
 
 returns-5 : tie.Need-returns-5
 unfolding ClassRead

@@ -19,7 +19,12 @@ is-digit-requires : tie.Need-is-digit-requires
 is-digit-requires c κs = search needs
 
 sub-t9 : tie.Need-sub-t9
-sub-t9 c = let b = (byte-is _ _ _ _ _ (c .before .before .before .b .given .1) (c .before .before .before .before .before .byte .ensures)) in digit-range _ (omega (arith, b .value, c .before .before .before .before .before .before .shared-slice-known .given (c .before .before .before .before .before .before .before .args .self .at))) (sym (c .before .is-digit .ensures) ∙ c .if1 .taken) .0
+sub-t9 c =
+    let after-b = c .before .before .before in
+    let after-byte = after-b .before .before in
+    let after-shared-slice-known = after-byte .before in
+    let start = after-shared-slice-known .before in
+    let b = (byte-is _ _ _ _ _ (after-b .b .given .1) (after-byte .byte .ensures)) in digit-range _ (omega (arith, b .value, after-shared-slice-known .shared-slice-known .given (start .args .self .at))) (sym (c .before .is-digit .ensures) ∙ c .if1 .taken) .0
 
 cast-t10 : tie.Need-cast-t10
 cast-t10 c = search needs
@@ -29,7 +34,12 @@ enum-told c = search needs
 
 returns : tie.Need-returns
 unfolding DigitRead
-returns c = let b = (byte-is _ _ _ _ _ (c .before .before .before .b .given .1) (c .before .before .before .before .before .byte .ensures)) in let e = sym (c .before .is-digit .ensures) ∙ c .if1 .taken in (of-kind _ _ _ _ b (counts digit) (digit-is _ e), ap (λ x. x - 48) (b .value), omega (arith, digit-range _ (omega (arith, b .value, c .before .before .before .before .before .before .shared-slice-known .given (c .before .before .before .before .before .before .before .args .self .at))) e))
+returns c =
+    let after-b = c .before .before .before in
+    let after-byte = after-b .before .before in
+    let after-shared-slice-known = after-byte .before in
+    let start = after-shared-slice-known .before in
+    let b = (byte-is _ _ _ _ _ (after-b .b .given .1) (after-byte .byte .ensures)) in let e = sym (c .before .is-digit .ensures) ∙ c .if1 .taken in (of-kind _ _ _ _ b (counts digit) (digit-is _ e), ap (λ x. x - 48) (b .value), omega (arith, digit-range _ (omega (arith, b .value, after-shared-slice-known .shared-slice-known .given (start .args .self .at))) e))
 
 returns-2 : tie.Need-returns-2
 unfolding DigitRead

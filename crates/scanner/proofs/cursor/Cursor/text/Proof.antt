@@ -32,13 +32,27 @@ returns : tie.Need-returns
 returns c = text-plain _ _ _ _ (byte-is _ _ _ _ _ (c .before .before .before .b .given .1) (c .before .before .before .before .before .byte .ensures)) (sym (c .before .is-plain .ensures) ∙ c .if1 .taken)
 
 returns-2 : tie.Need-returns-2
-returns-2 c = text-doubled _ _ _ _ (byte-is _ _ _ _ _ (c .before .before .before .before .before .before .before .before .before .b .given .1) (c .before .before .before .before .before .before .before .before .before .before .before .byte .ensures)) (c .before .before .before .before .before .if2 .taken) _ _ (byte-is _ _ _ _ _ (c .before .before .d .given .1) (c .before .before .before .before .byte2 .ensures)) (c .if3 .taken)
+returns-2 c =
+    let after-byte2 = c .before .before .before .before in
+    let after-if2 = after-byte2 .before in
+    let after-b = after-if2 .before .before .before .before in
+    let after-byte = after-b .before .before in
+    text-doubled _ _ _ _ (byte-is _ _ _ _ _ (after-b .b .given .1) (after-byte .byte .ensures)) (after-if2 .if2 .taken) _ _ (byte-is _ _ _ _ _ (c .before .before .d .given .1) (after-byte2 .byte2 .ensures)) (c .if3 .taken)
 
 returns-3 : tie.Need-returns-3
-returns-3 c = text-ends _ _ _ _ (byte-is _ _ _ _ _ (c .before .before .before .before .before .before .before .before .before .b .given .1) (c .before .before .before .before .before .before .before .before .before .before .before .byte .ensures)) (c .before .before .before .before .before .if2 .taken) (not-only _ _ _ _ (byte-is _ _ _ _ _ (c .before .before .d .given .1) (c .before .before .before .before .byte2 .ensures)) _ (starts quote) (λ h. h) (c .if3 .left))
+returns-3 c =
+    let after-byte2 = c .before .before .before .before in
+    let after-if2 = after-byte2 .before in
+    let after-b = after-if2 .before .before .before .before in
+    let after-byte = after-b .before .before in
+    text-ends _ _ _ _ (byte-is _ _ _ _ _ (after-b .b .given .1) (after-byte .byte .ensures)) (after-if2 .if2 .taken) (not-only _ _ _ _ (byte-is _ _ _ _ _ (c .before .before .d .given .1) (after-byte2 .byte2 .ensures)) _ (starts quote) (λ h. h) (c .if3 .left))
 
 returns-4 : tie.Need-returns-4
-returns-4 c = text-ends _ _ _ _ (byte-is _ _ _ _ _ (c .before .before .before .before .before .before .before .b .given .1) (c .before .before .before .before .before .before .before .before .before .byte .ensures)) (c .before .before .before .if2 .taken) (end-not _ _ _ (c .enum-told .given .1) (c .before .before .byte2 .ensures) (starts quote))
+returns-4 c =
+    let after-if2 = c .before .before .before in
+    let after-b = after-if2 .before .before .before .before in
+    let after-byte = after-b .before .before in
+    text-ends _ _ _ _ (byte-is _ _ _ _ _ (after-b .b .given .1) (after-byte .byte .ensures)) (after-if2 .if2 .taken) (end-not _ _ _ (c .enum-told .given .1) (c .before .before .byte2 .ensures) (starts quote))
 
 returns-5 : tie.Need-returns-5
 returns-5 c = text-barred _ _ _ _ (byte-is _ _ _ _ _ (c .before .before .before .before .b .given .1) (c .before .before .before .before .before .before .byte .ensures)) (sym (c .before .before .is-plain .ensures) ∙ c .before .if1 .left) (c .if2 .left)
