@@ -98,19 +98,28 @@ read-atom-enum-told : (t : ℕ) → read-atom-lts.Need-enum-told (read-atom-clai
 read-atom-enum-told t c = search needs
 
 read-atom-coded-requires : (t : ℕ) → read-atom-lts.Need-coded-requires (read-atom-claims t) (read-atom-at t) read-atom.Post
-read-atom-coded-requires t c κs = let k = read-atom-counted t (c .before .before .before .before) in let r = read-atom-ready t (c .before .before .before .before) in let m = read-atom-room t (c .before .before .before .before) in record { within = k .onward .within; atoms = k .room; pool = omega (arith, r .pool, k .onward .on); source = m .source; recs-fit = m .recs-fit }
+read-atom-coded-requires t c κs =
+    let there = c .before .before .before .before in
+    let k = read-atom-counted t there in let r = read-atom-ready t there in let m = read-atom-room t there in record { within = k .onward .within; atoms = k .room; pool = omega (arith, r .pool, k .onward .on); source = m .source; recs-fit = m .recs-fit }
 
 read-atom-enum-known-after : (t : ℕ) → read-atom-lts.Need-enum-known-after (read-atom-claims t) (read-atom-at t) read-atom.Post
 read-atom-enum-known-after t c = search needs
 
 read-atom-worded-requires : (t : ℕ) → read-atom-lts.Need-worded-requires (read-atom-claims t) (read-atom-at t) read-atom.Post
-read-atom-worded-requires t c κs = let k = read-atom-counted t (c .before .before .before .before .before .before) in let r = read-atom-ready t (c .before .before .before .before .before .before) in let m = read-atom-room t (c .before .before .before .before .before .before) in let y = quote-is _ _ _ _ (c .before .before .before .after .given .1) (c .before .before .before .before .before .class .ensures) in (record { within = omega (arith, y .within, y .past); atoms = k .room; pool = omega (arith, r .pool, k .onward .on, y .past); source = m .source; recs-fit = m .recs-fit }, m .text-fits)
+read-atom-worded-requires t c κs =
+    let after-after = c .before .before .before in
+    let after-class = after-after .before .before in
+    let there = after-class .before in
+    let k = read-atom-counted t there in let r = read-atom-ready t there in let m = read-atom-room t there in let y = quote-is _ _ _ _ (after-after .after .given .1) (after-class .class .ensures) in (record { within = omega (arith, y .within, y .past); atoms = k .room; pool = omega (arith, r .pool, k .onward .on, y .past); source = m .source; recs-fit = m .recs-fit }, m .text-fits)
 
 read-atom-enum-known-after-2 : (t : ℕ) → read-atom-lts.Need-enum-known-after-2 (read-atom-claims t) (read-atom-at t) read-atom.Post
 read-atom-enum-known-after-2 t c = search needs
 
 read-atom-returns : (t : ℕ) → read-atom-lts.Need-returns (read-atom-claims t) (read-atom-at t) read-atom.Post
-read-atom-returns t c = atom-deep _ _ _ _ _ (read-atom-ready t (c .before .before .before .before .before)) _ _ (read-atom-counted t (c .before .before .before .before .before)) _ (c .before .before .before .before .class .ensures) _ (c .before .before .after2 .given .1) _ _ (c .if1 .taken)
+read-atom-returns t c =
+    let after-class = c .before .before .before .before in
+    let there = after-class .before in
+    atom-deep _ _ _ _ _ (read-atom-ready t there) _ _ (read-atom-counted t there) _ (after-class .class .ensures) _ (c .before .before .after2 .given .1) _ _ (c .if1 .taken)
 
 read-atom-add-read-group : (t : ℕ) → read-atom-lts.Need-add-read-group (read-atom-claims t) (read-atom-at t) read-atom.Post
 read-atom-add-read-group t c = let k = read-atom-counted t (c .before .before .before .before .before) in omega (arith, k .room)
@@ -119,7 +128,12 @@ read-atom-add-read-group-2 : (t : ℕ) → read-atom-lts.Need-add-read-group-2 (
 read-atom-add-read-group-2 t c = omega (arith, c .if1 .left)
 
 read-atom-read-group-requires : (t : ℕ) → read-atom-lts.Need-read-group-requires (read-atom-claims t) (read-atom-at t) read-atom.Post
-read-atom-read-group-requires t c κs = let k = read-atom-counted t (c .before .before .before .before .before .before .before) in let r = read-atom-ready t (c .before .before .before .before .before .before .before) in let m = read-atom-room t (c .before .before .before .before .before .before .before) in let o = opening-is _ _ (c .before .before .before .before .before .before .before .before .before .before .before .before .before .before .before .args .depth) (c .before .before .before .before .before .before .before .before .before .before .before .before .before .before .before .args .recs .now) (c .before .before .before .before .before .before .before .before .before .before .before .before .before .before .before .args .pool .now) (read-atom-ready t (c .before .before .before .before .before .before .before)) _ _ k _ (c .before .before .before .before .before .before .class .ensures) _ (c .before .before .before .before .after2 .given .1) in (omega (arith, k .onward .on, o .past, o .within, c .before .before .before .before .before .before .before .before .before .before .before .before .before .before .before .pre .0), (group-ready _ _ _ (c .before .before .before .before .before .before .before .before .before .before .before .before .before .before .before .args .recs .now) (c .before .before .before .before .before .before .before .before .before .before .before .before .before .before .before .args .pool .now) (read-atom-ready t (c .before .before .before .before .before .before .before)) _ _ k _ (c .before .before .before .before .before .before .class .ensures) _ (c .before .before .before .before .after2 .given .1) (omega (arith, c .before .before .if1 .left)), c .before .before .before .before .before .before .before .before .before .before .before .before .before .before .before .pre .1 .1))
+read-atom-read-group-requires t c κs =
+    let after-after2 = c .before .before .before .before in
+    let after-class = after-after2 .before .before in
+    let there = after-class .before in
+    let start = there .before .before .before .before .before .before .before .before in
+    let k = read-atom-counted t there in let r = read-atom-ready t there in let m = read-atom-room t there in let o = opening-is _ _ (start .args .depth) (start .args .recs .now) (start .args .pool .now) (read-atom-ready t there) _ _ k _ (after-class .class .ensures) _ (after-after2 .after2 .given .1) in (omega (arith, k .onward .on, o .past, o .within, start .pre .0), (group-ready _ _ _ (start .args .recs .now) (start .args .pool .now) (read-atom-ready t there) _ _ k _ (after-class .class .ensures) _ (after-after2 .after2 .given .1) (omega (arith, c .before .before .if1 .left)), start .pre .1 .1))
 
 read-atom-enum-known-end : (t : ℕ) → read-atom-lts.Need-enum-known-end (read-atom-claims t) (read-atom-at t) read-atom.Post
 read-atom-enum-known-end t c = search needs
@@ -134,7 +148,10 @@ read-atom-cast-put-record-2 : (t : ℕ) → read-atom-lts.Need-cast-put-record-2
 read-atom-cast-put-record-2 t c = let g = (group-is _ _ _ _ _ _ _ _ _ _ (c .before .before .before .before .before .end .given .1) (c .before .before .before .before .before .before .before .before .before .before .before .read-group .ensures)) in let m = g .moved in record { fits = omega (arith, m .atoms) }
 
 read-atom-put-record-requires : (t : ℕ) → read-atom-lts.Need-put-record-requires (read-atom-claims t) (read-atom-at t) read-atom.Post
-read-atom-put-record-requires t c κs = let k = read-atom-counted t (c .before .before .before .before .before .before .before .before .before .before .before .before .before .before .before .before .before .before .before) in let r = read-atom-ready t (c .before .before .before .before .before .before .before .before .before .before .before .before .before .before .before .before .before .before .before) in let m = read-atom-room t (c .before .before .before .before .before .before .before .before .before .before .before .before .before .before .before .before .before .before .before) in omega (arith, k .room, m .recs-fit, c .before .before .before .before .before .before .before .before .before .before .before .read-group .kept .1 .1 .1 .0)
+read-atom-put-record-requires t c κs =
+    let after-read-group = c .before .before .before .before .before .before .before .before .before .before .before in
+    let there = after-read-group .before .before .before .before .before .before .before .before in
+    let k = read-atom-counted t there in let r = read-atom-ready t there in let m = read-atom-room t there in omega (arith, k .room, m .recs-fit, after-read-group .read-group .kept .1 .1 .1 .0)
 
 read-atom-enum-known-no : (t : ℕ) → read-atom-lts.Need-enum-known-no (read-atom-claims t) (read-atom-at t) read-atom.Post
 read-atom-enum-known-no t c = search needs
@@ -149,7 +166,11 @@ read-atom-same-length : (t : ℕ) → read-atom-lts.Need-same-length (read-atom-
 read-atom-same-length t c = search needs
 
 read-atom-returns-2 : (t : ℕ) → read-atom-lts.Need-returns-2 (read-atom-claims t) (read-atom-at t) read-atom.Post
-read-atom-returns-2 t c = atom-coded _ _ _ _ _ (read-atom-ready t (c .before .before .before .before .before .before .before)) _ _ (read-atom-counted t (c .before .before .before .before .before .before .before)) _ (c .before .before .before .before .before .before .class .ensures) _ _ (c .before .before .before .before .enum-told .given .1) (c .before .before .coded .ensures)
+read-atom-returns-2 t c =
+    let after-enum-told = c .before .before .before .before in
+    let after-class = after-enum-told .before .before in
+    let there = after-class .before in
+    atom-coded _ _ _ _ _ (read-atom-ready t there) _ _ (read-atom-counted t there) _ (after-class .class .ensures) _ _ (after-enum-told .enum-told .given .1) (c .before .before .coded .ensures)
 
 read-atom-same-length-2 : (t : ℕ) → read-atom-lts.Need-same-length-2 (read-atom-claims t) (read-atom-at t) read-atom.Post
 read-atom-same-length-2 t c = search needs
@@ -158,7 +179,12 @@ read-atom-same-length-3 : (t : ℕ) → read-atom-lts.Need-same-length-3 (read-a
 read-atom-same-length-3 t c = search needs
 
 read-atom-returns-3 : (t : ℕ) → read-atom-lts.Need-returns-3 (read-atom-claims t) (read-atom-at t) read-atom.Post
-read-atom-returns-3 t c = atom-worded _ _ _ _ _ (read-atom-ready t (c .before .before .before .before .before .before .before .before .before .before .before)) _ _ (read-atom-counted t (c .before .before .before .before .before .before .before .before .before .before .before)) _ (c .before .before .before .before .before .before .before .before .before .before .class .ensures) _ _ _ _ (c .before .before .before .before .before .before .before .before .after .given .1) (c .before .before .before .before .worded .ensures)
+read-atom-returns-3 t c =
+    let after-worded = c .before .before .before .before in
+    let after-after = after-worded .before .before .before .before in
+    let after-class = after-after .before .before in
+    let there = after-class .before in
+    atom-worded _ _ _ _ _ (read-atom-ready t there) _ _ (read-atom-counted t there) _ (after-class .class .ensures) _ _ _ _ (after-after .after .given .1) (after-worded .worded .ensures)
 
 read-atom-same-length-4 : (t : ℕ) → read-atom-lts.Need-same-length-4 (read-atom-claims t) (read-atom-at t) read-atom.Post
 read-atom-same-length-4 t c = c .before .before .put-record .kept .0 ∙ c .before .before .before .before .before .before .before .before .before .before .before .before .before .before .read-group .kept .1 .1 .1 .0
@@ -167,7 +193,15 @@ read-atom-same-length-5 : (t : ℕ) → read-atom-lts.Need-same-length-5 (read-a
 read-atom-same-length-5 t c = search needs
 
 read-atom-returns-4 : (t : ℕ) → read-atom-lts.Need-returns-4 (read-atom-claims t) (read-atom-at t) read-atom.Post
-read-atom-returns-4 t c = atom-group _ _ _ _ _ (read-atom-ready t (c .before .before .before .before .before .before .before .before .before .before .before .before .before .before .before .before .before .before .before .before .before .before)) _ _ (read-atom-counted t (c .before .before .before .before .before .before .before .before .before .before .before .before .before .before .before .before .before .before .before .before .before .before)) _ (c .before .before .before .before .before .before .before .before .before .before .before .before .before .before .before .before .before .before .before .before .before .class .ensures) _ (c .before .before .before .before .before .before .before .before .before .before .before .before .before .before .before .before .before .before .before .after2 .given .1) (omega (arith, c .before .before .before .before .before .before .before .before .before .before .before .before .before .before .before .before .before .if1 .left)) _ _ _ _ _ _ (group-is _ _ _ _ _ _ _ _ _ _ (c .before .before .before .before .before .before .before .before .end .given .1) (c .before .before .before .before .before .before .before .before .before .before .before .before .before .before .read-group .ensures)) (c .before .before .before .before .last .ensures) (c .before .before .put-record .ensures)
+read-atom-returns-4 t c =
+    let after-last = c .before .before .before .before in
+    let after-end = after-last .before .before .before .before in
+    let after-read-group = after-end .before .before .before .before .before .before in
+    let after-if1 = after-read-group .before .before .before in
+    let after-after2 = after-if1 .before .before in
+    let after-class = after-after2 .before .before in
+    let there = after-class .before in
+    atom-group _ _ _ _ _ (read-atom-ready t there) _ _ (read-atom-counted t there) _ (after-class .class .ensures) _ (after-after2 .after2 .given .1) (omega (arith, after-if1 .if1 .left)) _ _ _ _ _ _ (group-is _ _ _ _ _ _ _ _ _ _ (after-end .end .given .1) (after-read-group .read-group .ensures)) (after-last .last .ensures) (c .before .before .put-record .ensures)
 
 read-atom-same-length-6 : (t : ℕ) → read-atom-lts.Need-same-length-6 (read-atom-claims t) (read-atom-at t) read-atom.Post
 read-atom-same-length-6 t c = search needs
@@ -176,7 +210,13 @@ read-atom-same-length-7 : (t : ℕ) → read-atom-lts.Need-same-length-7 (read-a
 read-atom-same-length-7 t c = search needs
 
 read-atom-returns-5 : (t : ℕ) → read-atom-lts.Need-returns-5 (read-atom-claims t) (read-atom-at t) read-atom.Post
-read-atom-returns-5 t c = atom-group-fault _ _ _ _ _ (read-atom-ready t (c .before .before .before .before .before .before .before .before .before .before .before .before .before .before .before)) _ _ (read-atom-counted t (c .before .before .before .before .before .before .before .before .before .before .before .before .before .before .before)) _ (c .before .before .before .before .before .before .before .before .before .before .before .before .before .before .class .ensures) _ (c .before .before .before .before .before .before .before .before .before .before .before .before .after2 .given .1) (omega (arith, c .before .before .before .before .before .before .before .before .before .before .if1 .left)) _ _ _ _ _ (c .before .no .given .1) (c .before .before .before .before .before .before .before .read-group .ensures)
+read-atom-returns-5 t c =
+    let after-read-group = c .before .before .before .before .before .before .before in
+    let after-if1 = after-read-group .before .before .before in
+    let after-after2 = after-if1 .before .before in
+    let after-class = after-after2 .before .before in
+    let there = after-class .before in
+    atom-group-fault _ _ _ _ _ (read-atom-ready t there) _ _ (read-atom-counted t there) _ (after-class .class .ensures) _ (after-after2 .after2 .given .1) (omega (arith, after-if1 .if1 .left)) _ _ _ _ _ (c .before .no .given .1) (after-read-group .read-group .ensures)
 
 read-atom-returns-6 : (t : ℕ) → read-atom-lts.Need-returns-6 (read-atom-claims t) (read-atom-at t) read-atom.Post
 read-atom-returns-6 t c = atom-other _ _ _ _ _ (read-atom-ready t (c .before .before .before)) _ _ (read-atom-counted t (c .before .before .before)) _ (c .before .before .class .ensures) _ _ (c .enum-told2 .given .1)
@@ -194,7 +234,9 @@ read-group-loop-holds : (t : ℕ) → read-group-lts.Need-loop-holds (read-group
 read-group-loop-holds t c = branching-start _ _ _ _ _ (c .before .before .before .pre .1 .0)
 
 read-group-read-pattern-requires : (t : ℕ) → read-group-lts.Need-read-pattern-requires (read-group-claims t) (read-group-at t) read-group.Post read-group-Inv-loop read-group-μ-loop
-read-group-read-pattern-requires t c κs = let g = c .before .before .loop .inv in let o = g .gone in let v = c .before .before .before .before .before .before .pre .1 .1 in (omega (arith, o .on, c .before .before .before .before .before .before .pre .0), (o .ready, record { source = v .source; recs-fit = omega (arith, v .recs-fit, o .recs-size); text-fits = omega (arith, v .text-fits, o .text-size) }))
+read-group-read-pattern-requires t c κs =
+    let start = c .before .before .before .before .before .before in
+    let g = c .before .before .loop .inv in let o = g .gone in let v = start .pre .1 .1 in (omega (arith, o .on, start .pre .0), (o .ready, record { source = v .source; recs-fit = omega (arith, v .recs-fit, o .recs-size); text-fits = omega (arith, v .text-fits, o .text-size) }))
 
 read-group-enum-known-next : (t : ℕ) → read-group-lts.Need-enum-known-next (read-group-claims t) (read-group-at t) read-group.Post read-group-Inv-loop read-group-μ-loop
 read-group-enum-known-next t c = search needs
@@ -209,10 +251,19 @@ read-group-add-before : (t : ℕ) → read-group-lts.Need-add-before (read-group
 read-group-add-before t c = let g = c .before .before .before .before .before .before .before .before .before .before .before .before .before .before .before .loop .inv in let r = g .gone .ready in omega (arith, g .few, r .atoms)
 
 read-group-loop-less : (t : ℕ) → read-group-lts.Need-loop-less (read-group-claims t) (read-group-at t) read-group.Post read-group-Inv-loop read-group-μ-loop
-read-group-loop-less t c = let h = (pattern-is _ _ _ _ _ _ _ _ _ (c .before .before .before .before .before .before .next .given .1) (c .before .before .before .before .before .before .before .before .before .before .before .before .read-pattern .ensures)) in let m = h .moved in let o = comma-is _ _ _ _ _ _ _ _ h _ (c .before .before .before .separator .ensures) _ (c .before .after .given .1) in omega (arith, m .on, o .past, o .within)
+read-group-loop-less t c =
+    let after-separator = c .before .before .before in
+    let after-next = after-separator .before .before .before in
+    let after-read-pattern = after-next .before .before .before .before .before .before in
+    let h = (pattern-is _ _ _ _ _ _ _ _ _ (after-next .next .given .1) (after-read-pattern .read-pattern .ensures)) in let m = h .moved in let o = comma-is _ _ _ _ _ _ _ _ h _ (after-separator .separator .ensures) _ (c .before .after .given .1) in omega (arith, m .on, o .past, o .within)
 
 read-group-loop-again : (t : ℕ) → read-group-lts.Need-loop-again (read-group-claims t) (read-group-at t) read-group.Post read-group-Inv-loop read-group-μ-loop
-read-group-loop-again t c = branching-more _ _ _ _ _ _ _ _ _ (c .before .before .before .before .before .before .before .before .before .before .before .before .before .before .before .loop .inv) _ _ _ (pattern-is _ _ _ _ _ _ _ _ _ (c .before .before .before .before .before .before .next .given .1) (c .before .before .before .before .before .before .before .before .before .before .before .before .read-pattern .ensures)) _ (c .before .before .before .separator .ensures) _ (c .before .after .given .1) (c .before .before .before .before .before .before .before .before .before .before .before .before .read-pattern .kept .1 .1 .1 .0) (c .before .before .before .before .before .before .before .before .before .before .before .before .read-pattern .kept .1 .1 .1 .1 .0)
+read-group-loop-again t c =
+    let after-separator = c .before .before .before in
+    let after-next = after-separator .before .before .before in
+    let after-read-pattern = after-next .before .before .before .before .before .before in
+    let turn = after-read-pattern .before .before .before in
+    branching-more _ _ _ _ _ _ _ _ _ (turn .loop .inv) _ _ _ (pattern-is _ _ _ _ _ _ _ _ _ (after-next .next .given .1) (after-read-pattern .read-pattern .ensures)) _ (after-separator .separator .ensures) _ (c .before .after .given .1) (after-read-pattern .read-pattern .kept .1 .1 .1 .0) (after-read-pattern .read-pattern .kept .1 .1 .1 .1 .0)
 
 read-group-enum-known-after-2 : (t : ℕ) → read-group-lts.Need-enum-known-after-2 (read-group-claims t) (read-group-at t) read-group.Post read-group-Inv-loop read-group-μ-loop
 read-group-enum-known-after-2 t c = search needs
@@ -221,37 +272,67 @@ read-group-add-t21 : (t : ℕ) → read-group-lts.Need-add-t21 (read-group-claim
 read-group-add-t21 t c = let g = c .before .before .before .before .before .before .before .before .before .before .before .before .before .before .before .loop .inv in let r = g .gone .ready in omega (arith, g .few, r .atoms)
 
 read-group-same-length : (t : ℕ) → read-group-lts.Need-same-length (read-group-claims t) (read-group-at t) read-group.Post read-group-Inv-loop read-group-μ-loop
-read-group-same-length t c = c .before .before .before .before .before .before .before .before .before .before .before .before .read-pattern .kept .1 .1 .1 .0 ∙ c .before .before .before .before .before .before .before .before .before .before .before .before .before .before .before .loop .inv .gone .recs-size
+read-group-same-length t c =
+    let after-read-pattern = c .before .before .before .before .before .before .before .before .before .before .before .before in
+    let turn = after-read-pattern .before .before .before in
+    after-read-pattern .read-pattern .kept .1 .1 .1 .0 ∙ turn .loop .inv .gone .recs-size
 
 read-group-same-length-2 : (t : ℕ) → read-group-lts.Need-same-length-2 (read-group-claims t) (read-group-at t) read-group.Post read-group-Inv-loop read-group-μ-loop
-read-group-same-length-2 t c = c .before .before .before .before .before .before .before .before .before .before .before .before .read-pattern .kept .1 .1 .1 .1 .0 ∙ c .before .before .before .before .before .before .before .before .before .before .before .before .before .before .before .loop .inv .gone .text-size
+read-group-same-length-2 t c =
+    let after-read-pattern = c .before .before .before .before .before .before .before .before .before .before .before .before in
+    let turn = after-read-pattern .before .before .before in
+    after-read-pattern .read-pattern .kept .1 .1 .1 .1 .0 ∙ turn .loop .inv .gone .text-size
 
 read-group-returns : (t : ℕ) → read-group-lts.Need-returns (read-group-claims t) (read-group-at t) read-group.Post read-group-Inv-loop read-group-μ-loop
-read-group-returns t c = branching-close _ _ _ _ _ _ _ _ _ (c .before .before .before .before .before .before .before .before .before .before .before .before .before .before .before .loop .inv) _ _ _ (pattern-is _ _ _ _ _ _ _ _ _ (c .before .before .before .before .before .before .next .given .1) (c .before .before .before .before .before .before .before .before .before .before .before .before .read-pattern .ensures)) _ (c .before .before .before .separator .ensures) _ (c .before .after2 .given .1)
+read-group-returns t c =
+    let after-separator = c .before .before .before in
+    let after-next = after-separator .before .before .before in
+    let after-read-pattern = after-next .before .before .before .before .before .before in
+    let turn = after-read-pattern .before .before .before in
+    branching-close _ _ _ _ _ _ _ _ _ (turn .loop .inv) _ _ _ (pattern-is _ _ _ _ _ _ _ _ _ (after-next .next .given .1) (after-read-pattern .read-pattern .ensures)) _ (after-separator .separator .ensures) _ (c .before .after2 .given .1)
 
 read-group-enum-told : (t : ℕ) → read-group-lts.Need-enum-told (read-group-claims t) (read-group-at t) read-group.Post read-group-Inv-loop read-group-μ-loop
 read-group-enum-told t c = search needs
 
 read-group-same-length-3 : (t : ℕ) → read-group-lts.Need-same-length-3 (read-group-claims t) (read-group-at t) read-group.Post read-group-Inv-loop read-group-μ-loop
-read-group-same-length-3 t c = c .before .before .before .before .before .before .before .before .before .before .before .read-pattern .kept .1 .1 .1 .0 ∙ c .before .before .before .before .before .before .before .before .before .before .before .before .before .before .loop .inv .gone .recs-size
+read-group-same-length-3 t c =
+    let after-read-pattern = c .before .before .before .before .before .before .before .before .before .before .before in
+    let turn = after-read-pattern .before .before .before in
+    after-read-pattern .read-pattern .kept .1 .1 .1 .0 ∙ turn .loop .inv .gone .recs-size
 
 read-group-same-length-4 : (t : ℕ) → read-group-lts.Need-same-length-4 (read-group-claims t) (read-group-at t) read-group.Post read-group-Inv-loop read-group-μ-loop
-read-group-same-length-4 t c = c .before .before .before .before .before .before .before .before .before .before .before .read-pattern .kept .1 .1 .1 .1 .0 ∙ c .before .before .before .before .before .before .before .before .before .before .before .before .before .before .loop .inv .gone .text-size
+read-group-same-length-4 t c =
+    let after-read-pattern = c .before .before .before .before .before .before .before .before .before .before .before in
+    let turn = after-read-pattern .before .before .before in
+    after-read-pattern .read-pattern .kept .1 .1 .1 .1 .0 ∙ turn .loop .inv .gone .text-size
 
 read-group-returns-2 : (t : ℕ) → read-group-lts.Need-returns-2 (read-group-claims t) (read-group-at t) read-group.Post read-group-Inv-loop read-group-μ-loop
-read-group-returns-2 t c = branching-other _ _ _ _ _ _ _ _ _ (c .before .before .before .before .before .before .before .before .before .before .before .before .before .before .loop .inv) _ _ _ (pattern-is _ _ _ _ _ _ _ _ _ (c .before .before .before .before .before .next .given .1) (c .before .before .before .before .before .before .before .before .before .before .before .read-pattern .ensures)) _ (c .before .before .separator .ensures) (c .enum-told .given .1)
+read-group-returns-2 t c =
+    let after-next = c .before .before .before .before .before in
+    let after-read-pattern = after-next .before .before .before .before .before .before in
+    let turn = after-read-pattern .before .before .before in
+    branching-other _ _ _ _ _ _ _ _ _ (turn .loop .inv) _ _ _ (pattern-is _ _ _ _ _ _ _ _ _ (after-next .next .given .1) (after-read-pattern .read-pattern .ensures)) _ (c .before .before .separator .ensures) (c .enum-told .given .1)
 
 read-group-enum-known-no : (t : ℕ) → read-group-lts.Need-enum-known-no (read-group-claims t) (read-group-at t) read-group.Post read-group-Inv-loop read-group-μ-loop
 read-group-enum-known-no t c = search needs
 
 read-group-same-length-5 : (t : ℕ) → read-group-lts.Need-same-length-5 (read-group-claims t) (read-group-at t) read-group.Post read-group-Inv-loop read-group-μ-loop
-read-group-same-length-5 t c = c .before .before .before .before .before .before .before .read-pattern .kept .1 .1 .1 .0 ∙ c .before .before .before .before .before .before .before .before .before .before .loop .inv .gone .recs-size
+read-group-same-length-5 t c =
+    let after-read-pattern = c .before .before .before .before .before .before .before in
+    let turn = after-read-pattern .before .before .before in
+    after-read-pattern .read-pattern .kept .1 .1 .1 .0 ∙ turn .loop .inv .gone .recs-size
 
 read-group-same-length-6 : (t : ℕ) → read-group-lts.Need-same-length-6 (read-group-claims t) (read-group-at t) read-group.Post read-group-Inv-loop read-group-μ-loop
-read-group-same-length-6 t c = c .before .before .before .before .before .before .before .read-pattern .kept .1 .1 .1 .1 .0 ∙ c .before .before .before .before .before .before .before .before .before .before .loop .inv .gone .text-size
+read-group-same-length-6 t c =
+    let after-read-pattern = c .before .before .before .before .before .before .before in
+    let turn = after-read-pattern .before .before .before in
+    after-read-pattern .read-pattern .kept .1 .1 .1 .1 .0 ∙ turn .loop .inv .gone .text-size
 
 read-group-returns-3 : (t : ℕ) → read-group-lts.Need-returns-3 (read-group-claims t) (read-group-at t) read-group.Post read-group-Inv-loop read-group-μ-loop
-read-group-returns-3 t c = branching-fault _ _ _ _ _ _ _ _ _ (c .before .before .before .before .before .before .before .before .before .before .loop .inv) _ _ _ _ _ (c .before .no .given .1) (c .before .before .before .before .before .before .before .read-pattern .ensures)
+read-group-returns-3 t c =
+    let after-read-pattern = c .before .before .before .before .before .before .before in
+    let turn = after-read-pattern .before .before .before in
+    branching-fault _ _ _ _ _ _ _ _ _ (turn .loop .inv) _ _ _ _ _ (c .before .no .given .1) (after-read-pattern .read-pattern .ensures)
 
 abbrev read-pattern-Inv-loop : read-pattern-lts.InvT-loop
 read-pattern-Inv-loop s depth recs₀ pool₀ from₀ recs pool from = Going s depth from₀ from recs₀ recs pool₀ pool
@@ -263,7 +344,9 @@ read-pattern-loop-holds : (t : ℕ) → read-pattern-lts.Need-loop-holds (read-p
 read-pattern-loop-holds t c = going-start _ _ _ _ _ (c .before .before .before .pre .1 .0)
 
 read-pattern-read-atom-requires : (t : ℕ) → read-pattern-lts.Need-read-atom-requires (read-pattern-claims t) (read-pattern-at t) read-pattern.Post read-pattern-Inv-loop read-pattern-μ-loop
-read-pattern-read-atom-requires t c κs = let g = c .before .before .loop .inv in let v = c .before .before .before .before .before .before .pre .1 .1 in (omega (arith, g .gone .on, c .before .before .before .before .before .before .pre .0), (g .gone .ready, record { source = v .source; recs-fit = omega (arith, v .recs-fit, g .gone .recs-size); text-fits = omega (arith, v .text-fits, g .gone .text-size) }))
+read-pattern-read-atom-requires t c κs =
+    let start = c .before .before .before .before .before .before in
+    let g = c .before .before .loop .inv in let v = start .pre .1 .1 in (omega (arith, g .gone .on, start .pre .0), (g .gone .ready, record { source = v .source; recs-fit = omega (arith, v .recs-fit, g .gone .recs-size); text-fits = omega (arith, v .text-fits, g .gone .text-size) }))
 
 read-pattern-enum-known-next : (t : ℕ) → read-pattern-lts.Need-enum-known-next (read-pattern-claims t) (read-pattern-at t) read-pattern.Post read-pattern-Inv-loop read-pattern-μ-loop
 read-pattern-enum-known-next t c = search needs
@@ -272,31 +355,54 @@ read-pattern-last-requires : (t : ℕ) → read-pattern-lts.Need-last-requires (
 read-pattern-last-requires t c κs = search needs
 
 read-pattern-same-length : (t : ℕ) → read-pattern-lts.Need-same-length (read-pattern-claims t) (read-pattern-at t) read-pattern.Post read-pattern-Inv-loop read-pattern-μ-loop
-read-pattern-same-length t c = c .before .before .before .before .before .before .before .before .before .before .read-atom .kept .1 .1 .1 .0 ∙ c .before .before .before .before .before .before .before .before .before .before .before .before .before .loop .inv .gone .recs-size
+read-pattern-same-length t c =
+    let after-read-atom = c .before .before .before .before .before .before .before .before .before .before in
+    let turn = after-read-atom .before .before .before in
+    after-read-atom .read-atom .kept .1 .1 .1 .0 ∙ turn .loop .inv .gone .recs-size
 
 read-pattern-same-length-2 : (t : ℕ) → read-pattern-lts.Need-same-length-2 (read-pattern-claims t) (read-pattern-at t) read-pattern.Post read-pattern-Inv-loop read-pattern-μ-loop
-read-pattern-same-length-2 t c = c .before .before .before .before .before .before .before .before .before .before .read-atom .kept .1 .1 .1 .1 .0 ∙ c .before .before .before .before .before .before .before .before .before .before .before .before .before .loop .inv .gone .text-size
+read-pattern-same-length-2 t c =
+    let after-read-atom = c .before .before .before .before .before .before .before .before .before .before in
+    let turn = after-read-atom .before .before .before in
+    after-read-atom .read-atom .kept .1 .1 .1 .1 .0 ∙ turn .loop .inv .gone .text-size
 
 read-pattern-returns : (t : ℕ) → read-pattern-lts.Need-returns (read-pattern-claims t) (read-pattern-at t) read-pattern.Post read-pattern-Inv-loop read-pattern-μ-loop
-read-pattern-returns t c = going-last _ _ _ _ _ _ _ _ (c .before .before .before .before .before .before .before .before .before .before .before .before .before .loop .inv) _ _ _ (atom-is _ _ _ _ _ _ _ _ _ (c .before .before .before .before .next .given .1) (c .before .before .before .before .before .before .before .before .before .before .read-atom .ensures)) _ (c .before .last .ensures) (c .if1 .taken)
+read-pattern-returns t c =
+    let after-next = c .before .before .before .before in
+    let after-read-atom = after-next .before .before .before .before .before .before in
+    let turn = after-read-atom .before .before .before in
+    going-last _ _ _ _ _ _ _ _ (turn .loop .inv) _ _ _ (atom-is _ _ _ _ _ _ _ _ _ (after-next .next .given .1) (after-read-atom .read-atom .ensures)) _ (c .before .last .ensures) (c .if1 .taken)
 
 read-pattern-loop-less : (t : ℕ) → read-pattern-lts.Need-loop-less (read-pattern-claims t) (read-pattern-at t) read-pattern.Post read-pattern-Inv-loop read-pattern-μ-loop
 read-pattern-loop-less t c = let h = (atom-is _ _ _ _ _ _ _ _ _ (c .before .before .before .before .next .given .1) (c .before .before .before .before .before .before .before .before .before .before .read-atom .ensures)) in let m = h .moved in omega (arith, m .on, m .within)
 
 read-pattern-loop-again : (t : ℕ) → read-pattern-lts.Need-loop-again (read-pattern-claims t) (read-pattern-at t) read-pattern.Post read-pattern-Inv-loop read-pattern-μ-loop
-read-pattern-loop-again t c = going-more _ _ _ _ _ _ _ _ (c .before .before .before .before .before .before .before .before .before .before .before .before .before .loop .inv) _ _ _ (atom-is _ _ _ _ _ _ _ _ _ (c .before .before .before .before .next .given .1) (c .before .before .before .before .before .before .before .before .before .before .read-atom .ensures)) _ (c .before .last .ensures) (c .if1 .left) (c .before .before .before .before .before .before .before .before .before .before .read-atom .kept .1 .1 .1 .0) (c .before .before .before .before .before .before .before .before .before .before .read-atom .kept .1 .1 .1 .1 .0)
+read-pattern-loop-again t c =
+    let after-next = c .before .before .before .before in
+    let after-read-atom = after-next .before .before .before .before .before .before in
+    let turn = after-read-atom .before .before .before in
+    going-more _ _ _ _ _ _ _ _ (turn .loop .inv) _ _ _ (atom-is _ _ _ _ _ _ _ _ _ (after-next .next .given .1) (after-read-atom .read-atom .ensures)) _ (c .before .last .ensures) (c .if1 .left) (after-read-atom .read-atom .kept .1 .1 .1 .0) (after-read-atom .read-atom .kept .1 .1 .1 .1 .0)
 
 read-pattern-enum-known-no : (t : ℕ) → read-pattern-lts.Need-enum-known-no (read-pattern-claims t) (read-pattern-at t) read-pattern.Post read-pattern-Inv-loop read-pattern-μ-loop
 read-pattern-enum-known-no t c = search needs
 
 read-pattern-same-length-3 : (t : ℕ) → read-pattern-lts.Need-same-length-3 (read-pattern-claims t) (read-pattern-at t) read-pattern.Post read-pattern-Inv-loop read-pattern-μ-loop
-read-pattern-same-length-3 t c = c .before .before .before .before .before .before .before .read-atom .kept .1 .1 .1 .0 ∙ c .before .before .before .before .before .before .before .before .before .before .loop .inv .gone .recs-size
+read-pattern-same-length-3 t c =
+    let after-read-atom = c .before .before .before .before .before .before .before in
+    let turn = after-read-atom .before .before .before in
+    after-read-atom .read-atom .kept .1 .1 .1 .0 ∙ turn .loop .inv .gone .recs-size
 
 read-pattern-same-length-4 : (t : ℕ) → read-pattern-lts.Need-same-length-4 (read-pattern-claims t) (read-pattern-at t) read-pattern.Post read-pattern-Inv-loop read-pattern-μ-loop
-read-pattern-same-length-4 t c = c .before .before .before .before .before .before .before .read-atom .kept .1 .1 .1 .1 .0 ∙ c .before .before .before .before .before .before .before .before .before .before .loop .inv .gone .text-size
+read-pattern-same-length-4 t c =
+    let after-read-atom = c .before .before .before .before .before .before .before in
+    let turn = after-read-atom .before .before .before in
+    after-read-atom .read-atom .kept .1 .1 .1 .1 .0 ∙ turn .loop .inv .gone .text-size
 
 read-pattern-returns-2 : (t : ℕ) → read-pattern-lts.Need-returns-2 (read-pattern-claims t) (read-pattern-at t) read-pattern.Post read-pattern-Inv-loop read-pattern-μ-loop
-read-pattern-returns-2 t c = going-fault _ _ _ _ _ _ _ _ (c .before .before .before .before .before .before .before .before .before .before .loop .inv) _ _ _ _ _ (c .before .no .given .1) (c .before .before .before .before .before .before .before .read-atom .ensures)
+read-pattern-returns-2 t c =
+    let after-read-atom = c .before .before .before .before .before .before .before in
+    let turn = after-read-atom .before .before .before in
+    going-fault _ _ _ _ _ _ _ _ (turn .loop .inv) _ _ _ _ _ (c .before .no .given .1) (after-read-atom .read-atom .ensures)
 
 pub +read-atom+read-group+read-pattern-spec : {M : Type 1} → statement M
 +read-atom+read-group+read-pattern-spec =
