@@ -15,6 +15,7 @@ place-requires c κs = search needs
 place-requires-2 : tie.Need-place-requires-2
 place-requires-2 c κs = search needs
 
+-- both cells lie in the list
 slice-write-scratch : tie.Need-slice-write-scratch
 slice-write-scratch c =
     let s = c .before .before .before .before in
@@ -23,7 +24,7 @@ slice-write-scratch c =
 slice-write-scratch-2 : tie.Need-slice-write-scratch-2
 slice-write-scratch-2 c =
     let s = c .before .before .before .before in
-    simp length-set (omega (arith, at-in (s .args .w) (s .args .p) _ _ (s .pre .1 .0) (s .pre .0) (s .pre .1 .1)))
+    simp length-set (omega (arith, at-in (s .args .w) (s .args .p) _ _ (s .pre .0) (s .pre .1 .0) (s .pre .1 .1), at-in (s .args .w) (s .args .p) _ _ (s .pre .1 .0) (s .pre .0) (s .pre .1 .1)))
 
 same-length : tie.Need-same-length
 same-length c = search needs
