@@ -13,7 +13,7 @@ use Rattle.lines.specs.Sizes.{newline-byte}
 use Rattle.lines.specs.Reply.{reply}
 use Rattle.lines.specs.Output.{last-line, replies, hold, taken, told, kept}
 use Rattle.pattern.specs.Stores.{stored, Puts}
-use Rattle.lines.specs.Held.{rest-if, Took}
+use Rattle.lines.specs.Taking.{rest-if, Took}
 use Rattle.lines.specs.declared.line.Taken.{Taken}
 
 -- what is told and kept once bytes are taken up to a newline

@@ -4,7 +4,7 @@ ghost use Prim.Native.Nat.{_≤_};
 ghost use lib.ListN.{length};
 ghost use Rattle.lines.specs.Sizes.{held-limit, tab-byte};
 ghost use Rattle.lines.specs.Reply.{first};
-ghost use Rattle.lines.specs.Held.{Took};
+ghost use Rattle.lines.specs.Taking.{Took};
 
 // Of a line no more is held: enough to see that it is too long.
 pub const HELD_LIMIT: usize = 1025;

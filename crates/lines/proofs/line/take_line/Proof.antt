@@ -6,7 +6,7 @@ use native.Mathlib.Omega.{arith}
 use lib.ListN.{length, take, drop, length-set}
 use Rattle.lines.specs.Sizes.{held-limit}
 use Rattle.lines.specs.Output.{taken}
-use Rattle.lines.specs.Held.{rest-if}
+use Rattle.lines.specs.Taking.{rest-if}
 use Rattle.lines.proofs.Lines.{taken-newline, taken-none, turn-room, turn-full}
 use Rattle.lines.proofs.line.take_line.Statement.{statement}
 use Rattle.lines.proofs.line.take_line.Tie as tie
