@@ -28,7 +28,7 @@ pub fn answer_chunk(
     out: &mut [u8],
 ) -> Answered
     requires { ⌜ (from ≤ length (now chunk)) × (length (now line) ≡ held-limit) × (held ≤ held-limit) × (length (now scratch) ≡ scratch-size) × (512 ≤ length (now out)) ⌝ }
-    ensures { λ r. ⌜ Answers (now (chunk .entry)) from (now (line .entry)) held (now (scratch .entry)) (now (line .exit)) (now (scratch .exit)) (now (out .exit)) r ⌝ }
+    ensures { λ r. ⌜ Answers (now (chunk .entry)) from (now (line .entry)) held (now (scratch .entry)) (now (out .entry)) (now (line .exit)) (now (scratch .exit)) (now (out .exit)) r ⌝ }
 {
     let mut next = from;
     let mut n = held;
@@ -51,7 +51,7 @@ pub fn answer_chunk(
 // Answers a last line without a newline, if it has bytes.
 pub fn answer_last(line: &[u8], scratch: &mut [u8], out: &mut [u8]) -> usize
     requires { ⌜ (length (now scratch) ≡ scratch-size) × (512 ≤ length (now out)) ⌝ }
-    ensures { λ r. ⌜ Finishes (now (line .entry)) (now (scratch .entry)) (now (scratch .exit)) (now (out .exit)) r ⌝ }
+    ensures { λ r. ⌜ Finishes (now (line .entry)) (now (scratch .entry)) (now (out .entry)) (now (scratch .exit)) (now (out .exit)) r ⌝ }
 {
     if line.len() == 0 {
         return 0;
