@@ -9,7 +9,7 @@ use lib.Dec.{T, leb, eqb, eqb→eq, leb→le}
 use lib.ListN.{length, getD, take, drop, length-append, drop-of-length-le}
 use lib.Seq.{drop-cons, getD-take, length-take-le}
 use borrow.Author.Tests.{lt-ltb, le-ltb, le-leb, lt-leb, eq-eqb, ne-eqb}
-use Rattle.pattern.specs.Numbers.{point-byte, quote-byte, open-high, header-size}
+use Rattle.pattern.specs.Numbers.{point-byte, quote-byte, open-high, atoms-place, header-size}
 use Rattle.pattern.specs.Bytes.{Bytes, between, same}
 use Rattle.pattern.specs.Codes.{all-codes}
 use Rattle.pattern.specs.Print.{decimal-of, decimal, print-low, print-count, print-set, double}
@@ -110,26 +110,26 @@ double-length (b ∷ v) = go (eqb b quote-byte) (double-length v)
 whole : (k : ℕ) {m : ℕ} → m ≡ k → m ≤ k
 whole k e = omega arith
 
-module _ (t : Bytes) (i : ℕ) (long : 5 ≤ length t) where
+module _ (t : Bytes) (i : ℕ) (long : atoms-place ≤ length t) where
   abbrev Marked : ℕ → Type 0
-  Marked k = same (take 5 t) opening ≡ same (drop k (take 5 t)) (drop k opening)
+  Marked k = same (take atoms-place t) opening ≡ same (drop k (take atoms-place t)) (drop k opening)
 
-  mark-step : i < 5 → same (drop i (take 5 t)) (drop i opening) ≡ eqb (getD t i 0) (getD opening i 0) && same (drop (i + 1) (take 5 t)) (drop (i + 1) opening)
+  mark-step : i < atoms-place → same (drop i (take atoms-place t)) (drop i opening) ≡ eqb (getD t i 0) (getD opening i 0) && same (drop (i + 1) (take atoms-place t)) (drop (i + 1) opening)
   mark-step h =
-      same-step (take 5 t) opening i (i + 1) refl (omega (arith, length-take-le 5 t long)) h
-      ∙ ap (λ x. eqb x (getD opening i 0) && same (drop (i + 1) (take 5 t)) (drop (i + 1) opening)) (getD-take 5 t i 0 h)
+      same-step (take atoms-place t) opening i (i + 1) refl (omega (arith, length-take-le atoms-place t long)) h
+      ∙ ap (λ x. eqb x (getD opening i 0) && same (drop (i + 1) (take atoms-place t)) (drop (i + 1) opening)) (getD-take atoms-place t i 0 h)
 
-  pub mark-off : i < 5 → Marked i → (getD t i 0 ≡ getD opening i 0 → ⊥) → false ≡ same (take 5 t) opening
-  mark-off h e n = sym (e ∙ mark-step h ∙ ap (λ b. b && same (drop (i + 1) (take 5 t)) (drop (i + 1) opening)) (ne-eqb _ _ n))
+  pub mark-off : i < atoms-place → Marked i → (getD t i 0 ≡ getD opening i 0 → ⊥) → false ≡ same (take atoms-place t) opening
+  mark-off h e n = sym (e ∙ mark-step h ∙ ap (λ b. b && same (drop (i + 1) (take atoms-place t)) (drop (i + 1) opening)) (ne-eqb _ _ n))
 
-  pub mark-on : i < 5 → Marked i → getD t i 0 ≡ getD opening i 0 → Marked (i + 1)
-  mark-on h e n = e ∙ mark-step h ∙ ap (λ b. b && same (drop (i + 1) (take 5 t)) (drop (i + 1) opening)) (eq-eqb _ _ n)
+  pub mark-on : i < atoms-place → Marked i → getD t i 0 ≡ getD opening i 0 → Marked (i + 1)
+  mark-on h e n = e ∙ mark-step h ∙ ap (λ b. b && same (drop (i + 1) (take atoms-place t)) (drop (i + 1) opening)) (eq-eqb _ _ n)
 
-  pub mark-end : i ≤ 5 → 5 ≤ i → Marked i → true ≡ same (take 5 t) opening
+  pub mark-end : i ≤ atoms-place → atoms-place ≤ i → Marked i → true ≡ same (take atoms-place t) opening
   unfolding same
   mark-end h k e =
-      let n : i ≡ 5 = omega arith in
-      sym (e ∙ ap (λ j. same (drop j (take 5 t)) (drop j opening)) n ∙ ap (λ l. same l []) (drop-of-length-le (take 5 t) (whole 5 (length-take-le 5 t long))))
+      let n : i ≡ atoms-place = omega arith in
+      sym (e ∙ ap (λ j. same (drop j (take atoms-place t)) (drop j opening)) n ∙ ap (λ l. same l []) (drop-of-length-le (take atoms-place t) (whole atoms-place (length-take-le atoms-place t long))))
 
 -- ---- a literal, byte by byte
 
@@ -168,22 +168,22 @@ module _ (s : Bytes) where
   abbrev Heads : Bool → Bool → Bool → Opened
   Heads a b c = pick ((a && b) && c) (opened.Table (header-of s)) opened.Bad
 
-  heads : (a b c : Bool) → leb header-size (length s) ≡ a → same (take 5 s) opening ≡ b → eqb (length s) (header-of s .pool + header-of s .length) ≡ c → opened-of s ≡ Heads a b c
+  heads : (a b c : Bool) → leb header-size (length s) ≡ a → same (take atoms-place s) opening ≡ b → eqb (length s) (header-of s .pool + header-of s .length) ≡ c → opened-of s ≡ Heads a b c
   unfolding opened-of headed
   heads a b c e f g = ap₂ (λ x y. Heads x y (eqb (length s) (header-of s .pool + header-of s .length))) e f ∙ ap (λ z. Heads a b z) g
 
   pub head-short : length s < header-size → opened.Bad ≡ opened-of s
   unfolding pick
-  head-short h = sym (heads false (same (take 5 s) opening) _ (lt-leb _ _ h) refl refl)
+  head-short h = sym (heads false (same (take atoms-place s) opening) _ (lt-leb _ _ h) refl refl)
 
-  pub head-off : header-size ≤ length s → same (take 5 s) opening ≡ false → opened.Bad ≡ opened-of s
+  pub head-off : header-size ≤ length s → same (take atoms-place s) opening ≡ false → opened.Bad ≡ opened-of s
   unfolding pick
   head-off h e = sym (heads true false _ (le-leb _ _ h) e refl)
 
-  pub head-wrong : header-size ≤ length s → same (take 5 s) opening ≡ true → (length s ≡ header-of s .pool + header-of s .length → ⊥) → opened.Bad ≡ opened-of s
+  pub head-wrong : header-size ≤ length s → same (take atoms-place s) opening ≡ true → (length s ≡ header-of s .pool + header-of s .length → ⊥) → opened.Bad ≡ opened-of s
   unfolding pick
   head-wrong h e n = sym (heads true true false (le-leb _ _ h) e (ne-eqb _ _ n))
 
-  pub head-right : header-size ≤ length s → same (take 5 s) opening ≡ true → length s ≡ header-of s .pool + header-of s .length → opened.Table (header-of s) ≡ opened-of s
+  pub head-right : header-size ≤ length s → same (take atoms-place s) opening ≡ true → length s ≡ header-of s .pool + header-of s .length → opened.Table (header-of s) ≡ opened-of s
   unfolding pick
   head-right h e n = sym (heads true true true (le-leb _ _ h) e (eq-eqb _ _ n))

@@ -113,7 +113,7 @@ fn leaf_at(body: &[u8], atoms: usize, r: Record, p: usize) -> Leaf
 
 // Whether atom i ends its branch: the second byte of its record.
 fn ends_of(body: &[u8], i: usize) -> u8
-    requires { ⌜ (record-size * i + 10 ≤ length (now body)) × (i < 256) ⌝ }
+    requires { ⌜ (record-size * i + record-size ≤ length (now body)) × (i < 256) ⌝ }
     ensures { λ r. ⌜ r ≡ its (now (body .entry)) 0 i .ends ⌝ }
 {
     body[RECORD_SIZE * i + 1]
