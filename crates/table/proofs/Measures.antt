@@ -8,13 +8,14 @@ use native.Mathlib.Omega.{arith}
 use lib.Dec.{T, leb, eqb, eqb→eq, leb→le}
 use lib.ListN.{length, getD, take, drop, length-append, drop-of-length-le}
 use lib.Seq.{drop-cons, getD-take, length-take-le}
-use borrow.Author.Tests.{lt-ltb, le-ltb, le-leb, lt-leb, eq-eqb, ne-eqb}
+use borrow.Author.Tests.{le-leb, lt-leb, eq-eqb, ne-eqb}
 use Rattle.pattern.specs.Numbers.{point-byte, quote-byte, open-high, atoms-place, header-size}
 use Rattle.pattern.specs.Bytes.{Bytes, between, same}
 use Rattle.pattern.specs.Codes.{all-codes}
 use Rattle.pattern.specs.Print.{decimal-of, decimal, print-low, print-count, print-set, double}
 use Rattle.pattern.specs.Decode.{high-of}
-use Rattle.pattern.proofs.Tests.{and-both, if-true, if-false, all, all-at}
+use Rattle.pattern.proofs.Tests.{and-both, all, all-at}
+use Rattle.pattern.proofs.Decimal.{one-digit, more-digits}
 use Rattle.table.specs.Opening.{pick, opening, header-of, headed, opened-of}
 use Rattle.table.specs.Checked.{plain}
 use Rattle.table.specs.Leaves.{text-of}
@@ -25,13 +26,11 @@ use Rattle.table.proofs.Sources.{count-open, count-two, quote-here, pla
 
 -- ---- numbers
 
-few : (f n : ℕ) → n < 10 → length (decimal-of (suc f) n) ≡ 1
-unfolding decimal-of
-few f n h = ap length (if-true _ _ _ (lt-ltb n 10 h))
+few : (f n : ℕ) → n < 10 → length (decimal-of f n) ≡ 1
+few f n h = ap length (one-digit f n h)
 
 more : (f n : ℕ) → 10 ≤ n → length (decimal-of (suc f) n) ≡ length (decimal-of f (n / 10)) + 1
-unfolding decimal-of
-more f n h = ap length (if-false _ _ _ (le-ltb n 10 h)) ∙ length-append (decimal-of f (n / 10)) _
+more f n h = ap length (more-digits f n h) ∙ length-append (decimal-of f (n / 10)) _
 
 last-digit : (n : ℕ) → length (decimal-of 0 n) ≡ 1
 unfolding decimal-of
@@ -39,15 +38,15 @@ last-digit n = refl
 
 pub digits-1 : (n : ℕ) → n < 10 → 1 ≡ length (decimal n)
 unfolding decimal
-digits-1 n h = sym (few 2 n h)
+digits-1 n h = sym (few 3 n h)
 
 pub digits-2 : (n : ℕ) → 10 ≤ n → n < 100 → 2 ≡ length (decimal n)
 unfolding decimal
-digits-2 n h k = omega (arith, more 2 n h, few 1 (n / 10) (omega arith))
+digits-2 n h k = omega (arith, more 2 n h, few 2 (n / 10) (omega arith))
 
 pub digits-3 : (n : ℕ) → 100 ≤ n → n < 1000 → 3 ≡ length (decimal n)
 unfolding decimal
-digits-3 n h k = omega (arith, more 2 n (omega arith), more 1 (n / 10) (omega arith), few 0 (n / 10 / 10) (omega arith))
+digits-3 n h k = omega (arith, more 2 n (omega arith), more 1 (n / 10) (omega arith), few 1 (n / 10 / 10) (omega arith))
 
 pub digits-4 : (n : ℕ) → 1000 ≤ n → 4 ≡ length (decimal n)
 unfolding decimal
