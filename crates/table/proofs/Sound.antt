@@ -134,7 +134,7 @@ module _ (s : Bytes) (A : ℕ) (laid : Laid s A) where
   Bodied b i p d =
       (its s A i ≡ rec (its s A i .ends) (its s A i .low) (high-of (its s A i .high)) b i p) × ((e : ℕ) → There s A e b (suc i) p d)
 
-  leaf-body : (i p d : ℕ) (b : Syntax body) → i < A → record-size * A + p ≤ length s → leaf s A (its s A i) p ≡ some b → Bodied b i p d
+  leaf-body : (i p d : ℕ) (b : Syntax body) → i < A → record-size * A + p ≤ length s → leaf s A (its s A i .kind) (its s A i .a) (its s A i .b) p ≡ some b → Bodied b i p d
   unfolding leaf kind-field a-field b-field
   leaf-body i p d b h v e =
       ⊎-elim
