@@ -7,7 +7,12 @@ ghost use Rattle.lines.specs.Sizes.{scratch-size, newline-byte, reply-ro
 ghost use Rattle.lines.specs.Reply.{label-reply, source-reply, reply};
 ghost use Rattle.lines.specs.Stores.{Replied};
 use crate::line::tab_at;
-use crate::sizes;
+use crate::sizes::BUDGET;
+use crate::sizes::LINE_LIMIT;
+use crate::sizes::NEWLINE;
+use crate::sizes::PARTS_ROOM;
+use crate::sizes::TABLE_ROOM;
+use crate::sizes::UNSET;
 use crate::text;
 use compiler::Compiled;
 
@@ -16,10 +21,8 @@ fn put_label(table: &[u8], label: &[u8], scratch: &mut [u8], out: &mut [u8], at:
     requires { ⌜ (length (now scratch) ≡ scratch-size) × (at + reply-room ≤ length (now out)) ⌝ }
     ensures { λ r. ⌜ Replied reply-room (label-reply (now (table .entry)) (now (label .entry))) (now (scratch .entry)) (now (out .entry)) at (now (scratch .exit)) (now (out .exit)) r ⌝ }
 {
-    let mut parts = [sizes::UNSET; sizes::PARTS_ROOM];
-    let a = matcher::match_label(table, label, scratch, &mut parts, sizes::BUDGET).numbers(
-        sizes::BUDGET,
-    );
+    let mut parts = [UNSET; PARTS_ROOM];
+    let a = matcher::match_label(table, label, scratch, &mut parts, BUDGET).numbers(BUDGET);
     if a.number > 0 {
         return text::put_unmatched(a.number as u64, out, at);
     }
@@ -34,7 +37,7 @@ fn put_cut(source: &[u8], label: &[u8], scratch: &mut [u8], out: &mut [u8], at: 
     requires { ⌜ (length (now scratch) ≡ scratch-size) × (at + reply-room ≤ length (now out)) ⌝ }
     ensures { λ r. ⌜ Replied reply-room (source-reply (now (source .entry)) (now (label .entry))) (now (scratch .entry)) (now (out .entry)) at (now (scratch .exit)) (now (out .exit)) r ⌝ }
 {
-    let mut table = [0u8; sizes::TABLE_ROOM];
+    let mut table = [0u8; TABLE_ROOM];
     match compiler::compile(source, &mut table) {
         Compiled::Table(n) => put_label(&table[..n], label, scratch, out, at),
         Compiled::Refused(number, position) => {
@@ -47,7 +50,7 @@ fn put_reply(line: &[u8], scratch: &mut [u8], out: &mut [u8], at: usize) -> usiz
     requires { ⌜ (length (now scratch) ≡ scratch-size) × (at + reply-room ≤ length (now out)) ⌝ }
     ensures { λ r. ⌜ Replied reply-room (reply (now (line .entry))) (now (scratch .entry)) (now (out .entry)) at (now (scratch .exit)) (now (out .exit)) r ⌝ }
 {
-    if sizes::LINE_LIMIT < line.len() {
+    if LINE_LIMIT < line.len() {
         return text::put_byte(b'L', out, at);
     }
     let tab = tab_at(line);
@@ -63,5 +66,5 @@ pub fn answer_line(line: &[u8], scratch: &mut [u8], out: &mut [u8], at: usize) -
     ensures { λ r. ⌜ Replied (reply-room + 1) (reply (now (line .entry)) ++ newline-byte ∷ []) (now (scratch .entry)) (now (out .entry)) at (now (scratch .exit)) (now (out .exit)) r ⌝ }
 {
     let end = put_reply(line, scratch, out, at);
-    text::put_byte(sizes::NEWLINE, out, end)
+    text::put_byte(NEWLINE, out, end)
 }
