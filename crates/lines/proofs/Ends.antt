@@ -1,11 +1,11 @@
 -- The parts that a reply lists are the verdict's own. Assumes nothing.
 use mathlib.Core.Path.{_≡_, refl, ap, ap₂, _∙_}
-use mathlib.Core.Bool.{Bool, true, false, cond}
+use mathlib.Core.Bool.{Bool, true, false}
 use mathlib.Core.List.{List, [], _∷_, _++_}
 use mathlib.Core.Option.{none, some}
 use Prim.Native.Nat.{ℕ, zero, suc, _+_, _-_, _*_, _/_, _%_, _≤_}
 use native.Mathlib.Omega.{arith}
-use lib.ListN.{length, drop, replicate}
+use lib.ListN.{length, replicate}
 use borrow.Author.Tests.{ne-eqb}
 use Rattle.pattern.specs.Numbers.{label-limit, parts-room}
 use Rattle.pattern.specs.Bytes.{Bytes, bytes, over}
@@ -14,6 +14,8 @@ use Rattle.pattern.specs.Decision.{trial, decide}
 use Rattle.pattern.specs.Parts.{longest, end, parts, verdict}
 use Rattle.pattern.specs.Answers.{part-bytes, judged}
 use Rattle.pattern.proofs.Tests.{if-false}
+use Rattle.pattern.proofs.Longest.{longest-le}
+use Rattle.lines.proofs.Scratch.{drop-same}
 use Rattle.lines.specs.Sizes.{unset, space-byte}
 use Rattle.lines.specs.Text.{ends-in, listed, matched-text}
 use Rattle.lines.specs.Reply.{verdict-text, match-text}
@@ -22,19 +24,6 @@ use Rattle.lines.specs.Reply.{verdict-text, match-text}
 abbrev Below : ℕ → List ℕ → Type 0
 Below n [] = Unit {0}
 Below n (e ∷ es) = (e ≤ n) × Below n es
-
-longest-le : (c : ℕ) (p : ℕ → Bool) → longest (suc c) p ≤ c
-unfolding longest
-longest-le zero p = go (p 0)
-  where
-    go : (b : Bool) → cond b 0 0 ≤ 0
-    go true = omega arith
-    go false = omega arith
-longest-le (suc c) p = go (p (suc c)) (longest-le c p)
-  where
-    go : (b : Bool) → longest (suc c) p ≤ c → cond b (suc c) (longest (suc c) p) ≤ suc c
-    go true h = omega arith
-    go false h = omega arith
 
 end-le : (l : Bytes) (a : Syntax atom) (p : Syntax pattern) (i : ℕ) → i ≤ length l → end l a p i ≤ length l
 unfolding end
@@ -47,12 +36,6 @@ parts-below : (l : Bytes) (p : Syntax pattern) (i : ℕ) → i ≤ length l → 
 unfolding parts
 parts-below l (last a) i h = (omega arith, tt)
 parts-below l (then a p) i h = (end-le l a p i h, parts-below l p (end l a p i) (end-le l a p i h))
-
--- what is left of bytes that are all the same
-drop-same : (k n a : ℕ) → (m : ℕ) × (drop k (replicate n a) ≡ replicate m a)
-drop-same zero n a = (n, refl)
-drop-same (suc k) zero a = (0, refl)
-drop-same (suc k) (suc n) a = drop-same k n a
 
 ends-none : (m : ℕ) → ends-in (replicate m unset) ≡ []
 unfolding ends-in

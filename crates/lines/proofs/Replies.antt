@@ -9,12 +9,12 @@ use lib.Dec.{eqb}
 use lib.ListN.{length, take, drop, replicate, length-append, length-drop}
 use lib.Seq.{take-all}
 use borrow.Author.Tests.{eq-eqb, ne-eqb, lt-ltb, le-ltb}
-use Rattle.pattern.specs.Numbers.{table-room, parts-room}
+use Rattle.pattern.specs.Numbers.{zero-byte, table-room, parts-room}
 use Rattle.pattern.specs.Bytes.{Bytes, bytes}
 use Rattle.pattern.specs.Answers.{Answer, refusal, result, Output, compileOf, Matched, matchOf}
 use Rattle.pattern.proofs.Tests.{if-true, if-false}
 use Rattle.pattern.proofs.Calls.{shown, scratch-ignored}
-use Rattle.lines.specs.Sizes.{line-limit, scratch-size, budget, unset, tab-byte}
+use Rattle.lines.specs.Sizes.{line-limit, scratch-size, budget, unset, tab-byte, space-byte, refused-letter, number-room, coded-room, refused-room}
 use Rattle.lines.specs.Text.{decimal, coded-text, refused-text, unmatched-text, matched-text}
 use Rattle.lines.specs.Reply.{first, cut-at, cut, verdict-text, match-text, zeros, label-reply, table-reply, source-reply, cut-reply, reply}
 use Rattle.pattern.specs.Stores.{Puts}
@@ -41,13 +41,13 @@ pub within-more : {room more : ℕ} {v l m : Bytes} {i j : ℕ} → room ≤ mor
 within-more h s = record { stores = s .stores; short = omega (arith, s .short) }
 
 -- the longest texts of a refusal
-pub unmatched-short : (n : ℕ) → n < 10 ^ 20 → length (unmatched-text n) ≤ 22
+pub unmatched-short : (n : ℕ) → n < 10 ^ number-room → length (unmatched-text n) ≤ coded-room
 unfolding unmatched-text coded-text
 unmatched-short n h = omega (arith, decimal-short 19 n h)
 
-pub refused-short : (n p : ℕ) → n < 10 ^ 20 → p < 10 ^ 20 → length (refused-text n p) ≤ 43
+pub refused-short : (n p : ℕ) → n < 10 ^ number-room → p < 10 ^ number-room → length (refused-text n p) ≤ refused-room
 unfolding refused-text coded-text
-refused-short n p h k = omega (arith, decimal-short 19 n h, decimal-short 19 p k, length-append (coded-text 82 n) (32 ∷ decimal p))
+refused-short n p h k = omega (arith, decimal-short 19 n h, decimal-short 19 p k, length-append (coded-text refused-letter n) (space-byte ∷ decimal p))
 
 -- ---- matching
 
@@ -83,7 +83,7 @@ module _ (table label scratch : Bytes) (h : length scratch ≡ scratch-size) (r 
     unfolding match-text verdict-text
     verdict-reply t f = sym (if-true _ _ _ (eq-eqb (a .number) 0 (omega arith)) ∙ f) ∙ replied
 
-    pub no-reply : a .value ≡ 0 → 48 ∷ [] ≡ label-reply table label
+    pub no-reply : a .value ≡ 0 → zero-byte ∷ [] ≡ label-reply table label
     unfolding bytes
     no-reply z = verdict-reply _ (if-true _ _ _ (eq-eqb (a .value) 0 z))
 
@@ -126,7 +126,7 @@ module _ (source label : Bytes) (r : compiler.Compiled) (t : Bytes) (e : record 
 -- ---- cutting
 
 module _ (line : Bytes) where
-  pub long-reply : line-limit < length line → 76 ∷ [] ≡ reply line
+  pub long-reply : line-limit < length line → bytes "L" ≡ reply line
   unfolding reply bytes
   long-reply h = sym (if-true _ _ _ (lt-ltb _ _ h))
 
@@ -135,7 +135,7 @@ module _ (line : Bytes) where
     unfolding reply cut
     short-reply = ap (λ i. cut-reply (cut-at i line)) e ∙ sym (if-false _ _ _ (le-ltb _ _ h))
 
-    pub whole-reply : length line ≤ k → 84 ∷ [] ≡ reply line
+    pub whole-reply : length line ≤ k → bytes "T" ≡ reply line
     unfolding cut-at cut-reply bytes
     whole-reply l = sym (ap cut-reply (if-false _ _ _ (le-ltb k (length line) l))) ∙ short-reply
 

@@ -16,17 +16,17 @@ use Rattle.lines.specs.Reply.{zeros}
 abbrev blank : ℕ → Bytes
 blank n = replicate n 0
 
--- zeros without the first ones
-drop-blank : (k n : ℕ) → (m : ℕ) × (drop k (blank n) ≡ blank m)
-drop-blank zero n = (n, refl)
-drop-blank (suc k) zero = (0, refl)
-drop-blank (suc k) (suc n) = drop-blank k n
+-- what is left of bytes that are all the same
+pub drop-same : (k n a : ℕ) → (m : ℕ) × (drop k (replicate n a) ≡ replicate m a)
+drop-same zero n a = (n, refl)
+drop-same (suc k) zero a = (0, refl)
+drop-same (suc k) (suc n) a = drop-same k n a
 
 -- zeros over zeros, in as many bytes
 over-blank : (k n : ℕ) (s : Bytes) → length s ≡ n → s ≡ over (blank k) (blank n) → s ≡ blank n
 unfolding over
 over-blank k n s h d =
-    let (m, e) = drop-blank (length (blank k)) n in
+    let (m, e) = drop-same (length (blank k)) n 0 in
     let f : s ≡ blank (k + m) = d ∙ ap (λ v. blank k ++ v) e ∙ replicate-append-replicate k m 0 in
     f ∙ ap blank (sym (length-replicate {A = ℕ} (k + m) 0) ∙ sym (ap length f) ∙ h)
 

@@ -3,6 +3,6 @@ pub mod Text
 pub mod Reply
 pub mod Output
 pub mod Stores
-pub mod Held
+pub mod Taking
 pub mod Examples
 pub mod Chunk

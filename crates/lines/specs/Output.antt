@@ -5,7 +5,7 @@ use mathlib.Core.Option.{Option, none, some}
 use Prim.Native.Nat.{ℕ}
 use lib.Dec.{ltb, eqb}
 use lib.ListN.{length}
-use Rattle.pattern.specs.Bytes.{Bytes, bytes}
+use Rattle.pattern.specs.Bytes.{Bytes, bytes, over}
 use Rattle.lines.specs.Sizes.{held-limit, newline-byte}
 use Rattle.lines.specs.Reply.{reply}
 
@@ -53,6 +53,11 @@ told held (c ∷ s) = elim (eqb c newline-byte) [ true ↦ reply held ++ newline
 unfoldable pub kept : (held chunk : Bytes) → Bytes
 kept held [] = held
 kept held (c ∷ s) = elim (eqb c newline-byte) [ true ↦ kept [] s | false ↦ kept (hold held c) s ]
+
+-- what the lent bytes of a line are after a chunk: each line of it goes over their start
+unfoldable pub buffered : (lent held chunk : Bytes) → Bytes
+buffered lent held [] = over held lent
+buffered lent held (c ∷ s) = elim (eqb c newline-byte) [ true ↦ buffered (over held lent) [] s | false ↦ buffered lent (hold held c) s ]
 
 unfoldable pub in-chunks : (held : Bytes) → List Bytes → Bytes
 in-chunks held [] = replies (last-line held)

@@ -1,5 +1,5 @@
 -- The numbers and the bytes of the line tool, each named once. Assumes nothing.
-use Prim.Native.Nat.{ℕ}
+use Prim.Native.Nat.{ℕ, _+_}
 
 -- "lines of at most 1,024 bytes, newline not counted"
 abbrev pub line-limit : ℕ
@@ -28,3 +28,32 @@ newline-byte = 10
 
 abbrev pub space-byte : ℕ
 space-byte = 32
+
+-- the letters before a refusal from compiling and before one from matching: R M
+abbrev pub refused-letter : ℕ
+refused-letter = 82
+
+abbrev pub unmatched-letter : ℕ
+unmatched-letter = 77
+
+-- texts are no longer than this: a 64-bit number, a letter with a space and such a number, the same with a space and another number
+abbrev pub number-room : ℕ
+number-room = 20
+
+abbrev pub coded-room : ℕ
+coded-room = 2 + number-room
+
+abbrev pub refused-room : ℕ
+refused-room = coded-room + 1 + number-room
+
+-- a byte and a 16-bit number
+abbrev pub part-room : ℕ
+part-room = 6
+
+-- a reply without its newline
+abbrev pub reply-room : ℕ
+reply-room = 400
+
+-- the output bytes that are lent at least
+abbrev pub out-room : ℕ
+out-room = 512

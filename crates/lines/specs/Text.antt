@@ -6,7 +6,7 @@ use lib.Dec.{eqb}
 use Rattle.pattern.specs.Numbers.{comma-byte}
 use Rattle.pattern.specs.Bytes.{Bytes, bytes}
 use Rattle.pattern.specs.Print.{decimal-of}
-use Rattle.lines.specs.Sizes.{unset, space-byte}
+use Rattle.lines.specs.Sizes.{unset, space-byte, refused-letter, unmatched-letter}
 
 -- a number in decimal
 unfoldable pub decimal : ℕ → Bytes
@@ -18,11 +18,11 @@ coded-text letter number = letter ∷ space-byte ∷ decimal number
 
 -- "R number position"
 unfoldable pub refused-text : (number position : ℕ) → Bytes
-refused-text number position = coded-text 82 number ++ space-byte ∷ decimal position
+refused-text number position = coded-text refused-letter number ++ space-byte ∷ decimal position
 
 -- "M number"
 unfoldable pub unmatched-text : (number : ℕ) → Bytes
-unmatched-text number = coded-text 77 number
+unmatched-text number = coded-text unmatched-letter number
 
 -- the ends that a match wrote into parts that held unset bytes before
 unfoldable pub ends-in : Bytes → List ℕ

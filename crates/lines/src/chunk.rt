@@ -2,14 +2,12 @@
 ghost use mathlib.Core.Path.{_≡_};
 ghost use Prim.Native.Nat.{_≤_};
 ghost use lib.ListN.{length};
-ghost use Rattle.lines.specs.Sizes.{held-limit, scratch-size};
+ghost use Rattle.lines.specs.Sizes.{held-limit, scratch-size, out-room};
 ghost use Rattle.lines.specs.Output.{first-line};
 ghost use Rattle.lines.specs.Chunk.{Answers, Finishes};
 use crate::line::take_line;
 use crate::reply::answer_line;
-
-// More than any reply has.
-const ROOM: usize = 512;
+use crate::sizes::OUT_ROOM;
 
 // Where to go on in the chunk, how many bytes of a line are held, and how many were written.
 pub struct Answered {
@@ -27,14 +25,14 @@ pub fn answer_chunk(
     scratch: &mut [u8],
     out: &mut [u8],
 ) -> Answered
-    requires { ⌜ (from ≤ length (now chunk)) × (length (now line) ≡ held-limit) × (held ≤ held-limit) × (length (now scratch) ≡ scratch-size) × (512 ≤ length (now out)) ⌝ }
-    ensures { λ r. ⌜ Answers (now (chunk .entry)) from (now (line .entry)) held (now (scratch .entry)) (now (line .exit)) (now (scratch .exit)) (now (out .exit)) r ⌝ }
+    requires { ⌜ (from ≤ length (now chunk)) × (length (now line) ≡ held-limit) × (held ≤ held-limit) × (length (now scratch) ≡ scratch-size) × (out-room ≤ length (now out)) ⌝ }
+    ensures { λ r. ⌜ Answers (now (chunk .entry)) from (now (line .entry)) held (now (scratch .entry)) (now (out .entry)) (now (line .exit)) (now (scratch .exit)) (now (out .exit)) r ⌝ }
 {
     let mut next = from;
     let mut n = held;
     let mut end = 0;
     while next < chunk.len() {
-        if out.len() - end < ROOM {
+        if out.len() - end < OUT_ROOM {
             return Answered { next, held: n, end };
         }
         let t = take_line(chunk, next, line, n);
@@ -50,8 +48,8 @@ pub fn answer_chunk(
 
 // Answers a last line without a newline, if it has bytes.
 pub fn answer_last(line: &[u8], scratch: &mut [u8], out: &mut [u8]) -> usize
-    requires { ⌜ (length (now scratch) ≡ scratch-size) × (512 ≤ length (now out)) ⌝ }
-    ensures { λ r. ⌜ Finishes (now (line .entry)) (now (scratch .entry)) (now (scratch .exit)) (now (out .exit)) r ⌝ }
+    requires { ⌜ (length (now scratch) ≡ scratch-size) × (out-room ≤ length (now out)) ⌝ }
+    ensures { λ r. ⌜ Finishes (now (line .entry)) (now (scratch .entry)) (now (out .entry)) (now (scratch .exit)) (now (out .exit)) r ⌝ }
 {
     if line.len() == 0 {
         return 0;

@@ -2,4 +2,5 @@
 pub mod chunk;
 mod line;
 mod reply;
+pub mod sizes;
 mod text;

@@ -4,14 +4,10 @@ ghost use Prim.Native.Nat.{_≤_};
 ghost use lib.ListN.{length};
 ghost use Rattle.lines.specs.Sizes.{held-limit, tab-byte};
 ghost use Rattle.lines.specs.Reply.{first};
-ghost use Rattle.lines.specs.Held.{Took};
-
-// Of a line no more is held: enough to see that it is too long.
-pub const HELD_LIMIT: usize = 1025;
-
-const TAB: u8 = b'\t';
-
-const NEWLINE: u8 = b'\n';
+ghost use Rattle.lines.specs.Taking.{Took};
+use crate::sizes::HELD_LIMIT;
+use crate::sizes::NEWLINE;
+use crate::sizes::TAB;
 
 // How many bytes of a line are held, where to go on in the chunk, and whether the line ended.
 pub struct Taken {

@@ -3,24 +3,25 @@ ghost use mathlib.Core.Path.{_≡_};
 ghost use mathlib.Core.List.{[], _∷_, _++_};
 ghost use Prim.Native.Nat.{_+_, _≤_};
 ghost use lib.ListN.{length};
-ghost use Rattle.lines.specs.Sizes.{scratch-size, newline-byte};
+ghost use Rattle.lines.specs.Sizes.{scratch-size, newline-byte, reply-room};
 ghost use Rattle.lines.specs.Reply.{label-reply, source-reply, reply};
 ghost use Rattle.lines.specs.Stores.{Replied};
 use crate::line::tab_at;
+use crate::sizes::BUDGET;
+use crate::sizes::LINE_LIMIT;
+use crate::sizes::NEWLINE;
+use crate::sizes::PARTS_ROOM;
+use crate::sizes::TABLE_ROOM;
+use crate::sizes::UNSET;
 use crate::text;
 use compiler::Compiled;
 
-// "lines of at most 1,024 bytes, newline not counted"
-const LINE_LIMIT: usize = 1024;
-
-const BUDGET: u64 = 10000000;
-
 // A label under a table.
 fn put_label(table: &[u8], label: &[u8], scratch: &mut [u8], out: &mut [u8], at: usize) -> usize
-    requires { ⌜ (length (now scratch) ≡ scratch-size) × (at + 400 ≤ length (now out)) ⌝ }
-    ensures { λ r. ⌜ Replied 400 (label-reply (now (table .entry)) (now (label .entry))) (now (scratch .entry)) (now (out .entry)) at (now (scratch .exit)) (now (out .exit)) r ⌝ }
+    requires { ⌜ (length (now scratch) ≡ scratch-size) × (at + reply-room ≤ length (now out)) ⌝ }
+    ensures { λ r. ⌜ Replied reply-room (label-reply (now (table .entry)) (now (label .entry))) (now (scratch .entry)) (now (out .entry)) at (now (scratch .exit)) (now (out .exit)) r ⌝ }
 {
-    let mut parts = [text::UNSET; 128];
+    let mut parts = [UNSET; PARTS_ROOM];
     let a = matcher::match_label(table, label, scratch, &mut parts, BUDGET).numbers(BUDGET);
     if a.number > 0 {
         return text::put_unmatched(a.number as u64, out, at);
@@ -33,10 +34,10 @@ fn put_label(table: &[u8], label: &[u8], scratch: &mut [u8], out: &mut [u8], at:
 
 // A source and a label.
 fn put_cut(source: &[u8], label: &[u8], scratch: &mut [u8], out: &mut [u8], at: usize) -> usize
-    requires { ⌜ (length (now scratch) ≡ scratch-size) × (at + 400 ≤ length (now out)) ⌝ }
-    ensures { λ r. ⌜ Replied 400 (source-reply (now (source .entry)) (now (label .entry))) (now (scratch .entry)) (now (out .entry)) at (now (scratch .exit)) (now (out .exit)) r ⌝ }
+    requires { ⌜ (length (now scratch) ≡ scratch-size) × (at + reply-room ≤ length (now out)) ⌝ }
+    ensures { λ r. ⌜ Replied reply-room (source-reply (now (source .entry)) (now (label .entry))) (now (scratch .entry)) (now (out .entry)) at (now (scratch .exit)) (now (out .exit)) r ⌝ }
 {
-    let mut table = [0u8; 1160];
+    let mut table = [0u8; TABLE_ROOM];
     match compiler::compile(source, &mut table) {
         Compiled::Table(n) => put_label(&table[..n], label, scratch, out, at),
         Compiled::Refused(number, position) => {
@@ -46,8 +47,8 @@ fn put_cut(source: &[u8], label: &[u8], scratch: &mut [u8], out: &mut [u8], at: 
 }
 
 fn put_reply(line: &[u8], scratch: &mut [u8], out: &mut [u8], at: usize) -> usize
-    requires { ⌜ (length (now scratch) ≡ scratch-size) × (at + 400 ≤ length (now out)) ⌝ }
-    ensures { λ r. ⌜ Replied 400 (reply (now (line .entry))) (now (scratch .entry)) (now (out .entry)) at (now (scratch .exit)) (now (out .exit)) r ⌝ }
+    requires { ⌜ (length (now scratch) ≡ scratch-size) × (at + reply-room ≤ length (now out)) ⌝ }
+    ensures { λ r. ⌜ Replied reply-room (reply (now (line .entry))) (now (scratch .entry)) (now (out .entry)) at (now (scratch .exit)) (now (out .exit)) r ⌝ }
 {
     if LINE_LIMIT < line.len() {
         return text::put_byte(b'L', out, at);
@@ -61,9 +62,9 @@ fn put_reply(line: &[u8], scratch: &mut [u8], out: &mut [u8], at: usize) -> usiz
 
 // The reply and its newline.
 pub fn answer_line(line: &[u8], scratch: &mut [u8], out: &mut [u8], at: usize) -> usize
-    requires { ⌜ (length (now scratch) ≡ scratch-size) × (at + 401 ≤ length (now out)) ⌝ }
-    ensures { λ r. ⌜ Replied 401 (reply (now (line .entry)) ++ newline-byte ∷ []) (now (scratch .entry)) (now (out .entry)) at (now (scratch .exit)) (now (out .exit)) r ⌝ }
+    requires { ⌜ (length (now scratch) ≡ scratch-size) × (at + reply-room + 1 ≤ length (now out)) ⌝ }
+    ensures { λ r. ⌜ Replied (reply-room + 1) (reply (now (line .entry)) ++ newline-byte ∷ []) (now (scratch .entry)) (now (out .entry)) at (now (scratch .exit)) (now (out .exit)) r ⌝ }
 {
     let end = put_reply(line, scratch, out, at);
-    text::put_byte(b'\n', out, end)
+    text::put_byte(NEWLINE, out, end)
 }

@@ -3,12 +3,12 @@ ghost use mathlib.Core.Path.{_≡_};
 ghost use mathlib.Core.List.{[], _∷_};
 ghost use Prim.Native.Nat.{_+_, _*_, _≤_, _<_};
 ghost use lib.ListN.{length};
+ghost use Rattle.lines.specs.Sizes.{coded-room, refused-room, part-room};
 ghost use Rattle.lines.specs.Text.{decimal, coded-text, refused-text, unmatched-text, matched-text};
 ghost use Rattle.pattern.specs.Stores.{Puts};
 ghost use Rattle.lines.specs.Stores.{Within};
-
-// What a byte of the lent parts holds where no end was written.
-pub const UNSET: u8 = 255;
+use crate::sizes::SPACE;
+use crate::sizes::UNSET;
 
 // How many digits a number has.
 fn digits(x: u64) -> usize
@@ -51,27 +51,27 @@ pub fn put_byte(b: u8, out: &mut [u8], at: usize) -> usize
 
 // A letter, a space and a number.
 fn put_coded(letter: u8, number: u64, out: &mut [u8], at: usize) -> usize
-    requires { ⌜ at + 22 ≤ length (now out) ⌝ }
+    requires { ⌜ at + coded-room ≤ length (now out) ⌝ }
     ensures { λ r. ⌜ Puts (now (out .entry)) at (coded-text letter number) (now (out .exit)) r ⌝ }
 {
     let space = put_byte(letter, out, at);
-    let start = put_byte(b' ', out, space);
+    let start = put_byte(SPACE, out, space);
     put_number(number, out, start)
 }
 
 // A refusal from compiling.
 pub fn put_refused(number: u64, position: u64, out: &mut [u8], at: usize) -> usize
-    requires { ⌜ at + 43 ≤ length (now out) ⌝ }
+    requires { ⌜ at + refused-room ≤ length (now out) ⌝ }
     ensures { λ r. ⌜ Puts (now (out .entry)) at (refused-text number position) (now (out .exit)) r ⌝ }
 {
     let space = put_coded(b'R', number, out, at);
-    let start = put_byte(b' ', out, space);
+    let start = put_byte(SPACE, out, space);
     put_number(position, out, start)
 }
 
 // A refusal from matching.
 pub fn put_unmatched(number: u64, out: &mut [u8], at: usize) -> usize
-    requires { ⌜ at + 22 ≤ length (now out) ⌝ }
+    requires { ⌜ at + coded-room ≤ length (now out) ⌝ }
     ensures { λ r. ⌜ Puts (now (out .entry)) at (unmatched-text number) (now (out .exit)) r ⌝ }
 {
     put_coded(b'M', number, out, at)
@@ -79,7 +79,7 @@ pub fn put_unmatched(number: u64, out: &mut [u8], at: usize) -> usize
 
 // A 16-bit number, its lower byte first, after a byte that parts it from what is before.
 fn put_part(before: u8, low: u8, high: u8, out: &mut [u8], at: usize) -> usize
-    requires { ⌜ at + 6 ≤ length (now out) ⌝ }
+    requires { ⌜ at + part-room ≤ length (now out) ⌝ }
     ensures { λ r. ⌜ Puts (now (out .entry)) at (before ∷ decimal (low + 256 * high)) (now (out .exit)) r ⌝ }
 {
     let start = put_byte(before, out, at);
@@ -93,7 +93,7 @@ pub fn put_matched(parts: &[u8], out: &mut [u8], at: usize) -> usize
 {
     let mut end = put_byte(b'1', out, at);
     let mut i = 0;
-    let mut before = b' ';
+    let mut before = SPACE;
     while i + 1 < parts.len() {
         let low = parts[i];
         let high = parts[i + 1];

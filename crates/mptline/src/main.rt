@@ -2,12 +2,13 @@
 ghost use mathlib.Core.Path.{_≡_};
 ghost use Prim.Native.Nat.{_≤_};
 ghost use lib.ListN.{length};
-ghost use Rattle.lines.specs.Sizes.{held-limit, scratch-size};
+ghost use Rattle.lines.specs.Sizes.{held-limit, scratch-size, out-room};
 ghost use Rattle.lines.specs.Reply.{zeros};
 ghost use Rattle.mptline.specs.Held.{Holds, Reads, Ended};
 use libc::STDIN_FILENO;
 use libc::STDOUT_FILENO;
 use lines::chunk;
+use lines::sizes;
 
 // How many bytes of a line are held, and whether to go on.
 struct Progress {
@@ -23,7 +24,7 @@ fn answer_all(
     scratch: &mut [u8],
     out: &mut [u8],
 ) -> Progress
-    requires { ⌜ (length (now line) ≡ held-limit) × (held ≤ held-limit) × (length (now scratch) ≡ scratch-size) × (512 ≤ length (now out)) ⌝ }
+    requires { ⌜ (length (now line) ≡ held-limit) × (held ≤ held-limit) × (length (now scratch) ≡ scratch-size) × (out-room ≤ length (now out)) ⌝ }
     ensures { λ r. ⌜ Holds (now (chunk .entry)) (now (line .entry)) held (now (scratch .entry)) (now (line .exit)) (now (scratch .exit)) r ⌝ }
 {
     let mut from = 0;
@@ -55,7 +56,7 @@ fn answer_some(
     scratch: &mut [u8],
     out: &mut [u8],
 ) -> Progress
-    requires { ⌜ (length (now line) ≡ held-limit) × (held ≤ held-limit) × (length (now scratch) ≡ scratch-size) × (512 ≤ length (now out)) ⌝ }
+    requires { ⌜ (length (now line) ≡ held-limit) × (held ≤ held-limit) × (length (now scratch) ≡ scratch-size) × (out-room ≤ length (now out)) ⌝ }
     ensures { λ r. ⌜ Reads (now (buf .exit)) (now (line .entry)) held (now (scratch .entry)) (now (line .exit)) (now (scratch .exit)) r ⌝ }
 {
     let got = libc::read(STDIN_FILENO, buf);
@@ -74,7 +75,7 @@ fn answer_some(
 
 // Answers the whole input. A proved loop has to end, so its turns are counted down from a number that no run uses up.
 fn answer_input(buf: &mut [u8], line: &mut [u8], scratch: &mut [u8], out: &mut [u8]) -> usize
-    requires { ⌜ (length (now line) ≡ held-limit) × (length (now scratch) ≡ scratch-size) × (512 ≤ length (now out)) ⌝ }
+    requires { ⌜ (length (now line) ≡ held-limit) × (length (now scratch) ≡ scratch-size) × (out-room ≤ length (now out)) ⌝ }
     ensures { λ r. ⌜ Ended r (now (scratch .entry)) (now (scratch .exit)) ⌝ }
 {
     let mut held = 0;
@@ -92,7 +93,7 @@ fn answer_input(buf: &mut [u8], line: &mut [u8], scratch: &mut [u8], out: &mut [
 
 // All lines of the input, and then a last one without a newline.
 fn answer(buf: &mut [u8], line: &mut [u8], scratch: &mut [u8], out: &mut [u8])
-    requires { ⌜ (length (now line) ≡ held-limit) × (now scratch ≡ zeros) × (512 ≤ length (now out)) ⌝ }
+    requires { ⌜ (length (now line) ≡ held-limit) × (now scratch ≡ zeros) × (out-room ≤ length (now out)) ⌝ }
     ensures { λ r. ⌜ now (scratch .exit) ≡ zeros ⌝ }
 {
     let held = answer_input(buf, line, scratch, out);
@@ -104,8 +105,8 @@ fn main() {
     let first = chunk::first_line();
     if io::write_all(STDOUT_FILENO, &first) {
         let mut buf = io::large_buffer();
-        let mut line = [0u8; 1025];
-        let mut scratch = [0u8; 65536];
+        let mut line = [0u8; sizes::HELD_LIMIT];
+        let mut scratch = [0u8; sizes::SCRATCH_SIZE];
         let mut out = io::large_buffer();
         answer(&mut buf, &mut line, &mut scratch, &mut out);
     }

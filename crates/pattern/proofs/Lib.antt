@@ -6,6 +6,7 @@ pub mod Agree
 pub mod Longest
 pub mod Bound
 pub mod Notation
+pub mod Decimal
 pub mod ReadSpells
 pub mod SpeltReads
 pub mod Form

@@ -32,6 +32,12 @@ longest-best (suc c) p d h t =
     let (f, v, g) = longest-best c p d below t in
     (omega arith, v, g))
 
+-- the longest of c + 1 numbers is at most c
+pub longest-le : (c : ℕ) (p : ℕ → Bool) → longest (suc c) p ≤ c
+unfolding longest
+longest-le zero p = cond-case (p 0) (λ x. x ≤ 0) (λ u. omega arith) (λ u. omega arith)
+longest-le (suc c) p = cond-case (p (suc c)) (λ x. x ≤ suc c) (λ u. omega arith) (λ u. omega (arith, longest-le c p))
+
 -- a partition shows that the label satisfies the pattern
 pub partition-satisfies : (l : Bytes) (p : Syntax pattern) (i : ℕ) (ends : List ℕ) → Partition l p i ends → Satisfies p (slice i (length l) l)
 unfolding Partition Satisfies Cut

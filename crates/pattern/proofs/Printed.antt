@@ -17,6 +17,7 @@ use Rattle.pattern.specs.Within.{Small, Fits, Good}
 use Rattle.pattern.specs.Print.{decimal-of, decimal, print-low, print-count, print-set, double, print}
 use Rattle.pattern.proofs.Tests.{and-both, passed, cond-case, all, all-at}
 use Rattle.pattern.proofs.Notation.{text-byte}
+use Rattle.pattern.proofs.Decimal.{most}
 
 digit-kind : (c : ℕ) → 48 ≤ c → c ≤ 57 → kind c ≡ counts digit
 unfolding kind between
@@ -26,11 +27,6 @@ one-digit : (n : ℕ) → n < 10 → Number n ((48 + n) ∷ [])
 one-digit n h =
     let e : (48 + n) - 48 ≡ n = omega arith in
     rw e at (Number.one (48 + n) (digit-kind (48 + n) (omega arith) (omega arith)))
-
--- the largest number of f + 1 digits
-most : ℕ → ℕ
-most zero = 9
-most (suc f) = 10 * most f + 9
 
 decimal-number : (f n : ℕ) → n ≤ most f → Number n (decimal-of f n)
 unfolding decimal-of most

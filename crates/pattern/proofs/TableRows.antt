@@ -1,7 +1,7 @@
 -- The scan's fault at a place is the lowest of the table's rows that apply there. Assumes nothing.
 use mathlib.Core.Path.{_≡_, refl}
 use mathlib.Core.Logic.{_⊎_, inl, inr, ⊎-elim}
-use mathlib.Core.Bool.{Bool, true, false, not, _&&_, _||_}
+use mathlib.Core.Bool.{Bool, true, false, not, _&&_, or-false}
 use mathlib.Core.List.{List, [], _∷_}
 use mathlib.Core.Option.{Option, none, some, Option·none-ne-some, Option·some-ne-none}
 use Prim.Native.Nat.{ℕ, suc, _≤_, _<_}
@@ -58,10 +58,6 @@ refuse-lowest (t ∷ ts) d f g (h, k) e a = go (t .0) (refuse-lowest ts (t .1) f
     go false i e a = ⊎-elim (λ (x, y). absurd x) (i e) a
 
 -- ---- the rows in the scan's order
-
-or-false : (b : Bool) → b || false ≡ b
-or-false true = refl
-or-false false = refl
 
 -- where the first number fits and the second is less, both fit
 range-row : (l : ℕ) (h : Option ℕ) → leb l number-limit && not (large h) && falls l h ≡ leb l number-limit && falls l h

@@ -1,6 +1,6 @@
 -- Several letters mean the union: a byte is of the set that letters spell just when it is of the code of one of them. Assumes nothing.
 use mathlib.Core.Path.{_≡_, refl, sym, ap, ap₂, _∙_}
-use mathlib.Core.Bool.{Bool, true, false, _&&_, _||_}
+use mathlib.Core.Bool.{Bool, true, false, _&&_, _||_, or-assoc, or-false}
 use mathlib.Core.List.{List, [], _∷_, _++_}
 use Prim.Native.Nat.{ℕ, zero, suc, _/_, _%_, _<_}
 use native.Mathlib.Omega.{arith}
@@ -47,14 +47,6 @@ coded-or (c ∷ cs) s t b =
 pub union : (s t b : ℕ) → in-set (bitOr s t) b ≡ (in-set s b || in-set t b)
 unfolding in-set
 union s t b = coded-or all-codes s t b
-
-or-assoc : (x y z : Bool) → ((x || y) || z) ≡ (x || (y || z))
-or-assoc true y z = refl
-or-assoc false y z = refl
-
-or-false : (x : Bool) → (x || false) ≡ x
-or-false true = refl
-or-false false = refl
 
 lettered-more : (s : Bytes) (c b : ℕ) → lettered (s ++ c ∷ []) b ≡ (lettered s b || in-set (bit c) b)
 unfolding lettered

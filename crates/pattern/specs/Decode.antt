@@ -4,7 +4,7 @@ use mathlib.Core.Option.{Option, none, some}
 use Prim.Native.Nat.{ℕ, zero, suc, _+_, _*_, pred}
 use lib.Dec.{eqb}
 use lib.ListN.{length, getD, take, drop}
-use Rattle.pattern.specs.Numbers.{codes-kind, literal-kind, header-size, record-size, open-high}
+use Rattle.pattern.specs.Numbers.{codes-kind, literal-kind, atoms-place, header-size, record-size, open-high}
 use Rattle.pattern.specs.Bytes.{Bytes, same}
 use Rattle.pattern.specs.Syntax.{pattern, atom, body, branches, Syntax, last, then, repeat, codes, literal, group, only, or, size}
 use Rattle.pattern.specs.Scan.{Outcome, refused, accepted, outcome}
@@ -26,7 +26,7 @@ pub record Layout : Type 0 where
   pub pool : ℕ
 
 abbrev pub layout : Bytes → Layout
-layout s = record { records = header-size; pool = header-size + record-size * getD s 5 0 }
+layout s = record { records = header-size; pool = header-size + record-size * getD s atoms-place 0 }
 
 -- the high number that a record's field stands for
 unfoldable pub high-of : ℕ → Option ℕ

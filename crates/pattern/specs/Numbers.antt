@@ -106,6 +106,13 @@ literal-kind = 2
 abbrev pub group-kind : ℕ
 group-kind = 3
 
+-- where the header has the number of atoms, and the pool's length
+abbrev pub atoms-place : ℕ
+atoms-place = 5
+
+abbrev pub length-place : ℕ
+length-place = 6
+
 -- where the records start, and the bytes of each
 abbrev pub header-size : ℕ
 header-size = 8

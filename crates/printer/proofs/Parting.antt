@@ -1,51 +1,35 @@
 -- The parts of an atom in the shortest source, cut as the code writes them. Assumes nothing.
 use mathlib.Core.Path.{_≡_, refl, sym, ap, _∙_}
-use mathlib.Core.Logic.{⊎-elim}
 use mathlib.Core.Bool.{Bool, true, false}
 use mathlib.Core.List.{List, [], _∷_, _++_, map}
-use Prim.Native.Nat.{ℕ, zero, suc, _+_, _*_, _/_, _%_, _<_, _≤_}
+use Prim.Native.Nat.{ℕ, zero, suc, _+_, _/_, _%_, _<_, _≤_}
 use native.Mathlib.Numerals.{add-one}
 use native.Mathlib.Omega.{arith}
 use lib.Dec.{eqb}
 use lib.ListN.{length, getD, drop, length-append}
 use lib.ListN as ListN
-use borrow.Author.Tests.{lt-ltb, le-ltb, eq-eqb, ne-eqb, eqb-true, eqb-false}
+use borrow.Author.Tests.{eq-eqb, ne-eqb, eqb-true, eqb-false}
 use Rattle.pattern.specs.Numbers.{number-limit, zero-byte, point-byte, quote-byte, open-high}
 use Rattle.pattern.specs.Bytes.{Bytes}
 use Rattle.pattern.specs.Codes.{Code, all-codes}
 use Rattle.codes.specs.Rows.{letter-at}
 use Rattle.pattern.specs.Within.{Small, Fits}
-use Rattle.pattern.specs.Print.{decimal-of, decimal, print-low, print-count, print-set, double}
+use Rattle.pattern.specs.Print.{decimal, print-low, print-count, print-set, double}
 use Rattle.pattern.specs.Decode.{high-of}
-use Rattle.pattern.proofs.Tests.{if-true, if-false, le-or-lt}
+use Rattle.pattern.proofs.Tests.{if-true, if-false}
+use Rattle.pattern.proofs.Decimal.{one-digit, more-digits, most, enough}
 use Rattle.table.proofs.Sources.{high-given, count-open, count-exact, count-two, quote-here, plain-here}
 use Rattle.printer.proofs.Storing.{Partly, partly-as, partly-at, partly-byte, partly-room}
 
 -- ---- numbers
 
--- the largest number of f + 1 digits
-most : ℕ → ℕ
-most zero = 9
-most (suc f) = 10 * most f + 9
-
--- a digit more than enough changes nothing
-enough : (f n : ℕ) → n ≤ most f → decimal-of (suc f) n ≡ decimal-of f n
-unfolding decimal-of most
-enough zero n h = if-true _ _ _ (lt-ltb n 10 (omega arith))
-enough (suc f) n h =
-    ⊎-elim
-    (λ k. if-false _ _ _ (le-ltb n 10 k) ∙ ap (λ (v : Bytes). v ++ (zero-byte + n % 10) ∷ []) (enough f (n / 10) (omega arith)) ∙ sym (if-false _ _ _ (le-ltb n 10 k)))
-    (λ k. if-true _ _ _ (lt-ltb n 10 k) ∙ sym (if-true _ _ _ (lt-ltb n 10 k)))
-    (le-or-lt 10 n)
-
 pub decimal-one : (n : ℕ) → n < 10 → decimal n ≡ (zero-byte + n) ∷ []
-unfolding decimal decimal-of
-decimal-one n h = if-true _ _ _ (lt-ltb n 10 h)
+unfolding decimal
+decimal-one n h = one-digit 3 n h
 
 pub decimal-more : (n : ℕ) → 10 ≤ n → n ≤ number-limit → decimal n ≡ decimal (n / 10) ++ (zero-byte + n % 10) ∷ []
-unfolding decimal decimal-of most
-decimal-more n h k =
-    if-false _ _ _ (le-ltb n 10 h) ∙ ap (λ (v : Bytes). v ++ (zero-byte + n % 10) ∷ []) (sym (enough 2 (n / 10) (omega arith)))
+unfolding decimal most
+decimal-more n h k = more-digits 2 n h ∙ ap (λ (v : Bytes). v ++ (zero-byte + n % 10) ∷ []) (enough 2 3 (n / 10) (omega arith) (omega arith))
 
 -- ---- counts
 

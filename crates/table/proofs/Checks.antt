@@ -8,7 +8,7 @@ use lib.Dec.{leb, eqb}
 use lib.ListN.{length, getD, take, drop, length-drop}
 use lib.Seq.{take-all}
 use borrow.Author.Tests.{le-leb, lt-leb, eq-eqb, ne-eqb}
-use Rattle.pattern.specs.Numbers.{source-limit, atom-limit}
+use Rattle.pattern.specs.Numbers.{source-limit, atom-limit, length-place, header-size}
 use Rattle.pattern.specs.Bytes.{Bytes}
 use Rattle.pattern.specs.Syntax.{pattern, Syntax, size, top-size}
 use Rattle.pattern.specs.Table.{pool}
@@ -100,9 +100,9 @@ module _ {s : Bytes} {h : Header} (r : HeadRead s h) where
         subst (λ (h : Header). Ready (drop (h .records) s) (h .atoms) start 0) (sym q)
         (record {
           few = few;
-          small = omega (arith, o .whole, length-drop 8 s, few, r .bytes 6, r .bytes 7);
+          small = omega (arith, o .whole, length-drop header-size s, few, r .bytes length-place, r .bytes (length-place + 1));
           atom = omega arith;
-          pool = omega (arith, o .whole, length-drop 8 s);
+          pool = omega (arith, o .whole, length-drop header-size s);
           source = omega arith;
           shallow = omega arith;
         }))

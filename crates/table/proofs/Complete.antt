@@ -15,8 +15,10 @@ use Rattle.pattern.specs.Table.{pool, choices, kind-field, a-field, b-field, Re
 use Rattle.pattern.specs.Decode.{rec-at, high-of}
 use Rattle.pattern.proofs.Records.{Placed, head-there, tail-there, then-there, or-there}
 use Rattle.pattern.proofs.RoundTrip.{some-atom, some-pattern, some-choice, high-again}
+use Rattle.table.specs.Fields.{record-of}
 use Rattle.table.specs.Checked.{plain, ordered, a-set, after, only-if, choose, its, text, leaf, closed, read-pattern, read-atom, read-branches}
 use Rattle.table.specs.Standing.{Clean, bare, Set}
+use Rattle.table.specs.declared.Record.{Record}
 use Rattle.table.proofs.Options.{kept, first, second, going-on, true-and}
 use Rattle.table.proofs.Clean.{fits-ordered}
 
@@ -64,14 +66,14 @@ module _ (s : Bytes) (A : ℕ) where
   its-ends e (repeat low high b) i p h = ap (λ (r : Rec). r .ends) (its-there e low high b i p h)
 
   -- an atom, by its record
-  abbrev pub by-record : ℕ → Rec → ℕ → ℕ → ℕ → Option (Syntax atom)
+  abbrev pub by-record : ℕ → Record → ℕ → ℕ → ℕ → Option (Syntax atom)
   by-record f r i p d =
       only-if (ltb i A)
       (only-if (ordered (r .low) (r .high))
       (after (
       choose (eqb (r .kind) 3)
       (only-if (ltb d depth-limit) (after (read-branches s A f (r .a) (suc i) p (suc d)) (closed s A (r .b) i)))
-      (leaf s A r p)
+      (leaf s A (r .kind) (r .a) (r .b) p)
       ) λ b. some (repeat (r .low) (high-of (r .high)) b)))
 
   record Complete (f : ℕ) : Type 0 where
@@ -83,13 +85,13 @@ module _ (s : Bytes) (A : ℕ) where
   read-body : (f e low : ℕ) (high : Option ℕ) (b : Syntax body) (i p d : ℕ) → Set s A e (repeat low high b) i p d
       → choose (eqb (kind-field b) 3)
       (only-if (ltb d depth-limit) (after (read-branches s A f (a-field b p) (suc i) p (suc d)) (closed s A (b-field b i) i)))
-      (leaf s A (rec e low high b i p) p) ≡ some b
+      (leaf s A (kind-field b) (a-field b p) (b-field b i) p) ≡ some b
       → read-atom s A (suc f) i p d ≡ some (repeat low high b)
   unfolding read-pattern size Good
   read-body f e low high b i p d h g =
       let n : i < A = omega (arith, h .within) in
       let x = h .good .0 in
-      ap (λ r. by-record f r i p d) (its-there e low high b i p (h .placed))
+      ap (λ r. by-record f (record-of r) i p d) (its-there e low high b i p (h .placed))
       ∙ kept _ _ (lt-ltb _ _ n)
       ∙ kept _ _ (fits-ordered low high x)
       ∙ going-on _ _ g

@@ -13,11 +13,11 @@ use Rattle.pattern.specs.Numbers.{record-size, set-limit, quote-byte}
 use Rattle.pattern.specs.Bytes.{Bytes}
 use Rattle.pattern.specs.Codes.{all-codes}
 use Rattle.pattern.specs.Syntax.{body, Syntax, size}
-use Rattle.pattern.specs.Table.{Rec, pool}
+use Rattle.pattern.specs.Table.{pool}
 use Rattle.pattern.specs.Print.{print-set, double, print}
 use Rattle.table.specs.Opening.{pick}
-use Rattle.table.specs.Checked.{plain, a-set, leaf as leaf-read}
-use Rattle.table.specs.Leaves.{text-of, leaf-of, codes-leaf, text-leaf}
+use Rattle.table.specs.Checked.{plain, a-set, codes-leaf, text-leaf, leaf as leaf-read}
+use Rattle.table.specs.Leaves.{text-of, leaf-of}
 use Rattle.table.specs.declared.lengths.Text.the-variants as texts
 use Rattle.table.specs.declared.walk.Leaf.the-variants as leaf
 use Rattle.table.proofs.Options.{inside, only-some, choose-some, kept, dropped, first, second, and-true}
@@ -82,31 +82,31 @@ module _ (s : Bytes) (A a b p : ℕ) where
       let o : n + 2 ≡ suc (length (double v ++ quote-byte ∷ [])) = omega (arith, z, length-append (double v) (quote-byte ∷ [])) in
       (ap₂ (λ x y. leaf.Is x y) (sym m) o ∙ sym (ap leaf-of (kept _ _ (eq-eqb a p e) ∙ kept _ _ (le-leb (record-size * A + p + b) (length s) f) ∙ kept _ _ y)), omega (arith, z, double-length v, m))
 
--- a leaf by its record's kind
-module _ (s : Bytes) (A : ℕ) (r : Rec) (p : ℕ) where
-  pub leaf-one : r .kind ≡ 1 → leaf-of (codes-leaf (r .a) (r .b)) ≡ leaf-of (leaf-read s A r p)
+-- a leaf by its kind
+module _ (s : Bytes) (A kind a b p : ℕ) where
+  pub leaf-one : kind ≡ 1 → leaf-of (codes-leaf a b) ≡ leaf-of (leaf-read s A kind a b p)
   unfolding leaf-read
-  leaf-one e = sym (ap leaf-of (first _ _ _ (eq-eqb (r .kind) 1 e)))
+  leaf-one e = sym (ap leaf-of (first _ _ _ (eq-eqb kind 1 e)))
 
-  pub leaf-two : (r .kind ≡ 1 → ⊥) → r .kind ≡ 2 → leaf-of (text-leaf s A (r .a) (r .b) p) ≡ leaf-of (leaf-read s A r p)
+  pub leaf-two : (kind ≡ 1 → ⊥) → kind ≡ 2 → leaf-of (text-leaf s A a b p) ≡ leaf-of (leaf-read s A kind a b p)
   unfolding leaf-read
-  leaf-two n e = sym (ap leaf-of (second _ _ _ (ne-eqb (r .kind) 1 n) ∙ kept _ _ (eq-eqb (r .kind) 2 e)))
+  leaf-two n e = sym (ap leaf-of (second _ _ _ (ne-eqb kind 1 n) ∙ kept _ _ (eq-eqb kind 2 e)))
 
-  pub leaf-other : (r .kind ≡ 1 → ⊥) → (r .kind ≡ 2 → ⊥) → leaf.Bad ≡ leaf-of (leaf-read s A r p)
+  pub leaf-other : (kind ≡ 1 → ⊥) → (kind ≡ 2 → ⊥) → leaf.Bad ≡ leaf-of (leaf-read s A kind a b p)
   unfolding leaf-read leaf-of
-  leaf-other n m = sym (ap leaf-of (second _ _ _ (ne-eqb (r .kind) 1 n) ∙ dropped _ _ (ne-eqb (r .kind) 2 m)))
+  leaf-other n m = sym (ap leaf-of (second _ _ _ (ne-eqb kind 1 n) ∙ dropped _ _ (ne-eqb kind 2 m)))
 
   -- a leaf has no atoms inside
-  pub no-atoms : (b : Syntax body) → leaf-read s A r p ≡ some b → size b ≡ 0
+  pub no-atoms : (x : Syntax body) → leaf-read s A kind a b p ≡ some x → size x ≡ 0
   unfolding leaf-read size
-  no-atoms b e =
+  no-atoms x e =
       ⊎-elim
       (λ (k, g). let (y, g1) = only-some _ _ g in
       let (z, g2) = only-some _ _ g1 in
-      ap (λ (b : Syntax body). size b) (sym (inside g2)))
+      ap (λ (x : Syntax body). size x) (sym (inside g2)))
       (λ (k, g). let (y, g1) = only-some _ _ g in
       let (z, g2) = only-some _ _ g1 in
       let (u, g3) = only-some _ _ g2 in
       let (v, g4) = only-some _ _ g3 in
-      ap (λ (b : Syntax body). size b) (sym (inside g4)))
+      ap (λ (x : Syntax body). size x) (sym (inside g4)))
       (choose-some _ _ _ e)

@@ -8,13 +8,14 @@ use native.Mathlib.Omega.{arith}
 use lib.Dec.{T, leb, eqb, eqb→eq, leb→le}
 use lib.ListN.{length, getD, take, drop, length-append, drop-of-length-le}
 use lib.Seq.{drop-cons, getD-take, length-take-le}
-use borrow.Author.Tests.{lt-ltb, le-ltb, le-leb, lt-leb, eq-eqb, ne-eqb}
-use Rattle.pattern.specs.Numbers.{point-byte, quote-byte, open-high, header-size}
+use borrow.Author.Tests.{le-leb, lt-leb, eq-eqb, ne-eqb}
+use Rattle.pattern.specs.Numbers.{point-byte, quote-byte, open-high, atoms-place, header-size}
 use Rattle.pattern.specs.Bytes.{Bytes, between, same}
 use Rattle.pattern.specs.Codes.{all-codes}
 use Rattle.pattern.specs.Print.{decimal-of, decimal, print-low, print-count, print-set, double}
 use Rattle.pattern.specs.Decode.{high-of}
-use Rattle.pattern.proofs.Tests.{and-both, if-true, if-false, all, all-at}
+use Rattle.pattern.proofs.Tests.{and-both, all, all-at}
+use Rattle.pattern.proofs.Decimal.{one-digit, more-digits}
 use Rattle.table.specs.Opening.{pick, opening, header-of, headed, opened-of}
 use Rattle.table.specs.Checked.{plain}
 use Rattle.table.specs.Leaves.{text-of}
@@ -25,13 +26,11 @@ use Rattle.table.proofs.Sources.{count-open, count-two, quote-here, pla
 
 -- ---- numbers
 
-few : (f n : ℕ) → n < 10 → length (decimal-of (suc f) n) ≡ 1
-unfolding decimal-of
-few f n h = ap length (if-true _ _ _ (lt-ltb n 10 h))
+few : (f n : ℕ) → n < 10 → length (decimal-of f n) ≡ 1
+few f n h = ap length (one-digit f n h)
 
 more : (f n : ℕ) → 10 ≤ n → length (decimal-of (suc f) n) ≡ length (decimal-of f (n / 10)) + 1
-unfolding decimal-of
-more f n h = ap length (if-false _ _ _ (le-ltb n 10 h)) ∙ length-append (decimal-of f (n / 10)) _
+more f n h = ap length (more-digits f n h) ∙ length-append (decimal-of f (n / 10)) _
 
 last-digit : (n : ℕ) → length (decimal-of 0 n) ≡ 1
 unfolding decimal-of
@@ -39,15 +38,15 @@ last-digit n = refl
 
 pub digits-1 : (n : ℕ) → n < 10 → 1 ≡ length (decimal n)
 unfolding decimal
-digits-1 n h = sym (few 2 n h)
+digits-1 n h = sym (few 3 n h)
 
 pub digits-2 : (n : ℕ) → 10 ≤ n → n < 100 → 2 ≡ length (decimal n)
 unfolding decimal
-digits-2 n h k = omega (arith, more 2 n h, few 1 (n / 10) (omega arith))
+digits-2 n h k = omega (arith, more 2 n h, few 2 (n / 10) (omega arith))
 
 pub digits-3 : (n : ℕ) → 100 ≤ n → n < 1000 → 3 ≡ length (decimal n)
 unfolding decimal
-digits-3 n h k = omega (arith, more 2 n (omega arith), more 1 (n / 10) (omega arith), few 0 (n / 10 / 10) (omega arith))
+digits-3 n h k = omega (arith, more 2 n (omega arith), more 1 (n / 10) (omega arith), few 1 (n / 10 / 10) (omega arith))
 
 pub digits-4 : (n : ℕ) → 1000 ≤ n → 4 ≡ length (decimal n)
 unfolding decimal
@@ -110,26 +109,26 @@ double-length (b ∷ v) = go (eqb b quote-byte) (double-length v)
 whole : (k : ℕ) {m : ℕ} → m ≡ k → m ≤ k
 whole k e = omega arith
 
-module _ (t : Bytes) (i : ℕ) (long : 5 ≤ length t) where
+module _ (t : Bytes) (i : ℕ) (long : atoms-place ≤ length t) where
   abbrev Marked : ℕ → Type 0
-  Marked k = same (take 5 t) opening ≡ same (drop k (take 5 t)) (drop k opening)
+  Marked k = same (take atoms-place t) opening ≡ same (drop k (take atoms-place t)) (drop k opening)
 
-  mark-step : i < 5 → same (drop i (take 5 t)) (drop i opening) ≡ eqb (getD t i 0) (getD opening i 0) && same (drop (i + 1) (take 5 t)) (drop (i + 1) opening)
+  mark-step : i < atoms-place → same (drop i (take atoms-place t)) (drop i opening) ≡ eqb (getD t i 0) (getD opening i 0) && same (drop (i + 1) (take atoms-place t)) (drop (i + 1) opening)
   mark-step h =
-      same-step (take 5 t) opening i (i + 1) refl (omega (arith, length-take-le 5 t long)) h
-      ∙ ap (λ x. eqb x (getD opening i 0) && same (drop (i + 1) (take 5 t)) (drop (i + 1) opening)) (getD-take 5 t i 0 h)
+      same-step (take atoms-place t) opening i (i + 1) refl (omega (arith, length-take-le atoms-place t long)) h
+      ∙ ap (λ x. eqb x (getD opening i 0) && same (drop (i + 1) (take atoms-place t)) (drop (i + 1) opening)) (getD-take atoms-place t i 0 h)
 
-  pub mark-off : i < 5 → Marked i → (getD t i 0 ≡ getD opening i 0 → ⊥) → false ≡ same (take 5 t) opening
-  mark-off h e n = sym (e ∙ mark-step h ∙ ap (λ b. b && same (drop (i + 1) (take 5 t)) (drop (i + 1) opening)) (ne-eqb _ _ n))
+  pub mark-off : i < atoms-place → Marked i → (getD t i 0 ≡ getD opening i 0 → ⊥) → false ≡ same (take atoms-place t) opening
+  mark-off h e n = sym (e ∙ mark-step h ∙ ap (λ b. b && same (drop (i + 1) (take atoms-place t)) (drop (i + 1) opening)) (ne-eqb _ _ n))
 
-  pub mark-on : i < 5 → Marked i → getD t i 0 ≡ getD opening i 0 → Marked (i + 1)
-  mark-on h e n = e ∙ mark-step h ∙ ap (λ b. b && same (drop (i + 1) (take 5 t)) (drop (i + 1) opening)) (eq-eqb _ _ n)
+  pub mark-on : i < atoms-place → Marked i → getD t i 0 ≡ getD opening i 0 → Marked (i + 1)
+  mark-on h e n = e ∙ mark-step h ∙ ap (λ b. b && same (drop (i + 1) (take atoms-place t)) (drop (i + 1) opening)) (eq-eqb _ _ n)
 
-  pub mark-end : i ≤ 5 → 5 ≤ i → Marked i → true ≡ same (take 5 t) opening
+  pub mark-end : i ≤ atoms-place → atoms-place ≤ i → Marked i → true ≡ same (take atoms-place t) opening
   unfolding same
   mark-end h k e =
-      let n : i ≡ 5 = omega arith in
-      sym (e ∙ ap (λ j. same (drop j (take 5 t)) (drop j opening)) n ∙ ap (λ l. same l []) (drop-of-length-le (take 5 t) (whole 5 (length-take-le 5 t long))))
+      let n : i ≡ atoms-place = omega arith in
+      sym (e ∙ ap (λ j. same (drop j (take atoms-place t)) (drop j opening)) n ∙ ap (λ l. same l []) (drop-of-length-le (take atoms-place t) (whole atoms-place (length-take-le atoms-place t long))))
 
 -- ---- a literal, byte by byte
 
@@ -168,22 +167,22 @@ module _ (s : Bytes) where
   abbrev Heads : Bool → Bool → Bool → Opened
   Heads a b c = pick ((a && b) && c) (opened.Table (header-of s)) opened.Bad
 
-  heads : (a b c : Bool) → leb header-size (length s) ≡ a → same (take 5 s) opening ≡ b → eqb (length s) (header-of s .pool + header-of s .length) ≡ c → opened-of s ≡ Heads a b c
+  heads : (a b c : Bool) → leb header-size (length s) ≡ a → same (take atoms-place s) opening ≡ b → eqb (length s) (header-of s .pool + header-of s .length) ≡ c → opened-of s ≡ Heads a b c
   unfolding opened-of headed
   heads a b c e f g = ap₂ (λ x y. Heads x y (eqb (length s) (header-of s .pool + header-of s .length))) e f ∙ ap (λ z. Heads a b z) g
 
   pub head-short : length s < header-size → opened.Bad ≡ opened-of s
   unfolding pick
-  head-short h = sym (heads false (same (take 5 s) opening) _ (lt-leb _ _ h) refl refl)
+  head-short h = sym (heads false (same (take atoms-place s) opening) _ (lt-leb _ _ h) refl refl)
 
-  pub head-off : header-size ≤ length s → same (take 5 s) opening ≡ false → opened.Bad ≡ opened-of s
+  pub head-off : header-size ≤ length s → same (take atoms-place s) opening ≡ false → opened.Bad ≡ opened-of s
   unfolding pick
   head-off h e = sym (heads true false _ (le-leb _ _ h) e refl)
 
-  pub head-wrong : header-size ≤ length s → same (take 5 s) opening ≡ true → (length s ≡ header-of s .pool + header-of s .length → ⊥) → opened.Bad ≡ opened-of s
+  pub head-wrong : header-size ≤ length s → same (take atoms-place s) opening ≡ true → (length s ≡ header-of s .pool + header-of s .length → ⊥) → opened.Bad ≡ opened-of s
   unfolding pick
   head-wrong h e n = sym (heads true true false (le-leb _ _ h) e (ne-eqb _ _ n))
 
-  pub head-right : header-size ≤ length s → same (take 5 s) opening ≡ true → length s ≡ header-of s .pool + header-of s .length → opened.Table (header-of s) ≡ opened-of s
+  pub head-right : header-size ≤ length s → same (take atoms-place s) opening ≡ true → length s ≡ header-of s .pool + header-of s .length → opened.Table (header-of s) ≡ opened-of s
   unfolding pick
   head-right h e n = sym (heads true true true (le-leb _ _ h) e (eq-eqb _ _ n))

@@ -44,7 +44,7 @@ module _ {s : Bytes} {A : ℕ} {at : Place} where
     short-source = omega (arith, r .source, r .atom, r .pool, r .few, r .small)
 
     -- a record is within the bytes
-    pub record-in : at .atom < A → record-size * at .atom + 10 ≤ length s
+    pub record-in : at .atom < A → record-size * at .atom + record-size ≤ length s
     record-in h = omega (arith, r .pool)
 
   pub moved-then : {next dest : Place} → Moved s A at next → Moved s A next dest → Moved s A at dest

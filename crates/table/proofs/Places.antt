@@ -6,6 +6,7 @@ use native.Mathlib.Nat.{add-assoc}
 use native.Mathlib.Omega.{arith}
 use lib.ListN.{length, getD, drop, length-append}
 use lib.Seq.{drop-cons}
+use Rattle.pattern.specs.Numbers.{record-size}
 use Rattle.pattern.specs.Bytes.{Bytes, word}
 use Rattle.pattern.specs.Table.{Rec, flat}
 use Rattle.pattern.specs.Decode.{field, rec-at}
@@ -25,10 +26,10 @@ module _ (s : Bytes) where
         step j (j + 1) (omega arith) (omega arith) (step (j + 1) k (omega arith) (omega arith) e)
         ∙ ap₂ (λ x y. x ∷ y ∷ ys) (sym lo) (sym hi)
 
-    -- a record's ten bytes
-    pub ten : (j k : ℕ) → k ≡ j + 10 → k ≤ length s → drop j s ≡ flat (rec-at s j ∷ []) (drop k s)
+    -- a record's bytes
+    pub one-record : (j k : ℕ) → k ≡ j + record-size → k ≤ length s → drop j s ≡ flat (rec-at s j ∷ []) (drop k s)
     unfolding flat
-    ten j k n h =
+    one-record j k n h =
         step j (j + 1) (omega arith) (omega arith)
         (step (j + 1) (j + 2) (omega arith) (omega arith)
         (pair (j + 2) (j + 4) (omega arith) (omega arith)

@@ -20,7 +20,7 @@ use Rattle.pattern.specs.Decode.{high-of}
 use Rattle.table.specs.Checked.{plain, a-set, after, only-if, its, text, leaf, closed, read-pattern, read-atom, read-branches}
 use Rattle.table.specs.Standing.{Clean}
 use Rattle.table.proofs.Options.{nothing, inside, after-some, only-some, choose-some, and-true}
-use Rattle.table.proofs.Places.{ten, then-records, then-text}
+use Rattle.table.proofs.Places.{one-record, then-records, then-text}
 use Rattle.table.proofs.Clean.{high-back, ordered-fits}
 
 -- bytes that have room for the records
@@ -53,7 +53,7 @@ module _ (s : Bytes) (A : ℕ) (laid : Laid s A) where
       let g = f (its s A i .ends) in
       let n : suc i + size b ≡ i + suc (size b) = omega arith in
       record {
-        recs = ten s (laid .bytes) (record-size * i) (record-size * suc i) (omega arith) (omega (arith, laid .records))
+        recs = one-record s (laid .bytes) (record-size * i) (record-size * suc i) (omega arith) (omega (arith, laid .records))
             ∙ ap (λ x. flat (its s A i ∷ []) x) (g .recs ∙ ap (λ k. flat (records (its s A i .ends) b (suc i) p) (drop (record-size * k) s)) n)
             ∙ ap (λ x. flat (x ∷ records (its s A i .ends) b (suc i) p) (drop (record-size * (i + suc (size b))) s)) e;
         text = g .text;
@@ -134,7 +134,7 @@ module _ (s : Bytes) (A : ℕ) (laid : Laid s A) where
   Bodied b i p d =
       (its s A i ≡ rec (its s A i .ends) (its s A i .low) (high-of (its s A i .high)) b i p) × ((e : ℕ) → There s A e b (suc i) p d)
 
-  leaf-body : (i p d : ℕ) (b : Syntax body) → i < A → record-size * A + p ≤ length s → leaf s A (its s A i) p ≡ some b → Bodied b i p d
+  leaf-body : (i p d : ℕ) (b : Syntax body) → i < A → record-size * A + p ≤ length s → leaf s A (its s A i .kind) (its s A i .a) (its s A i .b) p ≡ some b → Bodied b i p d
   unfolding leaf kind-field a-field b-field
   leaf-body i p d b h v e =
       ⊎-elim

@@ -17,7 +17,7 @@ use Rattle.pattern.specs.Print.{print-count, print}
 use Rattle.pattern.specs.Decode.{high-of}
 use Rattle.table.specs.Fields.{record-of}
 use Rattle.table.specs.Checked.{ordered, after, only-if, choose, its, leaf as leaf-read, closed, read-pattern, read-atom, read-branches}
-use Rattle.table.specs.Leaves.{as-rec, leaf-of}
+use Rattle.table.specs.Leaves.{leaf-of}
 use Rattle.table.specs.Walk.{place, beyond, passed-by, walked-by, reach}
 use Rattle.table.specs.declared.Record.{Record}
 use Rattle.table.specs.declared.walk.Leaf.the-variants as leaf
@@ -137,9 +137,9 @@ module _ (s : Bytes) (A : ℕ) (at : Place) (d : ℕ) where
 
   module _ (r : Record) (same : r ≡ record-of (its s A (at .atom))) (on : at .atom < A) where
     -- the model at the record that the code has read
-    by-its : (f : ℕ) → read-atom s A (suc f) (at .atom) (at .pool) d ≡ by-record s A f (as-rec r) (at .atom) (at .pool) d
+    by-its : (f : ℕ) → read-atom s A (suc f) (at .atom) (at .pool) d ≡ by-record s A f r (at .atom) (at .pool) d
     unfolding read-pattern
-    by-its f = ap (λ (x : Record). by-record s A f (as-rec x) (at .atom) (at .pool) d) (sym same)
+    by-its f = ap (λ (x : Record). by-record s A f x (at .atom) (at .pool) d) (sym same)
 
     pub atom-unordered : ordered (r .low) (r .high) ≡ false → AtomReads s A at d passed.Bad
     unfolding passed-by
@@ -151,7 +151,7 @@ module _ (s : Bytes) (A : ℕ) (at : Place) (d : ℕ) where
       body-read f =
           choose (eqb (r .kind) 3)
           (only-if (ltb d depth-limit) (after (read-branches s A f (r .a) (suc (at .atom)) (at .pool) (suc d)) (closed s A (r .b) (at .atom))))
-          (leaf-read s A (as-rec r) (at .pool))
+          (leaf-read s A (r .kind) (r .a) (r .b) (at .pool))
 
       no-body : (f : ℕ) → body-read f ≡ none → passed.Bad ≡ passed-by at (read-atom s A (suc f) (at .atom) (at .pool) d)
       unfolding passed-by
@@ -164,17 +164,17 @@ module _ (s : Bytes) (A : ℕ) (at : Place) (d : ℕ) where
 
       -- ---- a leaf
 
-      pub atom-leafless : (r .kind ≡ 3 → ⊥) → leaf.Bad ≡ leaf-of (leaf-read s A (as-rec r) (at .pool)) → AtomReads s A at d passed.Bad
+      pub atom-leafless : (r .kind ≡ 3 → ⊥) → leaf.Bad ≡ leaf-of (leaf-read s A (r .kind) (r .a) (r .b) (at .pool)) → AtomReads s A at d passed.Bad
       atom-leafless k e zero n = absurd (omega arith)
       atom-leafless k e (suc f) n = no-body f (second _ _ _ (ne-eqb _ _ k) ∙ leaf-none _ e)
 
-      pub atom-leaf : (c v w : ℕ) → c ≡ length (print-count (r .low) (high-of (r .high))) → (r .kind ≡ 3 → ⊥) → leaf.Is v w ≡ leaf-of (leaf-read s A (as-rec r) (at .pool))
+      pub atom-leaf : (c v w : ℕ) → c ≡ length (print-count (r .low) (high-of (r .high))) → (r .kind ≡ 3 → ⊥) → leaf.Is v w ≡ leaf-of (leaf-read s A (r .kind) (r .a) (r .b) (at .pool))
           → AtomReads s A at d (passed.To (leaf-on at c v w))
       unfolding size pool print
       atom-leaf c v w g k e zero n = absurd (omega arith)
       atom-leaf c v w g k e (suc f) n =
           let (b, q, x, y) = leaf-some _ e in
-          let m = no-atoms s A (as-rec r) (at .pool) b q in
+          let m = no-atoms s A (r .kind) (r .a) (r .b) (at .pool) b q in
           some-body f b (second _ _ _ (ne-eqb _ _ k) ∙ q) _
           (place-eq (omega (arith, m)) (omega (arith, x)) (omega (arith, g, y, length-append (print-count (r .low) (high-of (r .high))) (print b))))
 

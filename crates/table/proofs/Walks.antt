@@ -10,7 +10,7 @@ use Rattle.pattern.specs.Print.{print-count}
 use Rattle.pattern.specs.Decode.{high-of}
 use Rattle.table.specs.Fields.{record-of}
 use Rattle.table.specs.Checked.{ordered, its, leaf as leaf-read}
-use Rattle.table.specs.Leaves.{as-rec, LeafRead, Short}
+use Rattle.table.specs.Leaves.{LeafRead, Short}
 use Rattle.table.specs.Walk.{Ready, Moved, AtomPassed, PatternWalked, GroupPassed}
 use Rattle.table.specs.declared.Record.{Record}
 use Rattle.table.specs.declared.walk.Leaf.{Leaf}
@@ -35,7 +35,7 @@ pub record Counted (s : Bytes) (A : ℕ) (at : Place) (d : ℕ) (r : Record) (c 
   pub short : c ≤ 9
 
 module _ {s : Bytes} {A : ℕ} {at : Place} {d : ℕ} {r : Record} {c : ℕ} (h : Counted s A at d r c) where
-  module _ (k : r .kind ≡ 3 → ⊥) {x : Leaf} (l : LeafRead s A (at .pool) (leaf-read s A (as-rec r) (at .pool)) x) where
+  module _ (k : r .kind ≡ 3 → ⊥) {x : Leaf} (l : LeafRead s A (at .pool) (leaf-read s A (r .kind) (r .a) (r .b) (at .pool)) x) where
     pub leaf-bad : x ≡ leaf.Bad → AtomPassed s A at d passed.Bad
     leaf-bad e = record { past = tt; reads = atom-leafless s A at d r (h .same) (h .on) (h .fits) k (sym e ∙ l .reads) }
 

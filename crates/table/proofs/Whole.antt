@@ -10,7 +10,7 @@ use lib.Dec.{leb}
 use borrow.Author.Tests.{eqb-true, leb-true, le-leb, lt-leb, eq-eqb}
 use lib.ListN.{length, getD, take, drop, take-append-drop, drop-of-length-le, length-drop}
 use lib.Seq.{getD-drop}
-use Rattle.pattern.specs.Numbers.{source-limit, atom-limit, header-size, record-size}
+use Rattle.pattern.specs.Numbers.{source-limit, atom-limit, atoms-place, length-place, header-size, record-size}
 use Rattle.pattern.specs.Bytes.{Bytes, same}
 use Rattle.pattern.specs.Syntax.{pattern, Syntax, size}
 use Rattle.pattern.specs.Within.{Good, Limited}
@@ -36,15 +36,15 @@ use Rattle.table.proofs.Complete.{found}
 
 pub record Opens (s : Bytes) : Type 0 where
   pub long : header-size ≤ length s
-  pub marked : take 5 s ≡ opening
+  pub marked : take atoms-place s ≡ opening
   pub whole : length s ≡ header-of s .pool + header-of s .length
 
 pub opens : (s : Bytes) → headed s ≡ true → Opens s
 unfolding headed
 opens s e =
-    let (x, c) = and-true (leb header-size (length s) && same (take 5 s) opening) _ e in
-    let (a, b) = and-true (leb header-size (length s)) (same (take 5 s) opening) x in
-    record { long = leb-true _ _ a; marked = same-decides (take 5 s) opening .sound (true-T _ b); whole = eqb-true _ _ c }
+    let (x, c) = and-true (leb header-size (length s) && same (take atoms-place s) opening) _ e in
+    let (a, b) = and-true (leb header-size (length s)) (same (take atoms-place s) opening) x in
+    record { long = leb-true _ _ a; marked = same-decides (take atoms-place s) opening .sound (true-T _ b); whole = eqb-true _ _ c }
 
 -- ---- a tree that is read has these bytes as its table, and is good
 
@@ -60,8 +60,8 @@ module _ (s : Bytes) (bytes : (k : ℕ) → getD s k 0 < 256) where
   open-table : Opens s → s ≡ header (header-of s .atoms) (header-of s .length) (drop header-size s)
   unfolding header
   open-table o =
-      sym (take-append-drop 5 s) ∙ ap (λ x. x ++ drop 5 s) (o .marked)
-      ∙ ap (λ x. opening ++ x) (step s 5 6 (omega arith) (omega (arith, o .long)) (pair s bytes 6 8 (omega arith) (o .long) refl))
+      sym (take-append-drop atoms-place s) ∙ ap (λ x. x ++ drop atoms-place s) (o .marked)
+      ∙ ap (λ x. opening ++ x) (step s atoms-place length-place (omega arith) (omega (arith, o .long)) (pair s bytes length-place header-size (omega arith) (o .long) refl))
 
   pub read-whole : (t : Syntax pattern) → read s ≡ some t → Whole s t
   unfolding read encode
@@ -103,7 +103,7 @@ module _ (t : Syntax pattern) where
   unfolding encode header
   atoms-there = refl
 
-  marked-there : same (take 5 (encode t)) opening ≡ true
+  marked-there : same (take atoms-place (encode t)) opening ≡ true
   unfolding encode header same
   marked-there = refl
 

@@ -42,6 +42,10 @@ ordered low high = leb low number-limit && (eqb high open-high || leb low high &
 unfoldable pub a-set : ℕ → Bool
 a-set set = ltb 0 set && ltb set set-limit
 
+-- codes, by the fields a and b of their record
+abbrev pub codes-leaf : (a b : ℕ) → Option (Syntax body)
+codes-leaf a b = only-if (a-set a) (only-if (eqb b 0) (some (codes a)))
+
 -- ---- the records and the pool, which follow each other, of A atoms
 
 module _ (s : Bytes) (A : ℕ) where
@@ -53,14 +57,16 @@ module _ (s : Bytes) (A : ℕ) where
   abbrev pub text : (p n : ℕ) → Bytes
   text p n = take n (drop (record-size * A + p) s)
 
-  -- a leaf, by its kind, with p bytes of the pool before it
-  unfoldable pub leaf : Rec → (p : ℕ) → Option (Syntax body)
-  leaf r p =
-      choose (eqb (r .kind) codes-kind) (only-if (a-set (r .a)) (only-if (eqb (r .b) 0) (some (codes (r .a)))))
-      (only-if (eqb (r .kind) literal-kind)
-      (only-if (eqb (r .a) p)
-      (only-if (leb (record-size * A + p + r .b) (length s))
-      (only-if (plain (text p (r .b))) (some (literal (text p (r .b))))))))
+  -- a literal, by the fields a and b of its record, with p bytes of the pool before it
+  abbrev pub text-leaf : (a b p : ℕ) → Option (Syntax body)
+  text-leaf a b p =
+      only-if (eqb a p)
+      (only-if (leb (record-size * A + p + b) (length s))
+      (only-if (plain (text p b)) (some (literal (text p b)))))
+
+  -- a leaf, by its kind
+  unfoldable pub leaf : (kind a b p : ℕ) → Option (Syntax body)
+  leaf kind a b p = choose (eqb kind codes-kind) (codes-leaf a b) (only-if (eqb kind literal-kind) (text-leaf a b p))
 
   -- the group of atom i is over where its record says
   unfoldable pub closed : (b i : ℕ) → Syntax branches → Option (Syntax body)
@@ -83,7 +89,7 @@ module _ (s : Bytes) (A : ℕ) where
         (after (
         choose (eqb (its i .kind) group-kind)
         (only-if (ltb d depth-limit) (after (read-branches f (its i .a) (suc i) p (suc d)) (closed (its i .b) i)))
-        (leaf (its i) p)
+        (leaf (its i .kind) (its i .a) (its i .b) p)
         ) λ b. some (repeat (its i .low) (high-of (its i .high)) b)))
 
     pub read-branches : (f k i p d : ℕ) → Option (Syntax branches)

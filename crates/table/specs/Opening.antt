@@ -4,7 +4,7 @@ use mathlib.Core.List.{[], _++_}
 use Prim.Native.Nat.{_+_}
 use lib.Dec.{leb, eqb}
 use lib.ListN.{length, getD, take}
-use Rattle.pattern.specs.Numbers.{mark, version, header-size}
+use Rattle.pattern.specs.Numbers.{mark, version, atoms-place, length-place, header-size}
 use Rattle.pattern.specs.Bytes.{Bytes, word, same}
 use Rattle.pattern.specs.Decode.{field, layout}
 use Rattle.table.specs.declared.opening.Header.{Header}
@@ -22,12 +22,12 @@ opening = mark ++ word version []
 -- what the header says: the number of atoms and of bytes of the pool, and where the records and the pool begin
 abbrev pub header-of : Bytes → Header
 header-of s =
-    record { atoms = getD s 5 0; length = field s 6; records = layout s .records; pool = layout s .pool }
+    record { atoms = getD s atoms-place 0; length = field s length-place; records = layout s .records; pool = layout s .pool }
 
 -- the mark is there, and the length is what the header says
 unfoldable pub headed : Bytes → Bool
 headed s =
-    leb header-size (length s) && same (take 5 s) opening && eqb (length s) (header-of s .pool + header-of s .length)
+    leb header-size (length s) && same (take atoms-place s) opening && eqb (length s) (header-of s .pool + header-of s .length)
 
 unfoldable pub opened-of : Bytes → Opened
 opened-of s = pick (headed s) (opened.Table (header-of s)) opened.Bad

@@ -11,6 +11,7 @@ use walk::Walked;
 ghost use mathlib.Core.Path.{_≡_};
 ghost use Prim.Native.Nat.{_+_, _≤_, _<_};
 ghost use lib.ListN.{length};
+ghost use Rattle.pattern.specs.Numbers.{record-size};
 ghost use Rattle.pattern.specs.Decode.{field, rec-at, decode};
 ghost use Rattle.table.specs.Fields.{record-of};
 ghost use Rattle.table.specs.Walk.{tested};
@@ -53,7 +54,7 @@ fn word(table: &[u8], at: usize) -> u16
 
 // The record at a place.
 pub fn fields(table: &[u8], at: usize) -> Record
-    requires { ⌜ at + 10 ≤ length (now table) ⌝ }
+    requires { ⌜ at + record-size ≤ length (now table) ⌝ }
     ensures { λ r. ⌜ r ≡ record-of (rec-at (now (table .entry)) at) ⌝ }
 {
     Record {

@@ -1,10 +1,13 @@
 // The header of a table.
+use pattern::limits::ATOMS_PLACE;
 use pattern::limits::HEADER_SIZE;
+use pattern::limits::LENGTH_PLACE;
 use pattern::limits::MARK;
 use pattern::limits::RECORD_SIZE;
 ghost use mathlib.Core.Path.{_≡_};
 ghost use Prim.Native.Nat.{_≤_};
 ghost use lib.ListN.{length, take};
+ghost use Rattle.pattern.specs.Numbers.{atoms-place};
 ghost use Rattle.pattern.specs.Bytes.{same};
 ghost use Rattle.table.specs.Opening.{opening, opened-of};
 
@@ -23,11 +26,11 @@ pub enum Opened {
 
 // Whether a table begins with the mark and the version.
 fn marked(table: &[u8]) -> bool
-    requires { ⌜ 5 ≤ length (now table) ⌝ }
-    ensures { λ r. ⌜ r ≡ same (take 5 (now (table .entry))) opening ⌝ }
+    requires { ⌜ atoms-place ≤ length (now table) ⌝ }
+    ensures { λ r. ⌜ r ≡ same (take atoms-place (now (table .entry))) opening ⌝ }
 {
     let mut i = 0;
-    while i < 5 {
+    while i < ATOMS_PLACE {
         if table[i] != MARK[i] {
             return false;
         }
@@ -44,8 +47,8 @@ pub fn head_of(table: &[u8]) -> Opened
         return Opened::Bad;
     }
     if marked(table) {
-        let atoms = super::wide(table[5]) as usize;
-        let length = super::word(table, 6) as usize;
+        let atoms = super::wide(table[ATOMS_PLACE]) as usize;
+        let length = super::word(table, LENGTH_PLACE) as usize;
         let pool = HEADER_SIZE + RECORD_SIZE * atoms;
         if table.len() == pool + length {
             return Opened::Table(Header {

@@ -12,8 +12,8 @@ ghost use mathlib.Core.Path.{_≡_};
 ghost use Prim.Native.Nat.{_+_, _*_, _≤_, _<_};
 ghost use lib.ListN.{length};
 ghost use Rattle.pattern.specs.Numbers.{record-size};
-ghost use Rattle.table.specs.Checked.{ordered, a-set, its, leaf};
-ghost use Rattle.table.specs.Leaves.{as-rec, codes-leaf, text-leaf, LeafReady, LeafRead};
+ghost use Rattle.table.specs.Checked.{ordered, a-set, codes-leaf, its, text-leaf, leaf};
+ghost use Rattle.table.specs.Leaves.{LeafReady, LeafRead};
 ghost use Rattle.table.specs.Walk.{Ready, AtomPassed, PatternWalked, GroupPassed};
 
 // The bytes of a leaf in the pool and in the source.
@@ -100,7 +100,7 @@ fn text_leaf(body: &[u8], atoms: usize, a: u16, b: u16, p: usize) -> Leaf
 // The leaf that a record says, with p bytes of the pool before it.
 fn leaf_at(body: &[u8], atoms: usize, r: Record, p: usize) -> Leaf
     requires { ⌜ LeafReady (now body) atoms p ⌝ }
-    ensures { λ x. ⌜ LeafRead (now (body .entry)) atoms p (leaf (now (body .entry)) atoms (as-rec r) p) x ⌝ }
+    ensures { λ x. ⌜ LeafRead (now (body .entry)) atoms p (leaf (now (body .entry)) atoms (r .kind) (r .a) (r .b) p) x ⌝ }
 {
     if r.kind == kind::CODES {
         return codes_leaf(body, atoms, r.a, r.b, p);
@@ -113,7 +113,7 @@ fn leaf_at(body: &[u8], atoms: usize, r: Record, p: usize) -> Leaf
 
 // Whether atom i ends its branch: the second byte of its record.
 fn ends_of(body: &[u8], i: usize) -> u8
-    requires { ⌜ (record-size * i + 10 ≤ length (now body)) × (i < 256) ⌝ }
+    requires { ⌜ (record-size * i + record-size ≤ length (now body)) × (i < 256) ⌝ }
     ensures { λ r. ⌜ r ≡ its (now (body .entry)) 0 i .ends ⌝ }
 {
     body[RECORD_SIZE * i + 1]

@@ -9,9 +9,9 @@ use lib.Seq.{length-take-le}
 use Rattle.pattern.proofs.Tests.{le-or-lt}
 use Rattle.lines.specs.Sizes.{held-limit}
 use Rattle.lines.specs.Reply.{zeros}
-use Rattle.lines.specs.Output.{told, kept}
+use Rattle.lines.specs.Output.{told, kept, buffered}
 use Rattle.pattern.proofs.Stores.{puts-length}
-use Rattle.lines.proofs.Told.{took-ended, turn-told, turn-kept, turn-ended, kept-ended}
+use Rattle.lines.proofs.Told.{walk-ended, kept-walks, took-ended, turn-told, turn-kept, turn-buffered, turn-ended, ended-buffered, drop-stored, same-after}
 use Rattle.lines.proofs.chunk.answer_chunk.Statement.{statement}
 use Rattle.lines.proofs.chunk.answer_chunk.Tie as tie
 
@@ -22,12 +22,13 @@ Inv-loop chunk from line₀ held scratch₀ out₀ next₀ n₀ end₀ line scra
     × (take end out ++ told (take n line) (drop next chunk) ≡ told (take held line₀) (drop from chunk))
     × (kept (take n line) (drop next chunk) ≡ kept (take held line₀) (drop from chunk))
     × (next ≡ from → end ≡ 0) × (scratch₀ ≡ zeros → scratch ≡ zeros)
+    × (buffered line (take n line) (drop next chunk) ≡ buffered line₀ (take held line₀) (drop from chunk)) × (drop end out ≡ drop end out₀)
 
 abbrev μ-loop : tie.MeasureT-loop
 μ-loop chunk from line₀ held scratch₀ out₀ next₀ n₀ end₀ line scratch out next n end = length chunk - next
 
 loop-holds : tie.Need-loop-holds Inv-loop μ-loop
-loop-holds c = (omega arith, omega arith, omega arith, omega arith, refl, refl, refl, refl, refl, λ e. refl, λ e. e)
+loop-holds c = (omega arith, omega arith, omega arith, omega arith, refl, refl, refl, refl, refl, λ e. refl, λ e. e, refl, refl)
 
 sub-if1 : tie.Need-sub-if1 Inv-loop μ-loop
 sub-if1 c = omega arith
@@ -47,6 +48,8 @@ returns c =
     record {
       tells = k .inv .7;
       keeps = k .inv .8;
+      leaves = k .inv .11;
+      stays = k .inv .12;
       moves = λ m. ⊎-elim (λ h. absurd (omega (arith, k .inv .9 (omega arith)))) (λ h. h) (le-or-lt (k .next) (c .before .before .before .before .before .before .before .args .from));
       next-fits = k .inv .1;
       held-fits = k .inv .2;
@@ -86,9 +89,11 @@ loop-again c =
       c .before .before .before .before .answer-line .kept .1 .0 ∙ k .inv .5,
       puts-length (w .stores) ∙ k .inv .6,
       turn-ended _ _ (took-ended t (c .before .before .before .before .before .before .before .before .if2 .taken)) (k .inv .7) (w .stores) (omega (arith, w .stores .next, w .short)),
-      kept-ended _ _ _ _ (took-ended t (c .before .before .before .before .before .before .before .before .if2 .taken)) ∙ k .inv .8,
+      walk-ended kept-walks (took-ended t (c .before .before .before .before .before .before .before .before .if2 .taken)) ∙ k .inv .8,
       λ e. absurd (omega arith),
       λ e. r .clean (k .inv .10 e),
+      ended-buffered t (c .before .before .before .before .before .before .before .before .if2 .taken) (omega (arith, t .held-fits, t .size)) ∙ k .inv .11,
+      drop-stored (omega (arith, w .stores .next, w .short)) (w .stores) ∙ same-after _ _ (k .end) (c .before .before .before .before .answer-line .result) (omega (arith, w .stores .next)) (k .inv .12),
     )
 
 loop-less-2 : tie.Need-loop-less-2 Inv-loop μ-loop
@@ -110,6 +115,8 @@ loop-again-2 c =
       turn-kept t (c .if2 .left) ∙ k .inv .8,
       λ e. absurd (omega arith),
       k .inv .10,
+      turn-buffered t (c .if2 .left) (omega (arith, t .held-fits, t .size)) ∙ k .inv .11,
+      k .inv .12,
     )
 
 same-length-4 : tie.Need-same-length-4 Inv-loop μ-loop
@@ -127,6 +134,8 @@ returns-2 c =
     record {
       tells = k .inv .7;
       keeps = k .inv .8;
+      leaves = k .inv .11;
+      stays = k .inv .12;
       moves = λ m. omega arith;
       next-fits = k .inv .1;
       held-fits = k .inv .2;

@@ -1,24 +1,26 @@
 -- `line::take_line` meets its contract: taking from here on is taking from the start. What is left of the chunk falls. Assumes nothing.
 use mathlib.Core.Path.{_≡_, refl, sym, ap, _∙_}
 use mathlib.Core.Bool.{cond}
-use Prim.Native.Nat.{suc, _≤_, _-_}
+use Prim.Native.Nat.{suc, _≤_, _+_, _-_}
 use native.Mathlib.Omega.{arith}
 use lib.ListN.{length, take, drop, length-set}
+use lib.Seq.{drop-set-lt}
 use Rattle.lines.specs.Sizes.{held-limit}
 use Rattle.lines.specs.Output.{taken}
-use Rattle.lines.specs.Held.{rest-if}
+use Rattle.lines.specs.Taking.{rest-if}
+use Rattle.lines.proofs.Told.{same-after}
 use Rattle.lines.proofs.Lines.{taken-newline, taken-none, turn-room, turn-full}
 use Rattle.lines.proofs.line.take_line.Statement.{statement}
 use Rattle.lines.proofs.line.take_line.Tie as tie
 
 abbrev Inv-loop : tie.InvT-loop
-Inv-loop chunk from line₀ held at₀ n₀ line at n = (from ≤ at) × (at ≤ length chunk) × (n ≤ held-limit) × (length line ≡ length line₀) × (taken (take n line) (drop at chunk) ≡ taken (take held line₀) (drop from chunk))
+Inv-loop chunk from line₀ held at₀ n₀ line at n = (from ≤ at) × (at ≤ length chunk) × (n ≤ held-limit) × (length line ≡ length line₀) × (taken (take n line) (drop at chunk) ≡ taken (take held line₀) (drop from chunk)) × (drop n line ≡ drop n line₀)
 
 abbrev μ-loop : tie.MeasureT-loop
 μ-loop chunk from line₀ held at₀ n₀ line at n = length chunk - at
 
 loop-holds : tie.Need-loop-holds Inv-loop μ-loop
-loop-holds c = (omega arith, omega arith, omega arith, refl, refl)
+loop-holds c = (omega arith, omega arith, omega arith, refl, refl, refl)
 
 shared-slice-read-b : tie.Need-shared-slice-read-b Inv-loop μ-loop
 shared-slice-read-b c = omega arith
@@ -35,6 +37,7 @@ returns c =
     let k = c .before .before .before in
     record {
       equal = sym (taken-newline _ _ _ (c .before .before .loop-test .taken) (c .if1 .taken)) ∙ k .loop .inv .4;
+      stays = k .loop .inv .5;
       size = k .loop .inv .3;
       held-fits = k .loop .inv .2;
       next-fits = omega arith;
@@ -59,6 +62,7 @@ loop-again c =
       omega arith,
       simp length-set (k .loop .inv .3),
       turn-room _ _ _ _ (c .before .before .before .loop-test .taken) (c .before .if1 .left) (c .if2 .taken) (omega arith) ∙ k .loop .inv .4,
+      drop-set-lt (k .loop .n + 1) _ (k .loop .n) _ (omega arith) ∙ same-after _ _ (k .loop .n) (k .loop .n + 1) (omega arith) (k .loop .inv .5),
     )
 
 loop-less-2 : tie.Need-loop-less-2 Inv-loop μ-loop
@@ -72,6 +76,7 @@ loop-again-2 c =
       omega arith,
       k .loop .inv .3,
       turn-full _ _ _ _ (c .before .before .before .loop-test .taken) (c .before .if1 .left) (c .if2 .left) (omega arith) ∙ k .loop .inv .4,
+      k .loop .inv .5,
     )
 
 same-length-2 : tie.Need-same-length-2 Inv-loop μ-loop
@@ -83,6 +88,7 @@ returns-2 c =
     let k = c .before in
     record {
       equal = sym (taken-none _ _ _ (c .loop-test .left)) ∙ k .loop .inv .4;
+      stays = k .loop .inv .5;
       size = k .loop .inv .3;
       held-fits = k .loop .inv .2;
       next-fits = k .loop .inv .1;

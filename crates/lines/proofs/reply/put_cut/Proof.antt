@@ -3,6 +3,7 @@ use mathlib.Core.Path.{sym}
 use mathlib.Core.List.{[]}
 use lib.Seq.{length-take-le}
 use native.Mathlib.Omega.{arith}
+use Rattle.lines.specs.Sizes.{reply-room}
 use Rattle.lines.proofs.Replies.{within-same, stored-within, refused-short, table-fits, table-reply-is, refused-reply-is}
 use borrow.Author.Needs.{needs}
 use Rattle.lines.proofs.reply.put_cut.Statement.{statement}
@@ -50,7 +51,7 @@ same-length-3 : tie.Need-same-length-3
 same-length-3 c = search needs
 
 returns-2 : tie.Need-returns-2
-returns-2 c = record { within = within-same (refused-reply-is _ _ _ _ (c .before .before .before .before .before .before .before .before .compile .ensures) _ _ (c .before .before .before .before .before .number .given .1)) (stored-within 400 (omega (arith, refused-short (c .before .before .before .before .before .number .given .0 .0) (c .before .before .before .before .before .number .given .0 .1 .0) (omega (arith, c .before .before .before .before .known-told2 .given)) (omega (arith, c .before .before .before .before .known-told2 .given)))) (c .before .before .put-refused .ensures)); clean = λ e. e }
+returns-2 c = record { within = within-same (refused-reply-is _ _ _ _ (c .before .before .before .before .before .before .before .before .compile .ensures) _ _ (c .before .before .before .before .before .number .given .1)) (stored-within reply-room (omega (arith, refused-short (c .before .before .before .before .before .number .given .0 .0) (c .before .before .before .before .before .number .given .0 .1 .0) (omega (arith, c .before .before .before .before .known-told2 .given)) (omega (arith, c .before .before .before .before .known-told2 .given)))) (c .before .before .put-refused .ensures)); clean = λ e. e }
 
 pub put-cut-spec : {M : Type 1} → statement M
 put-cut-spec =

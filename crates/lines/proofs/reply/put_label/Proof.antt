@@ -1,6 +1,7 @@
 -- `reply::put_label` meets its contract. Assumes nothing.
 use mathlib.Core.Path.{_∙_}
 use native.Mathlib.Omega.{arith}
+use Rattle.lines.specs.Sizes.{reply-room}
 use Rattle.lines.proofs.Scratch.{match-clean}
 use Rattle.lines.proofs.Replies.{within-same, stored-within, within-more, unmatched-short, unmatched-reply, no-reply, yes-reply}
 use borrow.Author.Needs.{needs}
@@ -33,7 +34,7 @@ returns c =
     let a = c .before .before .before .before .before .before .before .numbers in
     let m = c .before .before .before .before .before .before .before .before .before .before .before .match-label in
     record {
-      within = within-same (unmatched-reply _ _ _ (c .before .before .before .before .before .before .before .before .before .before .before .before .before .before .before .before .before .before .pre .0) (m .result) _ _ (m .ensures) _ (a .ensures) (c .before .before .before .before .before .if1 .taken)) (stored-within 400 (omega (arith, unmatched-short (a .result .number) (omega (arith, c .before .before .before .before .before .before .struct-known .given)))) (c .before .before .put-unmatched .ensures));
+      within = within-same (unmatched-reply _ _ _ (c .before .before .before .before .before .before .before .before .before .before .before .before .before .before .before .before .before .before .pre .0) (m .result) _ _ (m .ensures) _ (a .ensures) (c .before .before .before .before .before .if1 .taken)) (stored-within reply-room (omega (arith, unmatched-short (a .result .number) (omega (arith, c .before .before .before .before .before .before .struct-known .given)))) (c .before .before .put-unmatched .ensures));
       clean = match-clean _ _ _ _ _ (m .ensures) (m .kept .1 .1 .0 ∙ c .before .before .before .before .before .before .before .before .before .before .before .before .before .before .before .before .before .before .pre .0);
     }
 
@@ -51,7 +52,7 @@ returns-2 c =
     let a = c .before .before .before .before .before .before .before .before .numbers in
     let m = c .before .before .before .before .before .before .before .before .before .before .before .before .match-label in
     record {
-      within = within-same (no-reply _ _ _ (c .before .before .before .before .before .before .before .before .before .before .before .before .before .before .before .before .before .before .before .pre .0) (m .result) _ _ (m .ensures) _ (a .ensures) (c .before .before .before .before .before .before .if1 .left) (c .before .before .before .before .if2 .taken)) (stored-within 400 (omega arith) (c .before .before .put-byte .ensures));
+      within = within-same (no-reply _ _ _ (c .before .before .before .before .before .before .before .before .before .before .before .before .before .before .before .before .before .before .before .pre .0) (m .result) _ _ (m .ensures) _ (a .ensures) (c .before .before .before .before .before .before .if1 .left) (c .before .before .before .before .if2 .taken)) (stored-within reply-room (omega arith) (c .before .before .put-byte .ensures));
       clean = match-clean _ _ _ _ _ (m .ensures) (m .kept .1 .1 .0 ∙ c .before .before .before .before .before .before .before .before .before .before .before .before .before .before .before .before .before .before .before .pre .0);
     }
 

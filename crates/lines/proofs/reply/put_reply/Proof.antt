@@ -2,6 +2,8 @@
 use mathlib.Core.Path.{sym}
 use lib.Seq.{length-take-le}
 use native.Mathlib.Omega.{arith}
+use Rattle.pattern.specs.Bytes.{bytes}
+use Rattle.lines.specs.Sizes.{reply-room}
 use Rattle.lines.proofs.Replies.{within-same, stored-within, long-reply, whole-reply, cut-replied}
 use borrow.Author.Needs.{needs}
 use Rattle.lines.proofs.reply.put_reply.Statement.{statement}
@@ -14,7 +16,8 @@ same-length : tie.Need-same-length
 same-length c = search needs
 
 returns : tie.Need-returns
-returns c = record { within = within-same (long-reply _ (c .before .before .before .before .if1 .taken)) (stored-within 400 (omega arith) (c .before .before .put-byte .ensures)); clean = λ e. e }
+unfolding bytes
+returns c = record { within = within-same (long-reply _ (c .before .before .before .before .if1 .taken)) (stored-within reply-room (omega arith) (c .before .before .put-byte .ensures)); clean = λ e. e }
 
 tab-at-requires : tie.Need-tab-at-requires
 tab-at-requires c κs = search needs
@@ -26,7 +29,8 @@ same-length-2 : tie.Need-same-length-2
 same-length-2 c = search needs
 
 returns-2 : tie.Need-returns-2
-returns-2 c = record { within = within-same (whole-reply _ (c .before .before .before .before .before .before .if1 .left) _ (c .before .before .before .before .before .tab-at .ensures) (c .before .before .before .before .if2 .taken)) (stored-within 400 (omega arith) (c .before .before .put-byte2 .ensures)); clean = λ e. e }
+unfolding bytes
+returns-2 c = record { within = within-same (whole-reply _ (c .before .before .before .before .before .before .if1 .left) _ (c .before .before .before .before .before .tab-at .ensures) (c .before .before .before .before .if2 .taken)) (stored-within reply-room (omega arith) (c .before .before .put-byte2 .ensures)); clean = λ e. e }
 
 slice-aggregate-put-cut : tie.Need-slice-aggregate-put-cut
 slice-aggregate-put-cut c = sym (length-take-le _ _ (omega arith))

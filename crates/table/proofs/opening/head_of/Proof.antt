@@ -4,6 +4,7 @@ use Prim.Native.Nat.{_+_, _*_}
 use native.Mathlib.Omega.{arith}
 use lib.ListN.{getD}
 use borrow.Author.Needs.{needs}
+use Rattle.pattern.specs.Numbers.{atoms-place, length-place, header-size, record-size}
 use Rattle.pattern.specs.Decode.{field}
 use Rattle.table.specs.declared.opening.Opened.the-variants as opened
 use Rattle.table.proofs.Measures.{head-short, head-off, head-wrong, head-right}
@@ -43,16 +44,16 @@ add-if3 c = search needs
 returns-2 : tie.Need-returns-2
 returns-2 c =
     let s = c .before .before .before .before .before .before .before .before .args .table .now in
-    let a : c .before .before .wide .result ≡ getD s 5 0 = c .before .before .wide .ensures .0 in
-    let n : c .before .word .result ≡ field s 6 = c .before .word .ensures in
-    (λ j. opened.Table (record { atoms = a j; length = n j; records = 8; pool = 8 + 10 * a j }))
+    let a : c .before .before .wide .result ≡ getD s atoms-place 0 = c .before .before .wide .ensures .0 in
+    let n : c .before .word .result ≡ field s length-place = c .before .word .ensures in
+    (λ j. opened.Table (record { atoms = a j; length = n j; records = header-size; pool = header-size + record-size * a j }))
     ∙ head-right s (c .before .before .before .before .before .before .if1 .left) (sym (c .before .before .before .before .before .marked .ensures) ∙ c .before .before .before .before .if2 .taken) (omega (arith, c .if3 .taken, a, n))
 
 returns-3 : tie.Need-returns-3
 returns-3 c =
     let s = c .before .before .before .before .before .before .before .before .args .table .now in
-    let a : c .before .before .wide .result ≡ getD s 5 0 = c .before .before .wide .ensures .0 in
-    let n : c .before .word .result ≡ field s 6 = c .before .word .ensures in
+    let a : c .before .before .wide .result ≡ getD s atoms-place 0 = c .before .before .wide .ensures .0 in
+    let n : c .before .word .result ≡ field s length-place = c .before .word .ensures in
     head-wrong s (c .before .before .before .before .before .before .if1 .left) (sym (c .before .before .before .before .before .marked .ensures) ∙ c .before .before .before .before .if2 .taken) (λ e. c .if3 .left (omega (arith, e, a, n)))
 
 returns-4 : tie.Need-returns-4

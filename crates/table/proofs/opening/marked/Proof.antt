@@ -3,6 +3,7 @@ use mathlib.Core.Path.{_≡_, refl}
 use Prim.Native.Nat.{_-_, _≤_}
 use native.Mathlib.Omega.{arith}
 use lib.ListN.{take, drop}
+use Rattle.pattern.specs.Numbers.{atoms-place}
 use Rattle.pattern.specs.Bytes.{same}
 use Rattle.table.specs.Opening.{opening}
 use Rattle.table.proofs.Measures.{mark-off, mark-on, mark-end}
@@ -10,10 +11,10 @@ use Rattle.table.proofs.opening.marked.Statement.{statement}
 use Rattle.table.proofs.opening.marked.Tie as tie
 
 abbrev Inv-loop : tie.InvT-loop
-Inv-loop table i₀ i = (i ≤ 5) × (same (take 5 table) opening ≡ same (drop i (take 5 table)) (drop i opening))
+Inv-loop table i₀ i = (i ≤ atoms-place) × (same (take atoms-place table) opening ≡ same (drop i (take atoms-place table)) (drop i opening))
 
 abbrev μ-loop : tie.MeasureT-loop
-μ-loop table i₀ i = 5 - i
+μ-loop table i₀ i = atoms-place - i
 
 loop-holds : tie.Need-loop-holds Inv-loop μ-loop
 loop-holds c = (omega arith, refl)

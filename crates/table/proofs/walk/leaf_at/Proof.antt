@@ -1,7 +1,6 @@
 -- `walk::leaf_at` meets its contract, kind by kind. Assumes nothing.
 use mathlib.Core.Path.{_∙_}
 use borrow.Author.Needs.{needs}
-use Rattle.table.specs.Leaves.{as-rec}
 use Rattle.table.proofs.Leafing.{leaf-one, leaf-two, leaf-other}
 use Rattle.table.proofs.walk.leaf_at.Statement.{statement}
 use Rattle.table.proofs.walk.leaf_at.Tie as tie
@@ -12,7 +11,7 @@ codes-leaf-requires c κs = search needs
 returns : tie.Need-returns
 returns c =
     let a = c .before .before .before .before .args in
-    record { short = c .codes-leaf .ensures .short; reads = c .codes-leaf .ensures .reads ∙ leaf-one (a .body .now) (a .atoms) (as-rec (a .r)) (a .p) (c .before .if1 .taken) }
+    record { short = c .codes-leaf .ensures .short; reads = c .codes-leaf .ensures .reads ∙ leaf-one (a .body .now) (a .atoms) (a .r .kind) (a .r .a) (a .r .b) (a .p) (c .before .if1 .taken) }
 
 text-leaf-requires : tie.Need-text-leaf-requires
 text-leaf-requires c κs = search needs
@@ -20,12 +19,12 @@ text-leaf-requires c κs = search needs
 returns-2 : tie.Need-returns-2
 returns-2 c =
     let a = c .before .before .before .before .before .before .args in
-    record { short = c .text-leaf .ensures .short; reads = c .text-leaf .ensures .reads ∙ leaf-two (a .body .now) (a .atoms) (as-rec (a .r)) (a .p) (c .before .before .before .if1 .left) (c .before .if2 .taken) }
+    record { short = c .text-leaf .ensures .short; reads = c .text-leaf .ensures .reads ∙ leaf-two (a .body .now) (a .atoms) (a .r .kind) (a .r .a) (a .r .b) (a .p) (c .before .before .before .if1 .left) (c .before .if2 .taken) }
 
 returns-3 : tie.Need-returns-3
 returns-3 c =
     let a = c .before .before .before .before .before .args in
-    record { short = tt; reads = leaf-other (a .body .now) (a .atoms) (as-rec (a .r)) (a .p) (c .before .before .if1 .left) (c .if2 .left) }
+    record { short = tt; reads = leaf-other (a .body .now) (a .atoms) (a .r .kind) (a .r .a) (a .r .b) (a .p) (c .before .before .if1 .left) (c .if2 .left) }
 
 pub leaf-at-spec : {M : Type 1} → statement M
 leaf-at-spec =

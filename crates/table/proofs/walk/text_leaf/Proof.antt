@@ -3,6 +3,7 @@ use mathlib.Core.Path.{_∙_, sym}
 use Prim.Native.Nat.{_+_, _*_, _-_}
 use native.Mathlib.Omega.{arith}
 use borrow.Author.Needs.{needs}
+use Rattle.pattern.specs.Numbers.{record-size}
 use Rattle.table.proofs.Leafing.{text-apart, text-past, text-bad, text-good}
 use Rattle.table.proofs.walk.text_leaf.Statement.{statement}
 use Rattle.table.proofs.walk.text_leaf.Tie as tie
@@ -34,13 +35,13 @@ enum-known-n c = search needs
 add-t19 : tie.Need-add-t19
 add-t19 c =
     let a = c .before .before .before .before .before .before .before .before .args in
-    let (e, m) = text-good (a .body .now) (a .atoms) (a .a) (a .b) (a .p) (10 * a .atoms + a .p + a .b - (10 * a .atoms + a .p)) _ (c .before .before .before .before .before .before .if1 .taken) (c .before .before .before .before .before .if2 .taken) (omega arith) (sym (c .before .n .given .1) ∙ c .before .before .before .text-length .ensures) in
+    let (e, m) = text-good (a .body .now) (a .atoms) (a .a) (a .b) (a .p) (record-size * a .atoms + a .p + a .b - (record-size * a .atoms + a .p)) _ (c .before .before .before .before .before .before .if1 .taken) (c .before .before .before .before .before .if2 .taken) (omega arith) (sym (c .before .n .given .1) ∙ c .before .before .before .text-length .ensures) in
     omega (arith, m)
 
 returns : tie.Need-returns
 returns c =
     let a = c .before .before .before .before .before .before .before .before .args in
-    let (e, m) = text-good (a .body .now) (a .atoms) (a .a) (a .b) (a .p) (10 * a .atoms + a .p + a .b - (10 * a .atoms + a .p)) _ (c .before .before .before .before .before .before .if1 .taken) (c .before .before .before .before .before .if2 .taken) (omega arith) (sym (c .before .n .given .1) ∙ c .before .before .before .text-length .ensures) in
+    let (e, m) = text-good (a .body .now) (a .atoms) (a .a) (a .b) (a .p) (record-size * a .atoms + a .p + a .b - (record-size * a .atoms + a .p)) _ (c .before .before .before .before .before .before .if1 .taken) (c .before .before .before .before .before .if2 .taken) (omega arith) (sym (c .before .n .given .1) ∙ c .before .before .before .text-length .ensures) in
     record { short = (c .before .before .before .before .before .if2 .taken, omega (arith, m)); reads = e }
 
 enum-told : tie.Need-enum-told
@@ -49,7 +50,7 @@ enum-told c = search needs
 returns-2 : tie.Need-returns-2
 returns-2 c =
     let a = c .before .before .before .before .before .before .before .args in
-    record { short = tt; reads = text-bad (a .body .now) (a .atoms) (a .a) (a .b) (a .p) (10 * a .atoms + a .p + a .b - (10 * a .atoms + a .p)) (c .before .before .before .before .before .if1 .taken) (c .before .before .before .before .if2 .taken) (omega arith) (sym (c .enum-told .given .1) ∙ c .before .before .text-length .ensures) }
+    record { short = tt; reads = text-bad (a .body .now) (a .atoms) (a .a) (a .b) (a .p) (record-size * a .atoms + a .p + a .b - (record-size * a .atoms + a .p)) (c .before .before .before .before .before .if1 .taken) (c .before .before .before .before .if2 .taken) (omega arith) (sym (c .enum-told .given .1) ∙ c .before .before .text-length .ensures) }
 
 returns-3 : tie.Need-returns-3
 returns-3 c =

@@ -14,9 +14,10 @@ unfoldable pub rest-if : Bool → Bytes → Option Bytes
 rest-if true s = some s
 rest-if false s = none
 
--- the line's bytes from held ones on, in a buffer before and after
+-- the line's bytes from held ones on, in a buffer before and after; its bytes past those held stay
 pub record Took (chunk : Bytes) (from : ℕ) (line : Bytes) (held : ℕ) (after : Bytes) (r : Taken) : Type 0 where
   pub equal : (take (r .held) after, rest-if (r .ended) (drop (r .next) chunk)) ≡ taken (take held line) (drop from chunk)
+  pub stays : drop (r .held) after ≡ drop (r .held) line
   pub size : length after ≡ length line
   pub held-fits : r .held ≤ held-limit
   pub next-fits : r .next ≤ length chunk
