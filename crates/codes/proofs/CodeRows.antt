@@ -12,7 +12,7 @@ use Rattle.pattern.specs.Bytes.{Bytes, between}
 use Rattle.pattern.specs.Codes.{Code, all-codes, ranged, coded, bit-among}
 use Rattle.codes.specs.declared.Code.{Code as Row}
 use Rattle.codes.specs.Rows.{letter-at, ranges-at, in-four}
-use Rattle.pattern.proofs.Tests.{and-both, all, all-at}
+use Rattle.pattern.proofs.Tests.{and-both, agree, agreed, all, all-at}
 
 -- the test passes at each entry and its place, counted from i
 unfoldable pub every : {A : Type 0} → (ℕ → A → Bool) → ℕ → List A → Bool
@@ -43,22 +43,10 @@ unfolding all-codes flatten
 rows = map (λ (c : Code). record { letter = c .letter; ranges = take 8 (flatten (c .ranges) ++ 1 ∷ 0 ∷ 1 ∷ 0 ∷ 1 ∷ 0 ∷ []) }) all-codes
 
 -- the ranges of a row are those of its code, at every byte
-agree : Bool → Bool → Bool
-agree true b = b
-agree false true = false
-agree false false = true
-
-agree-eq : (a b : Bool) → T (agree a b) → a ≡ b
-unfolding agree
-agree-eq true true t = refl
-agree-eq true false t = absurd t
-agree-eq false true t = absurd t
-agree-eq false false t = refl
-
 pub row-ranges : (k b : ℕ) (d : Row) → k < 7 → b < 256 → in-four (getD rows k d .ranges) b ≡ ranged (ranges-at k) b
 unfolding rows every all agree ranges-at all-codes ranged between
 row-ranges k b d h g =
-    agree-eq _ _ (all-at 256 (λ b. agree (in-four (getD rows k d .ranges) b) (ranged (ranges-at k) b))
+    agreed _ _ (all-at 256 (λ b. agree (in-four (getD rows k d .ranges) b) (ranged (ranges-at k) b))
     (rule-at (λ k (x : Row). all 256 (λ b. agree (in-four (x .ranges) b) (ranged (ranges-at k) b))) rows d tt k h) b g)
 
 -- ---- the codes from the one with bit k on

@@ -5,7 +5,7 @@ use mathlib.Core.List.{List, [], _∷_, _++_, append-assoc}
 use Prim.Native.Nat.{ℕ, _+_, _*_, _<_, _≤_}
 use native.Mathlib.Omega.{arith}
 use lib.ListN.{length, take, drop, set, length-append}
-use lib.Seq.{sets-eq, take-append-seam, length-take-le}
+use lib.Seq.{take-append-seam, length-take-le}
 use borrow.Author.Tests.{le-leb, lt-leb}
 use Rattle.pattern.specs.Numbers.{source-limit, atom-limit, header-size, record-size, mark, version, LONG, FORM, ROOM}
 use Rattle.pattern.specs.Bytes.{Bytes, word, over}
@@ -24,18 +24,13 @@ use Rattle.scanner.specs.Scans.{scanned}
 use Rattle.pattern.specs.Stores.{stored}
 use Rattle.compiler.specs.Readers.{Refused, PatternIs, PatternRead}
 use Rattle.compiler.specs.Compiling.{Emits, emitted}
-use Rattle.pattern.proofs.Stores.{stored-then, stored-more}
+use Rattle.pattern.proofs.Stores.{stored-then, stored-more, stored-over}
 use Rattle.compiler.proofs.Descent.{whole-form, whole-accepted}
 use Rattle.compiler.proofs.Written.{flat-over}
 use Rattle.compiler.proofs.Leaves.{state}
 
 abbrev output : Answer → Bytes → Output
 output a b = record { answer = a; bytes = b }
-
--- a store at the start
-stored-over : (l v : Bytes) → length v ≤ length l → stored l 0 v ≡ over v l
-unfolding stored over
-stored-over l v h = let z : 0 + length v ≡ length v = omega arith in sets-eq v l 0 (omega arith) ∙ rw z
 
 take-stored : (l v : Bytes) (n : ℕ) → n ≡ length v → n ≤ length l → take n (stored l 0 v) ≡ v
 unfolding over

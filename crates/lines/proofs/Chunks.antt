@@ -13,7 +13,7 @@ use Rattle.pattern.specs.Bytes.{Bytes, bytes}
 use Rattle.pattern.proofs.Tests.{if-true, if-false, le-or-lt}
 use Rattle.lines.specs.Sizes.{line-limit, held-limit, newline-byte}
 use Rattle.lines.specs.Reply.{reply}
-use Rattle.lines.specs.Output.{last-line, lines-after, split, replies, first-line, output, hold, taken, told, kept, in-chunks, joined}
+use Rattle.lines.specs.Output.{last-line, lines-after, split, replies, first-line, output, hold, told, kept, in-chunks, joined}
 
 -- what is held of a line
 abbrev pub cap : Bytes → Bytes

@@ -14,6 +14,7 @@ use Rattle.pattern.specs.Decode.{layout, its, tree-of}
 use Rattle.pattern.specs.Answers.{part-bytes}
 use Rattle.pattern.proofs.RoundTrip.{some-pattern}
 use Rattle.pattern.proofs.Nodes.{At}
+use Rattle.pattern.proofs.Longest.{longest-le}
 use Rattle.table.specs.declared.Record.{Record}
 use Rattle.table.specs.Fields.{record-of}
 use Rattle.planes.specs.Cells.{Plane, Readable, on}
@@ -56,19 +57,6 @@ longest-same : (p q : ℕ → Bool) (c : ℕ) → ((d : ℕ) → d < c → p d �
 unfolding longest
 longest-same p q zero h = refl
 longest-same p q (suc c) h = rw (h c (omega arith), longest-same p q c (λ d l. h d (omega arith)))
-
-longest-le : (p : ℕ → Bool) (c : ℕ) → longest (suc c) p ≤ c
-unfolding longest
-longest-le p zero = pick (p 0)
-  where
-    pick : (b : Bool) → cond b 0 0 ≤ 0
-    pick true = omega arith
-    pick false = omega arith
-longest-le p (suc c) = pick (p (suc c)) (longest-le p c)
-  where
-    pick : (b : Bool) → longest (suc c) p ≤ c → cond b (suc c) (longest (suc c) p) ≤ suc c
-    pick true h = omega arith
-    pick false h = omega arith
 
 -- ---- two bytes more
 
@@ -175,7 +163,7 @@ module _ (table label s : Bytes) (w : ℕ) (lent₀ : Bytes) (ok : Parting table
           parts-in =
               let z : suc (length label) - i ≡ suc (length label - i) = omega (arith, inv .inner) in
               let y = rw z at found in
-              omega (arith, inv .inner, longest-le (trial (on s w (2 * x)) (on s w (2 * next + 1)) i (length label)) (length label - i))
+              omega (arith, inv .inner, longest-le (length label - i) (trial (on s w (2 * x)) (on s w (2 * next + 1)) i (length label)))
 
           end-is : m ≡ end label (head (node table x)) (node table next) i
           unfolding end

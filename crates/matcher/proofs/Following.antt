@@ -1,6 +1,6 @@
 -- The join of an atom with its followers, and the loop over all atoms, in plain values. Assumes nothing.
 use mathlib.Core.Path.{_≡_, refl, sym, ap, _∙_}
-use mathlib.Core.Bool.{Bool, true, false, _||_}
+use mathlib.Core.Bool.{true, false, or-false}
 use mathlib.Core.List.{List, [], _∷_}
 use mathlib.Core.Logic.{⊎-elim}
 use Prim.Native.Nat.{ℕ, zero, suc, _+_, _*_, _-_, _/_, _≤_, _<_}
@@ -39,10 +39,6 @@ follows-last l p a e = (ap (follow-trials l) e, ap (λ (z : Syntax pattern). dec
 follows-then : (l : Bytes) (p : Syntax pattern) (a : Syntax atom) (q : Syntax pattern) → p ≡ then a q → (follow-trials l p ≡ joins (length l) (decide l a) (decide l q)) × (decide l p ≡ join (decide l a) (decide l q))
 unfolding follow-trials decide
 follows-then l p a q e = (ap (follow-trials l) e, ap (λ (z : Syntax pattern). decide l z) e)
-
-or-false : (b : Bool) → b || false ≡ b
-or-false true = refl
-or-false false = refl
 
 module _ (table label s : Bytes) (w x : ℕ) (ok : Following table label s w x) where
   pub follow-few : 2 * x + 6 ≤ length s

@@ -8,14 +8,15 @@ use borrow.Author.Tests.{lt-ltb, le-ltb}
 use lib.ListN.{length}
 use Rattle.pattern.specs.Numbers.{atom-limit, label-limit, TABLE, LABEL, WORK, PARTS}
 use Rattle.pattern.specs.Bytes.{Bytes}
-use Rattle.pattern.specs.Syntax.{pattern, Syntax, last, then, size, top-size}
+use Rattle.pattern.specs.Syntax.{pattern, Syntax, size, top-size}
 use Rattle.pattern.specs.Scan.{refuse}
 use Rattle.pattern.specs.Print.{print}
 use Rattle.pattern.specs.Decode.{tree-of, decode}
 use Rattle.pattern.specs.Answers.{work, lent-fault, tried, untried, tried-unless, matched, matchOf}
 use Rattle.pattern.proofs.Accepted.{accepted-exactly}
-use Rattle.pattern.proofs.RoundTrip.{some-atom, tree-encode}
+use Rattle.pattern.proofs.RoundTrip.{tree-encode}
 use Rattle.pattern.proofs.Calls.{print-accepted, decoded-encode}
+use Rattle.pattern.proofs.Rooms.{top-le}
 use Rattle.table.specs.declared.Summary.{Summary}
 use Rattle.table.specs.declared.Tested.the-variants.{Bad, Good}
 use Rattle.table.specs.Walk.{tested}
@@ -30,11 +31,6 @@ none-bad (some t) e = absurd (let z : _≡_ {A = ℕ} 0 1 = cc in omega arith)
 pub bad-table : (table label scratch parts : Bytes) (budget : ℕ) → Bad ≡ tested (decode table) → untried TABLE scratch parts ≡ matchOf table label scratch parts budget
 unfolding matchOf matched
 bad-table table label scratch parts budget e = sym (ap (λ o. matched o label scratch parts budget) (none-bad (decode table) e))
-
-top-le : (p : Syntax pattern) → top-size p ≤ size p
-unfolding top-size size
-top-le (last a) = some-atom a
-top-le (then a p) = omega (arith, some-atom a, top-le p)
 
 module _ (table : Bytes) where
   -- the tree of a good table is what it is read as, within the limits

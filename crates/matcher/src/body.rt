@@ -7,6 +7,7 @@ ghost use Rattle.matcher.specs.Bodied.{Bodying, Bodied};
 use crate::walk::branch_end;
 use crate::walk::record_at;
 use pattern::kind;
+use pattern::limits::ATOMS_PLACE;
 use pattern::limits::HEADER_SIZE;
 use pattern::limits::RECORD_SIZE;
 use planes::cells::add;
@@ -19,7 +20,7 @@ fn pool(table: &[u8]) -> usize
     requires { ⌜ GoodTable (now table) ⌝ }
     ensures { λ r. ⌜ r ≡ layout (now (table .entry)) .pool ⌝ }
 {
-    HEADER_SIZE + RECORD_SIZE * (table[5] as usize)
+    HEADER_SIZE + RECORD_SIZE * (table[ATOMS_PLACE] as usize)
 }
 
 // Plane top for the group x: what satisfies one of its branches.

@@ -38,7 +38,7 @@ spelt-pool (group bs) s (w, e, h) = omega (arith, ap length e, length-append w (
 spelt-pool (only p) s h = spelt-pool p s h
 spelt-pool (or p bs) s (u, w, e, x, y) = omega (arith, ap length e, length-append u (comma-byte ∷ w), spelt-pool p u x, spelt-pool bs w y, length-append (pool p) (pool bs))
 
-top-le : (p : Syntax pattern) → top-size p ≤ size p
+pub top-le : (p : Syntax pattern) → top-size p ≤ size p
 unfolding top-size size
 top-le (last a) = some-atom a
 top-le (then a p) = omega (arith, some-atom a, top-le p)

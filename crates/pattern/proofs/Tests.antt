@@ -27,6 +27,18 @@ pub passed : (b : Bool) → T b → b ≡ true
 passed true t = refl
 passed false t = absurd t
 
+-- two tests that agree
+unfoldable pub agree : Bool → Bool → Bool
+agree true b = b
+agree false b = not b
+
+pub agreed : (a b : Bool) → T (agree a b) → a ≡ b
+unfolding agree
+agreed true true t = refl
+agreed true false t = absurd t
+agreed false true t = absurd t
+agreed false false t = refl
+
 pub both : {x y : Bool} {X Y : Type 0} → Decides x X → Decides y Y → Decides (x && y) (X × Y)
 both {x = true} a b = record { sound = λ h. (a .sound tt, b .sound h); complete = λ h. b .complete (h .1) }
 both {x = false} a b = record { sound = λ h. absurd h; complete = λ h. a .complete (h .0) }

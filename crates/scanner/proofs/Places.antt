@@ -3,29 +3,17 @@ use mathlib.Core.Path.{_≡_, refl, sym, ap, _∙_, subst}
 use mathlib.Core.Bool.{Bool, true, false, not, cond}
 use Prim.Native.Nat.{ℕ, _≤_, _<_}
 use native.Mathlib.Omega.{arith}
-use lib.Dec.{T, leb, eqb}
+use lib.Dec.{leb, eqb}
 use lib.ListN.{length}
 use borrow.Author.Tests.{leb-true, lt-ltb, le-ltb}
 use Rattle.pattern.specs.Bytes.{Bytes, between}
 use Rattle.pattern.specs.Spelling.{letter, quote, opening, digit, point, Kind, counts, starts, ends, kind, text}
-use Rattle.pattern.proofs.Tests.{all, all-at}
+use Rattle.pattern.proofs.Tests.{agree, agreed, all, all-at}
 use Rattle.pattern.proofs.Notation.{Byte as Spelt, kind-byte}
 use Rattle.scanner.specs.declared.cursor.Cursor.{Cursor}
 use Rattle.scanner.specs.declared.cursor.Byte.{Byte}
 use Rattle.scanner.specs.declared.cursor.Byte.the-variants as byte
 use Rattle.scanner.specs.Places.{digit-kind, letter-kind, is-digit, is-letter, is-plain, count-flag, flag, ByteIs, KindIs, Kind-not, ByteRead}
-
--- two tests that agree
-agree : Bool → Bool → Bool
-agree true b = b
-agree false b = not b
-
-agreed : (a b : Bool) → T (agree a b) → a ≡ b
-unfolding agree
-agreed true true t = refl
-agreed true false t = absurd t
-agreed false true t = absurd t
-agreed false false t = refl
 
 -- the code's tests of a byte, each compared at all 256 of them
 pub digit-test : (b : ℕ) → b < 256 → cond (leb 48 b) (leb b 57) false ≡ is-digit b

@@ -41,7 +41,10 @@ add-k : tie.Need-add-k Inv-loop μ-loop
 add-k c = omega arith
 
 mul-b : tie.Need-mul-b Inv-loop μ-loop
-mul-b c = omega (arith, c .before .before .before .before .loop .inv .1, power-small (c .before .before .before .before .loop .k) (c .before .before .before .loop-test .taken))
+mul-b c =
+    let after-loop-test = c .before .before .before in
+    let turn = after-loop-test .before in
+    omega (arith, turn .loop .inv .1, power-small (turn .loop .k) (after-loop-test .loop-test .taken))
 
 loop-less : tie.Need-loop-less Inv-loop μ-loop
 loop-less c = omega arith

@@ -38,7 +38,11 @@ between-requires-3 : tie.Need-between-requires-3
 between-requires-3 c κs = search needs
 
 returns-3 : tie.Need-returns-3
-returns-3 c = rw (sym (c .before .before .before .before .before .between .ensures) ∙ c .before .before .before .before .if1 .left, sym (c .before .before .before .between2 .ensures) ∙ c .before .before .if2 .left, sym (c .before .between3 .ensures) ∙ c .if3 .taken)
+returns-3 c =
+    let after-between2 = c .before .before .before in
+    let after-if1 = after-between2 .before in
+    let after-between = after-if1 .before in
+    rw (sym (after-between .between .ensures) ∙ after-if1 .if1 .left, sym (after-between2 .between2 .ensures) ∙ c .before .before .if2 .left, sym (c .before .between3 .ensures) ∙ c .if3 .taken)
 
 array-read-between-7 : tie.Need-array-read-between-7
 array-read-between-7 c = search needs
@@ -50,7 +54,12 @@ between-requires-4 : tie.Need-between-requires-4
 between-requires-4 c κs = search needs
 
 returns-4 : tie.Need-returns-4
-returns-4 c = rw (sym (c .before .before .before .before .before .before .between .ensures) ∙ c .before .before .before .before .before .if1 .left, sym (c .before .before .before .before .between2 .ensures) ∙ c .before .before .before .if2 .left, sym (c .before .before .between3 .ensures) ∙ c .before .if3 .left) (c .between4 .ensures)
+returns-4 c =
+    let after-if2 = c .before .before .before in
+    let after-between2 = after-if2 .before in
+    let after-if1 = after-between2 .before in
+    let after-between = after-if1 .before in
+    rw (sym (after-between .between .ensures) ∙ after-if1 .if1 .left, sym (after-between2 .between2 .ensures) ∙ after-if2 .if2 .left, sym (c .before .before .between3 .ensures) ∙ c .before .if3 .left) (c .between4 .ensures)
 
 pub in-ranges-spec : {M : Type 1} → statement M
 in-ranges-spec =

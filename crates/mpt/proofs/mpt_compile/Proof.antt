@@ -37,7 +37,10 @@ same-length-2 c = search needs
 returns-2 : tie.Need-returns-2
 unfolding compile-call
 returns-2 c =
-    long-area _ _ (result (c .before .before .before .before .before .length .given .0 .0) 0) (c .before .before .before .before .before .before .before .before .before .before .before .if1 .left) (c .before .before .before .before .before .before .before .before .before .compile .ensures) (ap answer-of (c .before .before .before .before .before .length .given .1)) (c .before .before .put-answer .ensures)
+    let after-length = c .before .before .before .before .before in
+    let after-compile = after-length .before .before .before .before in
+    let after-if1 = after-compile .before .before in
+    long-area _ _ (result (after-length .length .given .0 .0) 0) (after-if1 .if1 .left) (after-compile .compile .ensures) (ap answer-of (after-length .length .given .1)) (c .before .before .put-answer .ensures)
 
 same-length-3 : tie.Need-same-length-3
 same-length-3 c = search needs
@@ -48,8 +51,11 @@ same-length-4 c = search needs
 returns-3 : tie.Need-returns-3
 unfolding compile-call area
 returns-3 c =
-    let x = c .before .before .before .before .before .number .given .0 in
-    long-area _ _ (refusal (x .0) (x .1 .0)) (c .before .before .before .before .before .before .before .before .before .before .before .if1 .left) (c .before .before .before .before .before .before .before .before .before .compile .ensures) (ap answer-of (c .before .before .before .before .before .number .given .1)) (c .before .before .put-answer2 .ensures)
+    let after-number = c .before .before .before .before .before in
+    let after-compile = after-number .before .before .before .before in
+    let after-if1 = after-compile .before .before in
+    let x = after-number .number .given .0 in
+    long-area _ _ (refusal (x .0) (x .1 .0)) (after-if1 .if1 .left) (after-compile .compile .ensures) (ap answer-of (after-number .number .given .1)) (c .before .before .put-answer2 .ensures)
 
 pub mpt-compile-spec : {M : Type 1} → statement M
 mpt-compile-spec =

@@ -32,9 +32,12 @@ same-length-3 c = search needs
 returns-2 : tie.Need-returns-2
 unfolding match-call area
 returns-2 c =
-    let a = c .before .before .before .before .numbers in
-    let m = c .before .before .before .before .before .before .before .before .before .match-label in
-    long-match _ _ _ (record { number = a .result .number; position = 0; value = a .result .value; trials = a .result .trials }) (c .before .before .before .before .before .before .before .before .before .before .before .before .if1 .left) (m .ensures) (sym (a .ensures)) (c .before .before .put-answer .ensures)
+    let after-numbers = c .before .before .before .before in
+    let after-match-label = after-numbers .before .before .before .before .before in
+    let after-if1 = after-match-label .before .before .before in
+    let a = after-numbers .numbers in
+    let m = after-match-label .match-label in
+    long-match _ _ _ (record { number = a .result .number; position = 0; value = a .result .value; trials = a .result .trials }) (after-if1 .if1 .left) (m .ensures) (sym (a .ensures)) (c .before .before .put-answer .ensures)
 
 pub mpt-match-spec : {M : Type 1} → statement M
 mpt-match-spec =

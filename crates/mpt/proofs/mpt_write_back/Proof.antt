@@ -44,7 +44,10 @@ same-length-2 c = search needs
 returns-2 : tie.Need-returns-2
 unfolding write-call answer-of
 returns-2 c =
-    long-area _ _ (result (c .before .before .before .before .before .length .given .0 .0) 0) (c .before .before .before .before .before .before .before .before .before .before .before .if1 .left) (c .before .before .before .before .before .before .before .before .before .write-back .ensures) (ap answer-of (c .before .before .before .before .before .length .given .1)) (c .before .before .put-answer .ensures)
+    let after-length = c .before .before .before .before .before in
+    let after-write-back = after-length .before .before .before .before in
+    let after-if1 = after-write-back .before .before in
+    long-area _ _ (result (after-length .length .given .0 .0) 0) (after-if1 .if1 .left) (after-write-back .write-back .ensures) (ap answer-of (after-length .length .given .1)) (c .before .before .put-answer .ensures)
 
 same-length-3 : tie.Need-same-length-3
 same-length-3 c = search needs
@@ -55,7 +58,10 @@ same-length-4 c = search needs
 returns-3 : tie.Need-returns-3
 unfolding write-call answer-of area
 returns-3 c =
-    long-area _ _ (refusal ROOM 0) (c .before .before .before .before .before .before .before .before .before .before .if1 .left) (c .before .before .before .before .before .before .before .before .write-back .ensures) (ap answer-of (c .before .before .before .before .enum-told .given .1)) (c .before .before .put-answer2 .ensures)
+    let after-enum-told = c .before .before .before .before in
+    let after-write-back = after-enum-told .before .before .before .before in
+    let after-if1 = after-write-back .before .before in
+    long-area _ _ (refusal ROOM 0) (after-if1 .if1 .left) (after-write-back .write-back .ensures) (ap answer-of (after-enum-told .enum-told .given .1)) (c .before .before .put-answer2 .ensures)
 
 same-length-5 : tie.Need-same-length-5
 same-length-5 c = search needs
@@ -66,7 +72,10 @@ same-length-6 c = search needs
 returns-4 : tie.Need-returns-4
 unfolding write-call answer-of area
 returns-4 c =
-    long-area _ _ (refusal TABLE 0) (c .before .before .before .before .before .before .before .before .before .before .if1 .left) (c .before .before .before .before .before .before .before .before .write-back .ensures) (ap answer-of (c .before .before .before .before .enum-told2 .given .1)) (c .before .before .put-answer3 .ensures)
+    let after-enum-told2 = c .before .before .before .before in
+    let after-write-back = after-enum-told2 .before .before .before .before in
+    let after-if1 = after-write-back .before .before in
+    long-area _ _ (refusal TABLE 0) (after-if1 .if1 .left) (after-write-back .write-back .ensures) (ap answer-of (after-enum-told2 .enum-told2 .given .1)) (c .before .before .put-answer3 .ensures)
 
 pub mpt-write-back-spec : {M : Type 1} → statement M
 mpt-write-back-spec =

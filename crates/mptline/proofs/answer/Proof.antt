@@ -21,8 +21,10 @@ slice-aggregate-answer-last c = sym (length-take-le _ _ (search needs))
 
 answer-last-requires : tie.Need-answer-last-requires
 answer-last-requires c κs =
-    let p = c .before .before .before .before .before .before .before .before .before .before .before .before .before .before .before .before .before .before .before .before .pre in
-    (ap length (c .before .before .before .before .before .before .before .before .before .before .before .answer-input .ensures .clean (p .1)) ∙ zeros-length, omega arith)
+    let after-answer-input = c .before .before .before .before .before .before .before .before .before .before .before in
+    let start = after-answer-input .before .before .before .before .before .before .before .before .before in
+    let p = start .pre in
+    (ap length (after-answer-input .answer-input .ensures .clean (p .1)) ∙ zeros-length, omega arith)
 
 slice-reshare-prefix-write-all : tie.Need-slice-reshare-prefix-write-all
 slice-reshare-prefix-write-all c = search needs
@@ -46,7 +48,11 @@ same-length-4 : tie.Need-same-length-4
 same-length-4 c = search needs
 
 returns : tie.Need-returns
-returns c = c .before .before .before .before .before .before .answer-last .ensures .clean (c .before .before .before .before .before .before .before .before .before .before .before .before .before .before .before .before .before .before .answer-input .ensures .clean (c .before .before .before .before .before .before .before .before .before .before .before .before .before .before .before .before .before .before .before .before .before .before .before .before .before .before .before .pre .1))
+returns c =
+    let after-answer-last = c .before .before .before .before .before .before in
+    let after-answer-input = after-answer-last .before .before .before .before .before .before .before .before .before .before .before .before in
+    let start = after-answer-input .before .before .before .before .before .before .before .before .before in
+    after-answer-last .answer-last .ensures .clean (after-answer-input .answer-input .ensures .clean (start .pre .1))
 
 pub answer-spec : {M : Type 1} → statement M
 answer-spec =

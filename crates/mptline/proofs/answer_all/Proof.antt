@@ -33,27 +33,43 @@ write-all-requires : tie.Need-write-all-requires Inv-loop μ-loop
 write-all-requires c κs = tt
 
 same-length : tie.Need-same-length Inv-loop μ-loop
-same-length c = c .before .before .before .before .before .before .before .before .before .answer-chunk .kept .1 .1 .0 ∙ c .before .before .before .before .before .before .before .before .before .before .before .before .before .before .loop .inv .2
+same-length c =
+    let after-answer-chunk = c .before .before .before .before .before .before .before .before .before in
+    let turn = after-answer-chunk .before .before .before .before .before in
+    after-answer-chunk .answer-chunk .kept .1 .1 .0 ∙ turn .loop .inv .2
 
 same-length-2 : tie.Need-same-length-2 Inv-loop μ-loop
-same-length-2 c = c .before .before .before .before .before .before .before .before .before .answer-chunk .kept .1 .1 .1 .1 .0 ∙ c .before .before .before .before .before .before .before .before .before .before .before .before .before .before .loop .inv .3
+same-length-2 c =
+    let after-answer-chunk = c .before .before .before .before .before .before .before .before .before in
+    let turn = after-answer-chunk .before .before .before .before .before in
+    after-answer-chunk .answer-chunk .kept .1 .1 .1 .1 .0 ∙ turn .loop .inv .3
 
 same-length-3 : tie.Need-same-length-3 Inv-loop μ-loop
-same-length-3 c = c .before .before .before .before .before .before .before .before .before .answer-chunk .kept .1 .1 .1 .1 .1 .0 ∙ c .before .before .before .before .before .before .before .before .before .before .before .before .before .before .loop .inv .4
+same-length-3 c =
+    let after-answer-chunk = c .before .before .before .before .before .before .before .before .before in
+    let turn = after-answer-chunk .before .before .before .before .before in
+    after-answer-chunk .answer-chunk .kept .1 .1 .1 .1 .1 .0 ∙ turn .loop .inv .4
 
 returns : tie.Need-returns Inv-loop μ-loop
 unfolding left-over
 returns c =
-    let k = c .before .before .before .before .before .before .before .before .before .before .before .before .before .before .loop in
-    record { holds = refl; held-fits = omega arith; clean = λ e. c .before .before .before .before .before .before .before .before .before .answer-chunk .ensures .clean (k .inv .6 e) }
+    let after-answer-chunk = c .before .before .before .before .before .before .before .before .before in
+    let turn = after-answer-chunk .before .before .before .before .before in
+    let k = turn .loop in
+    record { holds = refl; held-fits = omega arith; clean = λ e. after-answer-chunk .answer-chunk .ensures .clean (k .inv .6 e) }
 
 loop-less : tie.Need-loop-less Inv-loop μ-loop
-loop-less c = omega (arith, c .before .before .before .before .before .before .before .before .before .answer-chunk .ensures .moves (c .before .before .before .before .before .before .before .before .before .before .before .before .before .loop-test .taken), c .before .before .before .before .before .before .before .before .before .answer-chunk .ensures .next-fits)
+loop-less c =
+    let after-answer-chunk = c .before .before .before .before .before .before .before .before .before in
+    let after-loop-test = after-answer-chunk .before .before .before .before in
+    omega (arith, after-answer-chunk .answer-chunk .ensures .moves (after-loop-test .loop-test .taken), after-answer-chunk .answer-chunk .ensures .next-fits)
 
 loop-again : tie.Need-loop-again Inv-loop μ-loop
 loop-again c =
-    let a = c .before .before .before .before .before .before .before .before .before .answer-chunk in
-    let k = c .before .before .before .before .before .before .before .before .before .before .before .before .before .before .loop in
+    let after-answer-chunk = c .before .before .before .before .before .before .before .before .before in
+    let turn = after-answer-chunk .before .before .before .before .before in
+    let a = after-answer-chunk .answer-chunk in
+    let k = turn .loop in
     (a .ensures .next-fits, omega (arith, a .ensures .held-fits), a .kept .1 .1 .0 ∙ k .inv .2, a .kept .1 .1 .1 .1 .0 ∙ k .inv .3, a .kept .1 .1 .1 .1 .1 .0 ∙ k .inv .4, a .ensures .keeps ∙ k .inv .5, λ e. a .ensures .clean (k .inv .6 e))
 
 same-length-4 : tie.Need-same-length-4 Inv-loop μ-loop

@@ -21,21 +21,35 @@ answer-some-requires : tie.Need-answer-some-requires Inv-loop μ-loop
 answer-some-requires c κs = (omega arith, omega arith, omega arith, omega arith)
 
 same-length : tie.Need-same-length Inv-loop μ-loop
-same-length c = c .before .before .before .before .before .before .before .before .before .before .answer-some .kept .0 ∙ c .before .before .before .before .before .before .before .before .before .before .before .before .before .before .before .before .loop .inv .1
+same-length c =
+    let after-answer-some = c .before .before .before .before .before .before .before .before .before .before in
+    let turn = after-answer-some .before .before .before .before .before .before in
+    after-answer-some .answer-some .kept .0 ∙ turn .loop .inv .1
 
 same-length-2 : tie.Need-same-length-2 Inv-loop μ-loop
-same-length-2 c = c .before .before .before .before .before .before .before .before .before .before .answer-some .kept .1 .0 ∙ c .before .before .before .before .before .before .before .before .before .before .before .before .before .before .before .before .loop .inv .2
+same-length-2 c =
+    let after-answer-some = c .before .before .before .before .before .before .before .before .before .before in
+    let turn = after-answer-some .before .before .before .before .before .before in
+    after-answer-some .answer-some .kept .1 .0 ∙ turn .loop .inv .2
 
 same-length-3 : tie.Need-same-length-3 Inv-loop μ-loop
-same-length-3 c = c .before .before .before .before .before .before .before .before .before .before .answer-some .kept .1 .1 .1 .0 ∙ c .before .before .before .before .before .before .before .before .before .before .before .before .before .before .before .before .loop .inv .3
+same-length-3 c =
+    let after-answer-some = c .before .before .before .before .before .before .before .before .before .before in
+    let turn = after-answer-some .before .before .before .before .before .before in
+    after-answer-some .answer-some .kept .1 .1 .1 .0 ∙ turn .loop .inv .3
 
 same-length-4 : tie.Need-same-length-4 Inv-loop μ-loop
-same-length-4 c = c .before .before .before .before .before .before .before .before .before .before .answer-some .kept .1 .1 .1 .1 .0 ∙ c .before .before .before .before .before .before .before .before .before .before .before .before .before .before .before .before .loop .inv .4
+same-length-4 c =
+    let after-answer-some = c .before .before .before .before .before .before .before .before .before .before in
+    let turn = after-answer-some .before .before .before .before .before .before in
+    after-answer-some .answer-some .kept .1 .1 .1 .1 .0 ∙ turn .loop .inv .4
 
 returns : tie.Need-returns Inv-loop μ-loop
 returns c =
-    let a = c .before .before .before .before .before .before .before .before .before .before .answer-some .ensures in
-    let k = c .before .before .before .before .before .before .before .before .before .before .before .before .before .before .before .before .loop in
+    let after-answer-some = c .before .before .before .before .before .before .before .before .before .before in
+    let turn = after-answer-some .before .before .before .before .before .before in
+    let a = after-answer-some .answer-some .ensures in
+    let k = turn .loop in
     record { held-fits = a .held-fits; clean = λ e. a .clean (k .inv .5 e) }
 
 sub-turns : tie.Need-sub-turns Inv-loop μ-loop
@@ -46,8 +60,10 @@ loop-less c = omega arith
 
 loop-again : tie.Need-loop-again Inv-loop μ-loop
 loop-again c =
-    let a = c .before .before .before .before .before .before .before .before .before .before .answer-some in
-    let k = c .before .before .before .before .before .before .before .before .before .before .before .before .before .before .before .before .loop in
+    let after-answer-some = c .before .before .before .before .before .before .before .before .before .before in
+    let turn = after-answer-some .before .before .before .before .before .before in
+    let a = after-answer-some .answer-some in
+    let k = turn .loop in
     (a .ensures .held-fits, a .kept .0 ∙ k .inv .1, a .kept .1 .0 ∙ k .inv .2, a .kept .1 .1 .1 .0 ∙ k .inv .3, a .kept .1 .1 .1 .1 .0 ∙ k .inv .4, λ e. a .ensures .clean (k .inv .5 e))
 
 same-length-5 : tie.Need-same-length-5 Inv-loop μ-loop

@@ -47,8 +47,10 @@ same-length-6 c = search needs
 
 returns-3 : tie.Need-returns-3
 returns-3 c =
-    let a = c .before .before .before .before .before .before .answer-all .ensures in
-    record { holds = inl (c .before .before .before .before .before .before .before .before .before .before .before .count .result, search needs, a .holds); held-fits = a .held-fits; clean = a .clean }
+    let after-answer-all = c .before .before .before .before .before .before in
+    let after-count = after-answer-all .before .before .before .before .before in
+    let a = after-answer-all .answer-all .ensures in
+    record { holds = inl (after-count .count .result, search needs, a .holds); held-fits = a .held-fits; clean = a .clean }
 
 pub answer-some-spec : {M : Type 1} → statement M
 answer-some-spec =

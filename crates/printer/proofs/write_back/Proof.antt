@@ -34,10 +34,18 @@ enum-told : tie.Need-enum-told
 enum-told c = search needs
 
 same-length : tie.Need-same-length
-same-length c = kept-length (good (c .before .before .before .before .before .before)) (c .before .before .before .before .before .before .before .before .before .before .before .before .args .source .now) (c .before .before .before .before .before .if1 .left) (c .before .before .pattern .ensures)
+same-length c =
+    let after-if1 = c .before .before .before .before .before in
+    let there = after-if1 .before in
+    let start = there .before .before .before .before .before .before in
+    kept-length (good there) (start .args .source .now) (after-if1 .if1 .left) (c .before .before .pattern .ensures)
 
 returns-2 : tie.Need-returns-2
-returns-2 c = length-written (good (c .before .before .before .before .before .before)) (c .before .before .before .before .before .before .before .before .before .before .before .before .args .source .now) (c .before .before .before .before .before .if1 .left) (c .before .before .pattern .ensures)
+returns-2 c =
+    let after-if1 = c .before .before .before .before .before in
+    let there = after-if1 .before in
+    let start = there .before .before .before .before .before .before in
+    length-written (good there) (start .args .source .now) (after-if1 .if1 .left) (c .before .before .pattern .ensures)
 
 returns-3 : tie.Need-returns-3
 returns-3 c = table-written (c .before .before .before .before .before .args .table .now) (c .before .before .before .before .before .args .source .now) (sym (c .enum-told .given .1) ∙ c .before .before .test .ensures)

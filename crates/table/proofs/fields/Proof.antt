@@ -40,9 +40,11 @@ word-requires-4 c κs = search needs
 
 returns : tie.Need-returns
 returns c =
-    let s = c .before .before .before .before .before .before .before .args .table .now in
-    let at = c .before .before .before .before .before .before .before .args .at in
-    λ j. record { kind = getD s at 0; ends = getD s (at + 1) 0; low = c .before .before .before .word .ensures j; high = c .before .before .word2 .ensures j; a = c .before .word3 .ensures j; b = c .word4 .ensures j }
+    let after-word = c .before .before .before in
+    let start = after-word .before .before .before .before in
+    let s = start .args .table .now in
+    let at = start .args .at in
+    λ j. record { kind = getD s at 0; ends = getD s (at + 1) 0; low = after-word .word .ensures j; high = c .before .before .word2 .ensures j; a = c .before .word3 .ensures j; b = c .word4 .ensures j }
 
 pub fields-spec : {M : Type 1} → statement M
 fields-spec =

@@ -40,10 +40,18 @@ returns-2 : tie.Need-returns-2
 returns-2 c = bad-count (body-read (c .before .before .before .before .before)) (c .before .before .before .end .given .1) (c .if2 .taken)
 
 returns-3 : tie.Need-returns-3
-returns-3 c = bad-pool (body-read (c .before .before .before .before .before .before .before .before)) (c .before .before .before .before .before .before .end .given .1) (c .before .before .before .if2 .left) (c .if3 .taken)
+returns-3 c =
+    let after-if2 = c .before .before .before in
+    let after-end = after-if2 .before .before .before in
+    let there = after-end .before .before in
+    bad-pool (body-read there) (after-end .end .given .1) (after-if2 .if2 .left) (c .if3 .taken)
 
 returns-4 : tie.Need-returns-4
-returns-4 c = bad-length (body-read (c .before .before .before .before .before .before .before .before .before .before)) (c .before .before .before .before .before .before .before .before .end .given .1) (c .before .before .before .before .before .if2 .left) (c .before .before .if3 .left) (c .if4 .taken)
+returns-4 c =
+    let after-if2 = c .before .before .before .before .before in
+    let after-end = after-if2 .before .before .before in
+    let there = after-end .before .before in
+    bad-length (body-read there) (after-end .end .given .1) (after-if2 .if2 .left) (c .before .before .if3 .left) (c .if4 .taken)
 
 enum-told : tie.Need-enum-told
 enum-told c = search needs
@@ -52,7 +60,11 @@ enum-told-2 : tie.Need-enum-told-2
 enum-told-2 c = search needs
 
 returns-5 : tie.Need-returns-5
-returns-5 c = good-table (body-read (c .before .before .before .before .before .before .before .before .before .before)) (c .before .before .before .before .before .before .before .before .end .given .1) (c .before .before .before .before .before .if2 .left) (c .before .before .if3 .left) (c .if4 .left)
+returns-5 c =
+    let after-if2 = c .before .before .before .before .before in
+    let after-end = after-if2 .before .before .before in
+    let there = after-end .before .before in
+    good-table (body-read there) (after-end .end .given .1) (after-if2 .if2 .left) (c .before .before .if3 .left) (c .if4 .left)
 
 returns-6 : tie.Need-returns-6
 returns-6 c = bad-walk (body-read (c .before .before)) (c .enum-told .given .1)

@@ -72,38 +72,52 @@ answer-line-requires : tie.Need-answer-line-requires Inv-loop μ-loop
 answer-line-requires c κs = (omega arith, omega arith)
 
 loop-less : tie.Need-loop-less Inv-loop μ-loop
-loop-less c = omega (arith, c .before .before .before .before .before .before .before .before .before .before .before .take-line .ensures .moves (c .before .before .before .before .before .before .before .before .before .before .before .before .before .before .loop-test .taken), c .before .before .before .before .before .before .before .before .before .before .before .take-line .ensures .next-fits)
+loop-less c =
+    let after-take-line = c .before .before .before .before .before .before .before .before .before .before .before in
+    let after-loop-test = after-take-line .before .before .before in
+    omega (arith, after-take-line .take-line .ensures .moves (after-loop-test .loop-test .taken), after-take-line .take-line .ensures .next-fits)
 
 loop-again : tie.Need-loop-again Inv-loop μ-loop
 loop-again c =
-    let k = c .before .before .before .before .before .before .before .before .before .before .before .before .before .before .before .loop in
-    let t = c .before .before .before .before .before .before .before .before .before .before .before .take-line .ensures in
-    let r = c .before .before .before .before .answer-line .ensures in
+    let after-answer-line = c .before .before .before .before in
+    let after-if2 = after-answer-line .before .before .before .before in
+    let after-take-line = after-if2 .before .before .before in
+    let after-loop-test = after-take-line .before .before .before in
+    let turn = after-loop-test .before in
+    let k = turn .loop in
+    let t = after-take-line .take-line .ensures in
+    let r = after-answer-line .answer-line .ensures in
     let w = r .within in
-    let m = t .moves (c .before .before .before .before .before .before .before .before .before .before .before .before .before .before .loop-test .taken) in (
+    let m = t .moves (after-loop-test .loop-test .taken) in (
       omega arith,
       t .next-fits,
       omega arith,
       omega (arith, w .short, puts-length (w .stores)),
       t .size ∙ k .inv .4,
-      c .before .before .before .before .answer-line .kept .1 .0 ∙ k .inv .5,
+      after-answer-line .answer-line .kept .1 .0 ∙ k .inv .5,
       puts-length (w .stores) ∙ k .inv .6,
-      turn-ended _ _ (took-ended t (c .before .before .before .before .before .before .before .before .if2 .taken)) (k .inv .7) (w .stores) (omega (arith, w .stores .next, w .short)),
-      walk-ended kept-walks (took-ended t (c .before .before .before .before .before .before .before .before .if2 .taken)) ∙ k .inv .8,
+      turn-ended _ _ (took-ended t (after-if2 .if2 .taken)) (k .inv .7) (w .stores) (omega (arith, w .stores .next, w .short)),
+      walk-ended kept-walks (took-ended t (after-if2 .if2 .taken)) ∙ k .inv .8,
       λ e. absurd (omega arith),
       λ e. r .clean (k .inv .10 e),
-      ended-buffered t (c .before .before .before .before .before .before .before .before .if2 .taken) (omega (arith, t .held-fits, t .size)) ∙ k .inv .11,
-      drop-stored (omega (arith, w .stores .next, w .short)) (w .stores) ∙ same-after _ _ (k .end) (c .before .before .before .before .answer-line .result) (omega (arith, w .stores .next)) (k .inv .12),
+      ended-buffered t (after-if2 .if2 .taken) (omega (arith, t .held-fits, t .size)) ∙ k .inv .11,
+      drop-stored (omega (arith, w .stores .next, w .short)) (w .stores) ∙ same-after _ _ (k .end) (after-answer-line .answer-line .result) (omega (arith, w .stores .next)) (k .inv .12),
     )
 
 loop-less-2 : tie.Need-loop-less-2 Inv-loop μ-loop
-loop-less-2 c = omega (arith, c .before .before .before .take-line .ensures .moves (c .before .before .before .before .before .before .loop-test .taken), c .before .before .before .take-line .ensures .next-fits)
+loop-less-2 c =
+    let after-take-line = c .before .before .before in
+    let after-loop-test = after-take-line .before .before .before in
+    omega (arith, after-take-line .take-line .ensures .moves (after-loop-test .loop-test .taken), after-take-line .take-line .ensures .next-fits)
 
 loop-again-2 : tie.Need-loop-again-2 Inv-loop μ-loop
 loop-again-2 c =
-    let k = c .before .before .before .before .before .before .before .loop in
-    let t = c .before .before .before .take-line .ensures in
-    let m = t .moves (c .before .before .before .before .before .before .loop-test .taken) in (
+    let after-take-line = c .before .before .before in
+    let after-loop-test = after-take-line .before .before .before in
+    let turn = after-loop-test .before in
+    let k = turn .loop in
+    let t = after-take-line .take-line .ensures in
+    let m = t .moves (after-loop-test .loop-test .taken) in (
       omega arith,
       t .next-fits,
       t .held-fits,

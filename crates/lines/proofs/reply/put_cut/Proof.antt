@@ -44,14 +44,21 @@ same-length-2 c = search needs
 
 returns : tie.Need-returns
 returns c =
-    let r = c .before .before .before .before .put-label .ensures in
-    record { within = within-same (table-reply-is _ _ _ _ (c .before .before .before .before .before .before .before .before .before .before .before .before .compile .ensures) _ (c .before .before .before .before .before .before .before .before .before .n .given .1)) (r .within); clean = r .clean }
+    let after-put-label = c .before .before .before .before in
+    let after-n = after-put-label .before .before .before .before .before in
+    let after-compile = after-n .before .before .before in
+    let r = after-put-label .put-label .ensures in
+    record { within = within-same (table-reply-is _ _ _ _ (after-compile .compile .ensures) _ (after-n .n .given .1)) (r .within); clean = r .clean }
 
 same-length-3 : tie.Need-same-length-3
 same-length-3 c = search needs
 
 returns-2 : tie.Need-returns-2
-returns-2 c = record { within = within-same (refused-reply-is _ _ _ _ (c .before .before .before .before .before .before .before .before .compile .ensures) _ _ (c .before .before .before .before .before .number .given .1)) (stored-within reply-room (omega (arith, refused-short (c .before .before .before .before .before .number .given .0 .0) (c .before .before .before .before .before .number .given .0 .1 .0) (omega (arith, c .before .before .before .before .known-told2 .given)) (omega (arith, c .before .before .before .before .known-told2 .given)))) (c .before .before .put-refused .ensures)); clean = λ e. e }
+returns-2 c =
+    let after-known-told2 = c .before .before .before .before in
+    let after-number = after-known-told2 .before in
+    let after-compile = after-number .before .before .before in
+    record { within = within-same (refused-reply-is _ _ _ _ (after-compile .compile .ensures) _ _ (after-number .number .given .1)) (stored-within reply-room (omega (arith, refused-short (after-number .number .given .0 .0) (after-number .number .given .0 .1 .0) (omega (arith, after-known-told2 .known-told2 .given)) (omega (arith, after-known-told2 .known-told2 .given)))) (c .before .before .put-refused .ensures)); clean = λ e. e }
 
 pub put-cut-spec : {M : Type 1} → statement M
 put-cut-spec =

@@ -31,11 +31,16 @@ same-length-2 c = search needs
 
 returns : tie.Need-returns
 returns c =
-    let a = c .before .before .before .before .before .before .before .numbers in
-    let m = c .before .before .before .before .before .before .before .before .before .before .before .match-label in
+    let after-if1 = c .before .before .before .before .before in
+    let after-struct-known = after-if1 .before in
+    let after-numbers = after-struct-known .before in
+    let after-match-label = after-numbers .before .before .before .before in
+    let start = after-match-label .before .before .before .before .before .before .before in
+    let a = after-numbers .numbers in
+    let m = after-match-label .match-label in
     record {
-      within = within-same (unmatched-reply _ _ _ (c .before .before .before .before .before .before .before .before .before .before .before .before .before .before .before .before .before .before .pre .0) (m .result) _ _ (m .ensures) _ (a .ensures) (c .before .before .before .before .before .if1 .taken)) (stored-within reply-room (omega (arith, unmatched-short (a .result .number) (omega (arith, c .before .before .before .before .before .before .struct-known .given)))) (c .before .before .put-unmatched .ensures));
-      clean = match-clean _ _ _ _ _ (m .ensures) (m .kept .1 .1 .0 ∙ c .before .before .before .before .before .before .before .before .before .before .before .before .before .before .before .before .before .before .pre .0);
+      within = within-same (unmatched-reply _ _ _ (start .pre .0) (m .result) _ _ (m .ensures) _ (a .ensures) (after-if1 .if1 .taken)) (stored-within reply-room (omega (arith, unmatched-short (a .result .number) (omega (arith, after-struct-known .struct-known .given)))) (c .before .before .put-unmatched .ensures));
+      clean = match-clean _ _ _ _ _ (m .ensures) (m .kept .1 .1 .0 ∙ start .pre .0);
     }
 
 put-byte-requires : tie.Need-put-byte-requires
@@ -49,11 +54,16 @@ same-length-4 c = search needs
 
 returns-2 : tie.Need-returns-2
 returns-2 c =
-    let a = c .before .before .before .before .before .before .before .before .numbers in
-    let m = c .before .before .before .before .before .before .before .before .before .before .before .before .match-label in
+    let after-if2 = c .before .before .before .before in
+    let after-if1 = after-if2 .before .before in
+    let after-numbers = after-if1 .before .before in
+    let after-match-label = after-numbers .before .before .before .before in
+    let start = after-match-label .before .before .before .before .before .before .before in
+    let a = after-numbers .numbers in
+    let m = after-match-label .match-label in
     record {
-      within = within-same (no-reply _ _ _ (c .before .before .before .before .before .before .before .before .before .before .before .before .before .before .before .before .before .before .before .pre .0) (m .result) _ _ (m .ensures) _ (a .ensures) (c .before .before .before .before .before .before .if1 .left) (c .before .before .before .before .if2 .taken)) (stored-within reply-room (omega arith) (c .before .before .put-byte .ensures));
-      clean = match-clean _ _ _ _ _ (m .ensures) (m .kept .1 .1 .0 ∙ c .before .before .before .before .before .before .before .before .before .before .before .before .before .before .before .before .before .before .before .pre .0);
+      within = within-same (no-reply _ _ _ (start .pre .0) (m .result) _ _ (m .ensures) _ (a .ensures) (after-if1 .if1 .left) (after-if2 .if2 .taken)) (stored-within reply-room (omega arith) (c .before .before .put-byte .ensures));
+      clean = match-clean _ _ _ _ _ (m .ensures) (m .kept .1 .1 .0 ∙ start .pre .0);
     }
 
 slice-aggregate-put-matched : tie.Need-slice-aggregate-put-matched
@@ -70,11 +80,16 @@ same-length-6 c = search needs
 
 returns-3 : tie.Need-returns-3
 returns-3 c =
-    let a = c .before .before .before .before .before .before .before .before .before .numbers in
-    let m = c .before .before .before .before .before .before .before .before .before .before .before .before .before .match-label in
+    let after-if2 = c .before .before .before .before .before in
+    let after-if1 = after-if2 .before .before in
+    let after-numbers = after-if1 .before .before in
+    let after-match-label = after-numbers .before .before .before .before in
+    let start = after-match-label .before .before .before .before .before .before .before in
+    let a = after-numbers .numbers in
+    let m = after-match-label .match-label in
     record {
-      within = within-same (yes-reply _ _ _ (c .before .before .before .before .before .before .before .before .before .before .before .before .before .before .before .before .before .before .before .before .pre .0) (m .result) _ _ (m .ensures) _ (a .ensures) (c .before .before .before .before .before .before .before .if1 .left) (c .before .before .before .before .before .if2 .left)) (within-more (omega (arith, m .kept .1 .1 .1 .0)) (c .before .before .put-matched .ensures));
-      clean = match-clean _ _ _ _ _ (m .ensures) (m .kept .1 .1 .0 ∙ c .before .before .before .before .before .before .before .before .before .before .before .before .before .before .before .before .before .before .before .before .pre .0);
+      within = within-same (yes-reply _ _ _ (start .pre .0) (m .result) _ _ (m .ensures) _ (a .ensures) (after-if1 .if1 .left) (after-if2 .if2 .left)) (within-more (omega (arith, m .kept .1 .1 .1 .0)) (c .before .before .put-matched .ensures));
+      clean = match-clean _ _ _ _ _ (m .ensures) (m .kept .1 .1 .0 ∙ start .pre .0);
     }
 
 pub put-label-spec : {M : Type 1} → statement M

@@ -30,7 +30,11 @@ same-length-2 c = search needs
 
 returns-2 : tie.Need-returns-2
 unfolding bytes
-returns-2 c = record { within = within-same (whole-reply _ (c .before .before .before .before .before .before .if1 .left) _ (c .before .before .before .before .before .tab-at .ensures) (c .before .before .before .before .if2 .taken)) (stored-within reply-room (omega arith) (c .before .before .put-byte2 .ensures)); clean = λ e. e }
+returns-2 c =
+    let after-if2 = c .before .before .before .before in
+    let after-tab-at = after-if2 .before in
+    let after-if1 = after-tab-at .before in
+    record { within = within-same (whole-reply _ (after-if1 .if1 .left) _ (after-tab-at .tab-at .ensures) (after-if2 .if2 .taken)) (stored-within reply-room (omega arith) (c .before .before .put-byte2 .ensures)); clean = λ e. e }
 
 slice-aggregate-put-cut : tie.Need-slice-aggregate-put-cut
 slice-aggregate-put-cut c = sym (length-take-le _ _ (omega arith))
@@ -58,8 +62,12 @@ same-length-4 c = search needs
 
 returns-3 : tie.Need-returns-3
 returns-3 c =
-    let r = c .before .before .before .before .put-cut .ensures in
-    record { within = within-same (cut-replied _ (c .before .before .before .before .before .before .before .before .before .before .before .if1 .left) _ (c .before .before .before .before .before .before .before .before .before .before .tab-at .ensures) (c .before .before .before .before .before .before .before .before .before .if2 .left)) (r .within); clean = r .clean }
+    let after-put-cut = c .before .before .before .before in
+    let after-if2 = after-put-cut .before .before .before .before .before in
+    let after-tab-at = after-if2 .before in
+    let after-if1 = after-tab-at .before in
+    let r = after-put-cut .put-cut .ensures in
+    record { within = within-same (cut-replied _ (after-if1 .if1 .left) _ (after-tab-at .tab-at .ensures) (after-if2 .if2 .left)) (r .within); clean = r .clean }
 
 pub put-reply-spec : {M : Type 1} → statement M
 put-reply-spec =

@@ -14,14 +14,21 @@ put-byte-requires-2 : tie.Need-put-byte-requires-2
 put-byte-requires-2 c κs = search needs
 
 put-number-requires : tie.Need-put-number-requires
-put-number-requires c κs = omega (arith, c .before .before .before .before .before .before .before .put-byte .ensures .next, c .before .before .before .put-byte2 .ensures .next, decimal-short 19 (c .before .before .before .before .before .before .before .before .before .before .args .number) (omega arith))
+put-number-requires c κs =
+    let after-put-byte2 = c .before .before .before in
+    let after-put-byte = after-put-byte2 .before .before .before .before in
+    let start = after-put-byte .before .before .before in
+    omega (arith, after-put-byte .put-byte .ensures .next, after-put-byte2 .put-byte2 .ensures .next, decimal-short 19 (start .args .number) (omega arith))
 
 same-length : tie.Need-same-length
 same-length c = search needs
 
 returns : tie.Need-returns
 unfolding coded-text
-returns c = puts-then (puts-then (c .before .before .before .before .before .before .before .before .before .before .put-byte .ensures) (c .before .before .before .before .before .before .put-byte2 .ensures)) (c .before .before .put-number .ensures)
+returns c =
+    let after-put-byte2 = c .before .before .before .before .before .before in
+    let after-put-byte = after-put-byte2 .before .before .before .before in
+    puts-then (puts-then (after-put-byte .put-byte .ensures) (after-put-byte2 .put-byte2 .ensures)) (c .before .before .put-number .ensures)
 
 pub put-coded-spec : {M : Type 1} → statement M
 put-coded-spec =

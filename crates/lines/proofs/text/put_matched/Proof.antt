@@ -65,13 +65,18 @@ loop-less c = omega arith
 
 loop-again : tie.Need-loop-again Inv-loop μ-loop
 loop-again c =
+    let after-if1 = c .before .before .before .before in
+    let after-shared-slice-known3 = after-if1 .before in
+    let after-shared-slice-known2 = after-shared-slice-known3 .before in
+    let after-loop-test = after-shared-slice-known2 .before in
+    let start = after-loop-test .before .before .before .before .before .before .before .before in
     let k = c .before .before .before .before .before .before .before .before in
     let p = c .before .before .put-part .ensures in
-    let s = c .before .before .before .before .before .before .before .before .before .before .before .before .before .before .before .args .parts .now in (
+    let s = start .args .parts .now in (
       omega arith,
-      omega (arith, p .next, puts-length p, decimal-short 4 (getD s (k .loop .i) 0 + 256 * getD s (k .loop .i + 1) 0) (omega (arith, c .before .before .before .before .before .before .shared-slice-known2 .given (k .loop .i), c .before .before .before .before .before .shared-slice-known3 .given (k .loop .i + 1)))),
+      omega (arith, p .next, puts-length p, decimal-short 4 (getD s (k .loop .i) 0 + 256 * getD s (k .loop .i + 1) 0) (omega (arith, after-shared-slice-known2 .shared-slice-known2 .given (k .loop .i), after-shared-slice-known3 .shared-slice-known3 .given (k .loop .i + 1)))),
       omega (arith, puts-length p),
-      λ m e d. k .loop .inv .3 m e (listed-join _ _ _ (c .before .before .before .before .before .before .before .loop-test .taken) (c .before .before .before .before .if1 .left) p d),
+      λ m e d. k .loop .inv .3 m e (listed-join _ _ _ (after-loop-test .loop-test .taken) (after-if1 .if1 .left) p d),
     )
 
 same-length-2 : tie.Need-same-length-2 Inv-loop μ-loop

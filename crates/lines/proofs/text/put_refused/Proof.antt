@@ -16,14 +16,21 @@ put-byte-requires c κs = omega (arith, c .before .before .before .put-coded .en
 
 put-number-requires : tie.Need-put-number-requires
 unfolding coded-text
-put-number-requires c κs = omega (arith, c .before .before .before .before .before .before .before .put-coded .ensures .next, c .before .before .before .put-byte .ensures .next, decimal-short 19 (c .before .before .before .before .before .before .before .before .before .before .args .number) (omega arith), decimal-short 19 (c .before .before .before .before .before .before .before .before .before .before .args .position) (omega arith))
+put-number-requires c κs =
+    let after-put-byte = c .before .before .before in
+    let after-put-coded = after-put-byte .before .before .before .before in
+    let start = after-put-coded .before .before .before in
+    omega (arith, after-put-coded .put-coded .ensures .next, after-put-byte .put-byte .ensures .next, decimal-short 19 (start .args .number) (omega arith), decimal-short 19 (start .args .position) (omega arith))
 
 same-length : tie.Need-same-length
 same-length c = search needs
 
 returns : tie.Need-returns
 unfolding refused-text
-returns c = puts-then (c .before .before .before .before .before .before .before .before .before .before .put-coded .ensures) (puts-then (c .before .before .before .before .before .before .put-byte .ensures) (c .before .before .put-number .ensures))
+returns c =
+    let after-put-byte = c .before .before .before .before .before .before in
+    let after-put-coded = after-put-byte .before .before .before .before in
+    puts-then (after-put-coded .put-coded .ensures) (puts-then (after-put-byte .put-byte .ensures) (c .before .before .put-number .ensures))
 
 pub put-refused-spec : {M : Type 1} → statement M
 put-refused-spec =

@@ -1,6 +1,7 @@
 -- `matcher::body::pool` meets its contract. Assumes nothing.
 use native.Mathlib.Omega.{arith}
 use borrow.Author.Needs.{needs}
+use Rattle.pattern.specs.Numbers.{atoms-place}
 use Rattle.matcher.proofs.Views.{header-in}
 use Rattle.matcher.proofs.body.pool.Statement.{statement}
 use Rattle.matcher.proofs.body.pool.Tie as tie
@@ -9,13 +10,13 @@ shared-slice-read-result : tie.Need-shared-slice-read-result
 shared-slice-read-result c = omega (arith, header-in _ (c .before .pre))
 
 cast-result : tie.Need-cast-result
-cast-result c = omega (arith, c .shared-slice-known .given 5)
+cast-result c = omega (arith, c .shared-slice-known .given atoms-place)
 
 mul-result : tie.Need-mul-result
-mul-result c = omega (arith, c .shared-slice-known .given 5)
+mul-result c = omega (arith, c .shared-slice-known .given atoms-place)
 
 add-result : tie.Need-add-result
-add-result c = omega (arith, c .shared-slice-known .given 5)
+add-result c = omega (arith, c .shared-slice-known .given atoms-place)
 
 returns : tie.Need-returns
 returns c = search needs

@@ -25,12 +25,16 @@ same-length c = search needs
 returns : tie.Need-returns
 unfolding area
 returns c =
-    let args = c .before .before .before .before .before .before .before .before .before .before .before .before .before .before .before .before .before .args in
+    let after-put-number3 = c .before .before .before .before .before .before in
+    let after-put-number2 = after-put-number3 .before .before .before .before in
+    let after-put-number = after-put-number2 .before .before .before .before in
+    let start = after-put-number .before .before .before in
+    let args = start .args in
     c .before .before .put-number4 .ensures
-    ∙ ap (λ u. stored u 24 (little 8 0)) (c .before .before .before .before .before .before .put-number3 .ensures
-    ∙ ap (λ u. stored u 16 (little 8 (args .trials))) (c .before .before .before .before .before .before .before .before .before .before .put-number2 .ensures
-    ∙ ap (λ u. stored u 8 (little 8 (args .value))) (c .before .before .before .before .before .before .before .before .before .before .before .before .before .before .put-number .ensures)))
-    ∙ four-over _ (args .position) (args .value) (args .trials) 0 (c .before .before .before .before .before .before .before .before .before .before .before .before .before .before .before .before .before .pre)
+    ∙ ap (λ u. stored u 24 (little 8 0)) (after-put-number3 .put-number3 .ensures
+    ∙ ap (λ u. stored u 16 (little 8 (args .trials))) (after-put-number2 .put-number2 .ensures
+    ∙ ap (λ u. stored u 8 (little 8 (args .value))) (after-put-number .put-number .ensures)))
+    ∙ four-over _ (args .position) (args .value) (args .trials) 0 (start .pre)
 
 pub put-answer-spec : {M : Type 1} → statement M
 put-answer-spec =

@@ -11,49 +11,75 @@ use Rattle.printer.proofs.parts.count.Statement.{statement}
 use Rattle.printer.proofs.parts.count.Tie as tie
 
 number-requires : tie.Need-number-requires
-number-requires c κs = (c .before .before .before .pre .0 .0, omega (arith, c .before .before .before .pre .1, ap length (exact-given (c .before .before .before .args .low) (c .before .before .before .args .high) (c .before .before .before .pre .0 .0) (c .before .if1 .taken))))
+number-requires c κs =
+    let start = c .before .before .before in
+    (start .pre .0 .0, omega (arith, start .pre .1, ap length (exact-given (start .args .low) (start .args .high) (start .pre .0 .0) (c .before .if1 .taken))))
 
 same-length : tie.Need-same-length
 same-length c = search needs
 
 returns : tie.Need-returns
-returns c = puts-as (c .before .before .number .ensures) (sym (exact-given (c .before .before .before .before .before .before .args .low) (c .before .before .before .before .before .before .args .high) (c .before .before .before .before .before .before .pre .0 .0) (c .before .before .before .before .if1 .taken)))
+returns c =
+    let after-if1 = c .before .before .before .before in
+    let start = after-if1 .before .before in
+    puts-as (c .before .before .number .ensures) (sym (exact-given (start .args .low) (start .args .high) (start .pre .0 .0) (after-if1 .if1 .taken)))
 
 low-number-requires : tie.Need-low-number-requires
-low-number-requires c κs = (c .before .before .before .pre .0 .0, omega (arith, c .before .before .before .pre .1, count-begins (c .before .before .before .args .low) (c .before .before .before .args .high) (c .before .if1 .left)))
+low-number-requires c κs =
+    let start = c .before .before .before in
+    (start .pre .0 .0, omega (arith, start .pre .1, count-begins (start .args .low) (start .args .high) (c .before .if1 .left)))
 
 slice-write-out : tie.Need-slice-write-out
 slice-write-out c =
+    let after-if1 = c .before .before .before .before in
+    let start = after-if1 .before .before in
     let p = c .before .before .low-number .ensures in
-    omega (arith, p .next, puts-length p, c .before .before .before .before .before .before .pre .1, count-begins (c .before .before .before .before .before .before .args .low) (c .before .before .before .before .before .before .args .high) (c .before .before .before .before .if1 .left))
+    omega (arith, p .next, puts-length p, start .pre .1, count-begins (start .args .low) (start .args .high) (after-if1 .if1 .left))
 
 add-result : tie.Need-add-result
 add-result c =
-    let p = c .before .before .before .low-number .ensures in
-    omega (arith, p .next, puts-length p, c .before .before .before .before .before .before .before .pre .1, count-begins (c .before .before .before .before .before .before .before .args .low) (c .before .before .before .before .before .before .before .args .high) (c .before .before .before .before .before .if1 .left))
+    let after-low-number = c .before .before .before in
+    let after-if1 = after-low-number .before .before in
+    let start = after-if1 .before .before in
+    let p = after-low-number .low-number .ensures in
+    omega (arith, p .next, puts-length p, start .pre .1, count-begins (start .args .low) (start .args .high) (after-if1 .if1 .left))
 
 same-length-2 : tie.Need-same-length-2
 same-length-2 c = search needs
 
 returns-2 : tie.Need-returns-2
-returns-2 c = puts-as (puts-more (c .before .before .before .low-number .ensures) 46) (sym (count-open (c .before .before .before .before .before .before .before .args .low) (c .before .before .before .before .before .before .before .args .high) (c .if2 .taken)))
+returns-2 c =
+    let after-low-number = c .before .before .before in
+    let start = after-low-number .before .before .before .before in
+    puts-as (puts-more (after-low-number .low-number .ensures) 46) (sym (count-open (start .args .low) (start .args .high) (c .if2 .taken)))
 
 add-number : tie.Need-add-number
 add-number c =
-    let p = c .before .before .before .before .low-number .ensures in
-    omega (arith, p .next, puts-length p, c .before .before .before .before .before .before .before .before .pre .1, count-begins (c .before .before .before .before .before .before .before .before .args .low) (c .before .before .before .before .before .before .before .before .args .high) (c .before .before .before .before .before .before .if1 .left))
+    let after-low-number = c .before .before .before .before in
+    let after-if1 = after-low-number .before .before in
+    let start = after-if1 .before .before in
+    let p = after-low-number .low-number .ensures in
+    omega (arith, p .next, puts-length p, start .pre .1, count-begins (start .args .low) (start .args .high) (after-if1 .if1 .left))
 
 number-requires-2 : tie.Need-number-requires-2
 number-requires-2 c κs =
-    let a = c .before .before .before .before .before .before .before .before .args in
-    let e = count-two (a .low) (a .high) (c .before .if2 .left) (c .before .before .before .before .before .before .if1 .left) in
-    (high-small (a .low) (a .high) (c .before .if2 .left) (c .before .before .before .before .before .before .before .before .pre .0), puts-room (puts-more (c .before .before .before .before .low-number .ensures) 46) (decimal (a .high)) (omega (arith, c .before .before .before .before .before .before .before .before .pre .1, ap length e)))
+    let after-low-number = c .before .before .before .before in
+    let after-if1 = after-low-number .before .before in
+    let start = after-if1 .before .before in
+    let a = start .args in
+    let e = count-two (a .low) (a .high) (c .before .if2 .left) (after-if1 .if1 .left) in
+    (high-small (a .low) (a .high) (c .before .if2 .left) (start .pre .0), puts-room (puts-more (after-low-number .low-number .ensures) 46) (decimal (a .high)) (omega (arith, start .pre .1, ap length e)))
 
 same-length-3 : tie.Need-same-length-3
 same-length-3 c = puts-length (c .before .before .number2 .ensures) ∙ puts-length (puts-more (c .before .before .before .before .before .before .before .low-number .ensures) 46)
 
 returns-3 : tie.Need-returns-3
-returns-3 c = puts-as (puts-then (puts-more (c .before .before .before .before .before .before .before .low-number .ensures) 46) (c .before .before .number2 .ensures)) (sym (count-two (c .before .before .before .before .before .before .before .before .before .before .before .args .low) (c .before .before .before .before .before .before .before .before .before .before .before .args .high) (c .before .before .before .before .if2 .left) (c .before .before .before .before .before .before .before .before .before .if1 .left)))
+returns-3 c =
+    let after-if2 = c .before .before .before .before in
+    let after-low-number = after-if2 .before .before .before in
+    let after-if1 = after-low-number .before .before in
+    let start = after-if1 .before .before in
+    puts-as (puts-then (puts-more (after-low-number .low-number .ensures) 46) (c .before .before .number2 .ensures)) (sym (count-two (start .args .low) (start .args .high) (after-if2 .if2 .left) (after-if1 .if1 .left)))
 
 pub count-spec : {M : Type 1} → statement M
 count-spec =

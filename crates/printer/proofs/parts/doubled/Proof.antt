@@ -24,26 +24,36 @@ shared-slice-read-b : tie.Need-shared-slice-read-b Inv-loop μ-loop
 shared-slice-read-b c = omega arith
 
 slice-write-out : tie.Need-slice-write-out Inv-loop μ-loop
-slice-write-out c = quote-room (c .before .before .before .before .args .v .now) (c .before .before .before .loop .i) (omega arith) (c .before .before .before .loop .inv .1) (c .if1 .taken) (c .before .before .before .before .pre)
+slice-write-out c =
+    let turn = c .before .before .before in
+    let start = turn .before in
+    quote-room (start .args .v .now) (turn .loop .i) (omega arith) (turn .loop .inv .1) (c .if1 .taken) (start .pre)
 
 add-m : tie.Need-add-m Inv-loop μ-loop
-add-m c = omega (arith, partly-length (c .before .before .before .loop .inv .1), quote-room (c .before .before .before .before .args .v .now) (c .before .before .before .loop .i) (omega arith) (c .before .before .before .loop .inv .1) (c .if1 .taken) (c .before .before .before .before .pre))
+add-m c =
+    let turn = c .before .before .before in
+    let start = turn .before in
+    omega (arith, partly-length (turn .loop .inv .1), quote-room (start .args .v .now) (turn .loop .i) (omega arith) (turn .loop .inv .1) (c .if1 .taken) (start .pre))
 
 slice-write-out-2 : tie.Need-slice-write-out-2 Inv-loop μ-loop
 slice-write-out-2 c =
-    let a = c .before .before .before .before .args in
-    let l = c .before .before .before .loop in
+    let turn = c .before .before .before in
+    let start = turn .before in
+    let a = start .args in
+    let l = turn .loop in
     let h : Partly (a .out .now) (a .n) (double (a .v .now)) (c .if1 .out) (c .if1 .m) (getD (a .v .now) (l .i) 0 ∷ double (drop (suc (l .i)) (a .v .now))) =
     ⊎-elim (λ w. quote-on (a .v .now) (l .i) (omega arith) (l .inv .1) (w .0 .taken) (w .1) (w .2)) (λ w. plain-on (a .v .now) (l .i) (omega arith) (l .inv .1) (w .0 .left) (w .1) (w .2)) (c .if1 .came) in
-    byte-room (a .v .now) (c .before .before .before .before .pre) h
+    byte-room (a .v .now) (start .pre) h
 
 add-m-2 : tie.Need-add-m-2 Inv-loop μ-loop
 add-m-2 c =
-    let a = c .before .before .before .before .before .args in
-    let l = c .before .before .before .before .loop in
+    let turn = c .before .before .before .before in
+    let start = turn .before in
+    let a = start .args in
+    let l = turn .loop in
     let h : Partly (a .out .now) (a .n) (double (a .v .now)) (c .before .if1 .out) (c .before .if1 .m) (getD (a .v .now) (l .i) 0 ∷ double (drop (suc (l .i)) (a .v .now))) =
     ⊎-elim (λ w. quote-on (a .v .now) (l .i) (omega arith) (l .inv .1) (w .0 .taken) (w .1) (w .2)) (λ w. plain-on (a .v .now) (l .i) (omega arith) (l .inv .1) (w .0 .left) (w .1) (w .2)) (c .before .if1 .came) in
-    omega (arith, partly-length h, byte-room (a .v .now) (c .before .before .before .before .before .pre) h)
+    omega (arith, partly-length h, byte-room (a .v .now) (start .pre) h)
 
 add-i : tie.Need-add-i Inv-loop μ-loop
 add-i c = omega arith

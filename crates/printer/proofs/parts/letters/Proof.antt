@@ -24,10 +24,16 @@ letter-requires : tie.Need-letter-requires Inv-loop μ-loop
 letter-requires c κs = tt
 
 slice-write-out : tie.Need-slice-write-out Inv-loop μ-loop
-slice-write-out c = letter-room (c .before .before .before .loop .k) (c .before .before .before .before .before .args .set) (c .before .before .before .loop .left) (c .before .before .loop-test .taken) (c .before .if1 .taken) (c .before .before .before .before .before .pre) (c .before .before .before .loop .inv .1)
+slice-write-out c =
+    let turn = c .before .before .before in
+    let start = turn .before .before in
+    letter-room (turn .loop .k) (start .args .set) (turn .loop .left) (c .before .before .loop-test .taken) (c .before .if1 .taken) (start .pre) (turn .loop .inv .1)
 
 add-m : tie.Need-add-m Inv-loop μ-loop
-add-m c = omega (arith, partly-length (c .before .before .before .loop .inv .1), letter-room (c .before .before .before .loop .k) (c .before .before .before .before .before .args .set) (c .before .before .before .loop .left) (c .before .before .loop-test .taken) (c .before .if1 .taken) (c .before .before .before .before .before .pre) (c .before .before .before .loop .inv .1))
+add-m c =
+    let turn = c .before .before .before in
+    let start = turn .before .before in
+    omega (arith, partly-length (turn .loop .inv .1), letter-room (turn .loop .k) (start .args .set) (turn .loop .left) (c .before .before .loop-test .taken) (c .before .if1 .taken) (start .pre) (turn .loop .inv .1))
 
 add-k : tie.Need-add-k Inv-loop μ-loop
 add-k c = omega arith

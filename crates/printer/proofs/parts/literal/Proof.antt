@@ -21,21 +21,27 @@ doubled-requires c κs =
 
 slice-write-out-2 : tie.Need-slice-write-out-2
 slice-write-out-2 c =
-    let a = c .before .before .before .before .before .before .args in
+    let start = c .before .before .before .before .before .before in
+    let a = start .args in
     let p = puts-then (puts-byte (a .out .now) (a .n) 34) (c .before .before .doubled .ensures) in
-    omega (arith, puts-room p (34 ∷ []) (c .before .before .before .before .before .before .pre))
+    omega (arith, puts-room p (34 ∷ []) (start .pre))
 
 add-result : tie.Need-add-result
 add-result c =
-    let a = c .before .before .before .before .before .before .args in
+    let start = c .before .before .before .before .before .before in
+    let a = start .args in
     let p = puts-then (puts-byte (a .out .now) (a .n) 34) (c .before .before .doubled .ensures) in
-    omega (arith, puts-room p (34 ∷ []) (c .before .before .before .before .before .before .pre), puts-length p)
+    omega (arith, puts-room p (34 ∷ []) (start .pre), puts-length p)
 
 same-length : tie.Need-same-length
-same-length c = simp length-set (puts-length (puts-then (puts-byte (c .before .before .before .before .before .before .args .out .now) (c .before .before .before .before .before .before .args .n) 34) (c .before .before .doubled .ensures)))
+same-length c =
+    let start = c .before .before .before .before .before .before in
+    simp length-set (puts-length (puts-then (puts-byte (start .args .out .now) (start .args .n) 34) (c .before .before .doubled .ensures)))
 
 returns : tie.Need-returns
-returns c = puts-more (puts-then (puts-byte (c .before .before .before .before .before .before .args .out .now) (c .before .before .before .before .before .before .args .n) 34) (c .before .before .doubled .ensures)) 34
+returns c =
+    let start = c .before .before .before .before .before .before in
+    puts-more (puts-then (puts-byte (start .args .out .now) (start .args .n) 34) (c .before .before .doubled .ensures)) 34
 
 pub literal-spec : {M : Type 1} → statement M
 literal-spec =

@@ -12,7 +12,9 @@ returns : tie.Need-returns
 returns c = puts-as (puts-none (c .before .before .args .out .now) (c .before .before .args .n)) (sym (low-zero (c .before .before .args .low) (c .if1 .taken)))
 
 number-requires : tie.Need-number-requires
-number-requires c κs = (c .before .before .before .pre .0, omega (arith, c .before .before .before .pre .1, ap length (low-other (c .before .before .before .args .low) (c .before .if1 .left))))
+number-requires c κs =
+    let start = c .before .before .before in
+    (start .pre .0, omega (arith, start .pre .1, ap length (low-other (start .args .low) (c .before .if1 .left))))
 
 same-length : tie.Need-same-length
 same-length c = search needs

@@ -15,11 +15,16 @@ use Rattle.printer.proofs.parts.number.Tie as tie
 
 -- all digits but the last
 but-last : (c : tie.After-slice-known4) → Puts (c .before .before .before .before .before .before .before .before .before .before .before .before .before .args .out .now) (c .before .before .before .before .before .before .before .before .before .before .before .before .before .args .n) ((digit-at (c .before .before .before .before .before .before .before .before .before .before .before .before .before .args .x) 1000 ++ digit-at (c .before .before .before .before .before .before .before .before .before .before .before .before .before .args .x) 100) ++ digit-at (c .before .before .before .before .before .before .before .before .before .before .before .before .before .args .x) 10) (c .before .before .digit3 .last .0) (c .before .before .digit3 .result)
-but-last c = puts-then (puts-then (c .before .before .before .before .before .before .before .before .before .before .digit .ensures) (c .before .before .before .before .before .before .digit2 .ensures)) (c .before .before .digit3 .ensures)
+but-last c =
+    let after-digit2 = c .before .before .before .before .before .before in
+    let after-digit = after-digit2 .before .before .before .before in
+    puts-then (puts-then (after-digit .digit .ensures) (after-digit2 .digit2 .ensures)) (c .before .before .digit3 .ensures)
 
 -- and there is room for that
 ones-in : (c : tie.After-slice-known4) → c .before .before .digit3 .result + 1 ≤ length (c .before .before .digit3 .last .0)
-ones-in c = puts-room (but-last c) ((zero-byte + c .before .before .before .before .before .before .before .before .before .before .before .before .before .args .x % 10) ∷ []) (omega (arith, ap length (decimal-digits _ (c .before .before .before .before .before .before .before .before .before .before .before .before .before .pre .0)), c .before .before .before .before .before .before .before .before .before .before .before .before .before .pre .1))
+ones-in c =
+    let start = c .before .before .before .before .before .before .before .before .before .before .before .before .before in
+    puts-room (but-last c) ((zero-byte + start .args .x % 10) ∷ []) (omega (arith, ap length (decimal-digits _ (start .pre .0)), start .pre .1))
 
 digit-requires : tie.Need-digit-requires
 digit-requires c κs = let h = c .before .before .pre in (omega arith, omega (arith, digits-length _ (h .0), h .1))
@@ -32,9 +37,12 @@ digit-requires-2 c κs =
 
 digit-requires-3 : tie.Need-digit-requires-3
 digit-requires-3 c κs =
-    let h = c .before .before .before .before .before .before .before .before .before .before .pre in
-    let p = c .before .before .before .before .before .before .before .digit .ensures in
-    let q = c .before .before .before .digit2 .ensures in
+    let after-digit2 = c .before .before .before in
+    let after-digit = after-digit2 .before .before .before .before in
+    let start = after-digit .before .before .before in
+    let h = start .pre in
+    let p = after-digit .digit .ensures in
+    let q = after-digit2 .digit2 .ensures in
     (omega arith, omega (arith, digits-length _ (h .0), h .1, p .next, puts-length p, q .next, puts-length q))
 
 cast-out : tie.Need-cast-out

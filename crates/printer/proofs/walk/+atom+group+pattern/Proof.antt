@@ -87,16 +87,27 @@ atom-cast-group : (t : ℕ) → atom-lts.Need-cast-group (atom-claims t) (atom-a
 atom-cast-group t c = search needs
 
 atom-group-requires : (t : ℕ) → atom-lts.Need-group-requires (atom-claims t) (atom-at t) atom.Post
-atom-group-requires t c κs = (omega (arith, atom-room (c .before .before .before .before .before .before .before .before .before .before .before .pre .1), c .before .before .before .before .before .before .before .before .before .before .before .pre .0), inner-room (atom-counted t (c .before .before .before .before .before .before)) (c .before .before .if1 .taken))
+atom-group-requires t c κs =
+    let there = c .before .before .before .before .before .before in
+    let start = there .before .before .before .before .before in
+    (omega (arith, atom-room (start .pre .1), start .pre .0), inner-room (atom-counted t there) (c .before .before .if1 .taken))
 
 atom-slice-write-out-2 : (t : ℕ) → atom-lts.Need-slice-write-out-2 (atom-claims t) (atom-at t) atom.Post
 atom-slice-write-out-2 t c = omega (arith, close-room (atom-counted t (c .before .before .before .before .before .before .before .before .before)) (c .before .before .before .before .before .if1 .taken) (c .before .before .group .ensures))
 
 atom-add-t19 : (t : ℕ) → atom-lts.Need-add-t19 (atom-claims t) (atom-at t) atom.Post
-atom-add-t19 t c = omega (arith, close-fits (atom-counted t (c .before .before .before .before .before .before .before .before .before)) (c .before .before .before .before .before .if1 .taken) (c .before .before .group .ensures), c .before .before .before .before .before .before .before .before .before .before .before .before .before .before .good .1 .1 .0)
+atom-add-t19 t c =
+    let after-if1 = c .before .before .before .before .before in
+    let there = after-if1 .before .before .before .before in
+    let start = there .before .before .before .before .before in
+    omega (arith, close-fits (atom-counted t there) (after-if1 .if1 .taken) (c .before .before .group .ensures), start .good .1 .1 .0)
 
 atom-same-length : (t : ℕ) → atom-lts.Need-same-length (atom-claims t) (atom-at t) atom.Post
-atom-same-length t c = printed-length (c .before .before .before .before .before .before .before .before .before .before .before .before .before .before .pre .1) (group-printed (atom-counted t (c .before .before .before .before .before .before .before .before .before)) (c .before .before .before .before .before .if1 .taken) (c .before .before .group .ensures))
+atom-same-length t c =
+    let after-if1 = c .before .before .before .before .before in
+    let there = after-if1 .before .before .before .before in
+    let start = there .before .before .before .before .before in
+    printed-length (start .pre .1) (group-printed (atom-counted t there) (after-if1 .if1 .taken) (c .before .before .group .ensures))
 
 atom-returns : (t : ℕ) → atom-lts.Need-returns (atom-claims t) (atom-at t) atom.Post
 atom-returns t c = group-printed (atom-counted t (c .before .before .before .before .before .before .before .before .before)) (c .before .before .before .before .before .if1 .taken) (c .before .before .group .ensures)
@@ -108,7 +119,11 @@ atom-letters-requires : (t : ℕ) → atom-lts.Need-letters-requires (atom-claim
 atom-letters-requires t c κs = letters-room (atom-counted t (c .before .before .before .before .before .before .before)) (c .before .if2 .taken)
 
 atom-same-length-2 : (t : ℕ) → atom-lts.Need-same-length-2 (atom-claims t) (atom-at t) atom.Post
-atom-same-length-2 t c = printed-length (c .before .before .before .before .before .before .before .before .before .before .before .before .before .before .before .pre .1) (codes-printed (atom-counted t (c .before .before .before .before .before .before .before .before .before .before)) (c .before .before .before .before .if2 .taken) (c .before .before .letters .ensures))
+atom-same-length-2 t c =
+    let after-if2 = c .before .before .before .before in
+    let there = after-if2 .before .before .before .before .before .before in
+    let start = there .before .before .before .before .before in
+    printed-length (start .pre .1) (codes-printed (atom-counted t there) (after-if2 .if2 .taken) (c .before .before .letters .ensures))
 
 atom-returns-2 : (t : ℕ) → atom-lts.Need-returns-2 (atom-claims t) (atom-at t) atom.Post
 atom-returns-2 t c = codes-printed (atom-counted t (c .before .before .before .before .before .before .before .before .before .before)) (c .before .before .before .before .if2 .taken) (c .before .before .letters .ensures)
@@ -135,19 +150,40 @@ atom-sub-literal : (t : ℕ) → atom-lts.Need-sub-literal (atom-claims t) (atom
 atom-sub-literal t c = omega arith
 
 atom-part-literal-start : (t : ℕ) → atom-lts.Need-part-literal-start (atom-claims t) (atom-at t) atom.Post
-atom-part-literal-start t c = search (needs, text-in (atom-counted t (c .before .before .before .before .before .before .before .before .before)) (c .before .before .before .before .before .if1 .left) (c .before .before .before .if2 .left))
+atom-part-literal-start t c =
+    let after-if2 = c .before .before .before in
+    let after-if1 = after-if2 .before .before in
+    let there = after-if1 .before .before .before .before in
+    search (needs, text-in (atom-counted t there) (after-if1 .if1 .left) (after-if2 .if2 .left))
 
 atom-part-literal-end : (t : ℕ) → atom-lts.Need-part-literal-end (atom-claims t) (atom-at t) atom.Post
-atom-part-literal-end t c = search (needs, text-in (atom-counted t (c .before .before .before .before .before .before .before .before .before)) (c .before .before .before .before .before .if1 .left) (c .before .before .before .if2 .left))
+atom-part-literal-end t c =
+    let after-if2 = c .before .before .before in
+    let after-if1 = after-if2 .before .before in
+    let there = after-if1 .before .before .before .before in
+    search (needs, text-in (atom-counted t there) (after-if1 .if1 .left) (after-if2 .if2 .left))
 
 atom-literal-requires : (t : ℕ) → atom-lts.Need-literal-requires (atom-claims t) (atom-at t) atom.Post
-atom-literal-requires t c κs = literal-room (atom-counted t (c .before .before .before .before .before .before .before .before .before .before)) (c .before .before .before .before .before .before .if1 .left) (c .before .before .before .before .if2 .left)
+atom-literal-requires t c κs =
+    let after-if2 = c .before .before .before .before in
+    let after-if1 = after-if2 .before .before in
+    let there = after-if1 .before .before .before .before in
+    literal-room (atom-counted t there) (after-if1 .if1 .left) (after-if2 .if2 .left)
 
 atom-same-length-3 : (t : ℕ) → atom-lts.Need-same-length-3 (atom-claims t) (atom-at t) atom.Post
-atom-same-length-3 t c = printed-length (c .before .before .before .before .before .before .before .before .before .before .before .before .before .before .before .before .before .before .pre .1) (literal-printed (atom-counted t (c .before .before .before .before .before .before .before .before .before .before .before .before .before)) (c .before .before .before .before .before .before .before .before .before .if1 .left) (c .before .before .before .before .before .before .before .if2 .left) (c .before .before .literal .ensures))
+atom-same-length-3 t c =
+    let after-if2 = c .before .before .before .before .before .before .before in
+    let after-if1 = after-if2 .before .before in
+    let there = after-if1 .before .before .before .before in
+    let start = there .before .before .before .before .before in
+    printed-length (start .pre .1) (literal-printed (atom-counted t there) (after-if1 .if1 .left) (after-if2 .if2 .left) (c .before .before .literal .ensures))
 
 atom-returns-3 : (t : ℕ) → atom-lts.Need-returns-3 (atom-claims t) (atom-at t) atom.Post
-atom-returns-3 t c = literal-printed (atom-counted t (c .before .before .before .before .before .before .before .before .before .before .before .before .before)) (c .before .before .before .before .before .before .before .before .before .if1 .left) (c .before .before .before .before .before .before .before .if2 .left) (c .before .before .literal .ensures)
+atom-returns-3 t c =
+    let after-if2 = c .before .before .before .before .before .before .before in
+    let after-if1 = after-if2 .before .before in
+    let there = after-if1 .before .before .before .before in
+    literal-printed (atom-counted t there) (after-if1 .if1 .left) (after-if2 .if2 .left) (c .before .before .literal .ensures)
 
 abbrev group-Inv-loop : group-lts.InvT-loop
 group-Inv-loop body atoms out₀ i n k from₀ left₀ out from left = Branching left₀ body atoms out₀ from₀ out from left
@@ -162,7 +198,11 @@ group-pattern-requires : (t : ℕ) → group-lts.Need-pattern-requires (group-cl
 group-pattern-requires t c κs = let g = c .before .loop .inv in (omega (arith, g .on, c .before .before .before .before .pre .0), branch-room (g .room))
 
 group-same-length : (t : ℕ) → group-lts.Need-same-length (group-claims t) (group-at t) group.Post group-Inv-loop group-μ-loop
-group-same-length t c = branched-length (c .before .before .before .before .before .before .before .before .pre .1) (branching-last (c .before .before .before .before .before .loop .inv) (c .before .before .before .pattern .ensures) (c .if1 .taken))
+group-same-length t c =
+    let after-pattern = c .before .before .before in
+    let turn = after-pattern .before .before in
+    let start = turn .before .before .before in
+    branched-length (start .pre .1) (branching-last (turn .loop .inv) (after-pattern .pattern .ensures) (c .if1 .taken))
 
 group-returns : (t : ℕ) → group-lts.Need-returns (group-claims t) (group-at t) group.Post group-Inv-loop group-μ-loop
 group-returns t c = branching-last (c .before .before .before .before .before .loop .inv) (c .before .before .before .pattern .ensures) (c .if1 .taken)
@@ -201,16 +241,29 @@ pattern-fields-requires : (t : ℕ) → pattern-lts.Need-fields-requires (patter
 pattern-fields-requires t c κs = omega (arith, pattern-room (c .before .before .before .before .before .loop .inv .room))
 
 pattern-same-length : (t : ℕ) → pattern-lts.Need-same-length (pattern-claims t) (pattern-at t) pattern.Post pattern-Inv-loop pattern-μ-loop
-pattern-same-length t c = printed-length (c .before .before .before .before .before .before .before .before .before .before .before .pre .1) (going-last (c .before .before .before .before .before .before .before .before .loop .inv) (c .before .before .before .before .before .before .atom .ensures) (c .before .before .fields .ensures) (c .if1 .taken))
+pattern-same-length t c =
+    let after-atom = c .before .before .before .before .before .before in
+    let turn = after-atom .before .before in
+    let start = turn .before .before .before in
+    printed-length (start .pre .1) (going-last (turn .loop .inv) (after-atom .atom .ensures) (c .before .before .fields .ensures) (c .if1 .taken))
 
 pattern-returns : (t : ℕ) → pattern-lts.Need-returns (pattern-claims t) (pattern-at t) pattern.Post pattern-Inv-loop pattern-μ-loop
-pattern-returns t c = going-last (c .before .before .before .before .before .before .before .before .loop .inv) (c .before .before .before .before .before .before .atom .ensures) (c .before .before .fields .ensures) (c .if1 .taken)
+pattern-returns t c =
+    let after-atom = c .before .before .before .before .before .before in
+    let turn = after-atom .before .before in
+    going-last (turn .loop .inv) (after-atom .atom .ensures) (c .before .before .fields .ensures) (c .if1 .taken)
 
 pattern-loop-less : (t : ℕ) → pattern-lts.Need-loop-less (pattern-claims t) (pattern-at t) pattern.Post pattern-Inv-loop pattern-μ-loop
-pattern-loop-less t c = let g = going-more (c .before .before .before .before .before .before .before .before .loop .inv) (c .before .before .before .before .before .before .atom .ensures) (c .before .before .fields .ensures) (c .if1 .left) in omega (arith, going-on (c .before .before .before .before .before .before .before .before .loop .inv) (c .before .before .before .before .before .before .atom .ensures) (c .before .before .fields .ensures) (c .if1 .left), pattern-room (g .room))
+pattern-loop-less t c =
+    let after-atom = c .before .before .before .before .before .before in
+    let turn = after-atom .before .before in
+    let g = going-more (turn .loop .inv) (after-atom .atom .ensures) (c .before .before .fields .ensures) (c .if1 .left) in omega (arith, going-on (turn .loop .inv) (after-atom .atom .ensures) (c .before .before .fields .ensures) (c .if1 .left), pattern-room (g .room))
 
 pattern-loop-again : (t : ℕ) → pattern-lts.Need-loop-again (pattern-claims t) (pattern-at t) pattern.Post pattern-Inv-loop pattern-μ-loop
-pattern-loop-again t c = going-more (c .before .before .before .before .before .before .before .before .loop .inv) (c .before .before .before .before .before .before .atom .ensures) (c .before .before .fields .ensures) (c .if1 .left)
+pattern-loop-again t c =
+    let after-atom = c .before .before .before .before .before .before in
+    let turn = after-atom .before .before in
+    going-more (turn .loop .inv) (after-atom .atom .ensures) (c .before .before .fields .ensures) (c .if1 .left)
 
 pub +atom+group+pattern-spec : {M : Type 1} → statement M
 +atom+group+pattern-spec = close μ-atom μ-group μ-pattern (λ t. atom-lts.spec (atom-claims t) (atom-at t) atom.Post

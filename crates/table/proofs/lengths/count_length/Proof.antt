@@ -36,7 +36,10 @@ add-result-3 : tie.Need-add-result-3
 add-result-3 c = search needs
 
 returns-3 : tie.Need-returns-3
-returns-3 c = (two-length (c .before .before .before .before .args .low) (c .before .before .before .before .args .high) (c .before .low-length2 .result) (c .before .low-length2 .ensures .0) (c .digits2 .result) (c .before .before .before .if1 .left) (c .before .before .if2 .left) (c .digits2 .ensures .0), omega arith)
+returns-3 c =
+    let after-if1 = c .before .before .before in
+    let start = after-if1 .before in
+    (two-length (start .args .low) (start .args .high) (c .before .low-length2 .result) (c .before .low-length2 .ensures .0) (c .digits2 .result) (after-if1 .if1 .left) (c .before .before .if2 .left) (c .digits2 .ensures .0), omega arith)
 
 pub count-length-spec : {M : Type 1} → statement M
 count-length-spec =

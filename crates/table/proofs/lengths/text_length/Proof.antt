@@ -23,10 +23,16 @@ shared-slice-read-b : tie.Need-shared-slice-read-b Inv-loop μ-loop
 shared-slice-read-b c = omega arith
 
 returns : tie.Need-returns Inv-loop μ-loop
-returns c = text-low (c .before .before .before .before .args .v .now) (c .before .before .before .loop .i) (omega arith) (c .before .before .before .loop .inv .2) (c .if1 .taken)
+returns c =
+    let turn = c .before .before .before in
+    let start = turn .before in
+    text-low (start .args .v .now) (turn .loop .i) (omega arith) (turn .loop .inv .2) (c .if1 .taken)
 
 returns-2 : tie.Need-returns-2 Inv-loop μ-loop
-returns-2 c = text-high (c .before .before .before .before .before .args .v .now) (c .before .before .before .before .loop .i) (omega arith) (c .before .before .before .before .loop .inv .2) (c .before .if1 .left) (c .if2 .taken)
+returns-2 c =
+    let turn = c .before .before .before .before in
+    let start = turn .before in
+    text-high (start .args .v .now) (turn .loop .i) (omega arith) (turn .loop .inv .2) (c .before .if1 .left) (c .if2 .taken)
 
 add-n : tie.Need-add-n Inv-loop μ-loop
 add-n c = omega arith
@@ -42,9 +48,12 @@ loop-less c = omega arith
 
 loop-again : tie.Need-loop-again Inv-loop μ-loop
 loop-again c =
-    let v = c .before .before .before .before .before .before .before .args .v .now in
-    let l = c .before .before .before .before .before .before .loop in
-    let on = text-on v (l .i) (omega arith) (l .inv .2) (c .before .before .before .if1 .left) (c .before .before .if2 .left) in
+    let after-if1 = c .before .before .before in
+    let turn = after-if1 .before .before .before in
+    let start = turn .before in
+    let v = start .args .v .now in
+    let l = turn .loop in
+    let on = text-on v (l .i) (omega arith) (l .inv .2) (after-if1 .if1 .left) (c .before .before .if2 .left) in
     ⊎-elim
     (λ w. let q = quote-on v (l .i) (omega arith) (w .0 .taken) in (omega arith, omega arith, on, omega (arith, q)))
     (λ w. let q = other-on v (l .i) (omega arith) (w .0 .left) in (omega arith, omega arith, on, omega (arith, q)))

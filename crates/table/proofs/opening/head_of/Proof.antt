@@ -43,18 +43,26 @@ add-if3 c = search needs
 
 returns-2 : tie.Need-returns-2
 returns-2 c =
-    let s = c .before .before .before .before .before .before .before .before .args .table .now in
+    let after-if2 = c .before .before .before .before in
+    let after-marked = after-if2 .before in
+    let after-if1 = after-marked .before in
+    let start = after-if1 .before .before in
+    let s = start .args .table .now in
     let a : c .before .before .wide .result ≡ getD s atoms-place 0 = c .before .before .wide .ensures .0 in
     let n : c .before .word .result ≡ field s length-place = c .before .word .ensures in
     (λ j. opened.Table (record { atoms = a j; length = n j; records = header-size; pool = header-size + record-size * a j }))
-    ∙ head-right s (c .before .before .before .before .before .before .if1 .left) (sym (c .before .before .before .before .before .marked .ensures) ∙ c .before .before .before .before .if2 .taken) (omega (arith, c .if3 .taken, a, n))
+    ∙ head-right s (after-if1 .if1 .left) (sym (after-marked .marked .ensures) ∙ after-if2 .if2 .taken) (omega (arith, c .if3 .taken, a, n))
 
 returns-3 : tie.Need-returns-3
 returns-3 c =
-    let s = c .before .before .before .before .before .before .before .before .args .table .now in
+    let after-if2 = c .before .before .before .before in
+    let after-marked = after-if2 .before in
+    let after-if1 = after-marked .before in
+    let start = after-if1 .before .before in
+    let s = start .args .table .now in
     let a : c .before .before .wide .result ≡ getD s atoms-place 0 = c .before .before .wide .ensures .0 in
     let n : c .before .word .result ≡ field s length-place = c .before .word .ensures in
-    head-wrong s (c .before .before .before .before .before .before .if1 .left) (sym (c .before .before .before .before .before .marked .ensures) ∙ c .before .before .before .before .if2 .taken) (λ e. c .if3 .left (omega (arith, e, a, n)))
+    head-wrong s (after-if1 .if1 .left) (sym (after-marked .marked .ensures) ∙ after-if2 .if2 .taken) (λ e. c .if3 .left (omega (arith, e, a, n)))
 
 returns-4 : tie.Need-returns-4
 returns-4 c = head-off (c .before .before .before .before .args .table .now) (c .before .before .if1 .left) (sym (c .before .marked .ensures) ∙ c .if2 .left)

@@ -26,7 +26,10 @@ array-read-if1 : tie.Need-array-read-if1 Inv-loop μ-loop
 array-read-if1 c = omega arith
 
 returns : tie.Need-returns Inv-loop μ-loop
-returns c = mark-off (c .before .before .before .before .args .table .now) (c .before .before .before .loop .i) (c .before .before .before .before .pre) (omega arith) (c .before .before .before .loop .inv .1) (c .if1 .taken)
+returns c =
+    let turn = c .before .before .before in
+    let start = turn .before in
+    mark-off (start .args .table .now) (turn .loop .i) (start .pre) (omega arith) (turn .loop .inv .1) (c .if1 .taken)
 
 add-i : tie.Need-add-i Inv-loop μ-loop
 add-i c = omega arith
@@ -35,7 +38,10 @@ loop-less : tie.Need-loop-less Inv-loop μ-loop
 loop-less c = omega arith
 
 loop-again : tie.Need-loop-again Inv-loop μ-loop
-loop-again c = (omega arith, mark-on (c .before .before .before .before .args .table .now) (c .before .before .before .loop .i) (c .before .before .before .before .pre) (omega arith) (c .before .before .before .loop .inv .1) (c .if1 .left))
+loop-again c =
+    let turn = c .before .before .before in
+    let start = turn .before in
+    (omega arith, mark-on (start .args .table .now) (turn .loop .i) (start .pre) (omega arith) (turn .loop .inv .1) (c .if1 .left))
 
 returns-2 : tie.Need-returns-2 Inv-loop μ-loop
 returns-2 c = mark-end (c .before .before .args .table .now) (c .before .loop .i) (c .before .before .pre) (omega arith) (omega arith) (c .before .loop .inv .1)

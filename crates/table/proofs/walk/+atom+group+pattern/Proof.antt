@@ -66,14 +66,18 @@ pattern-claims t = (atom-below t, atom.Post, ends-of-reads.Asked, ends-of-reads.
 -- what is known where the length of a count was found
 atom-counted : (t : ℕ) (c : atom-lts.After-count-length (atom-claims t) (atom-at t) atom.Post)
     → Counted (c .before .before .before .before .before .before .args .body .now) (c .before .before .before .before .before .before .args .atoms) (c .before .before .before .before .before .before .args .at) (c .before .before .before .before .before .before .args .depth) (c .before .before .before .fields .result) (c .count-length .result)
-atom-counted t c = record {
-  ready = c .before .before .before .before .before .before .pre .1;
-  on = c .before .before .before .before .if1 .left;
-  same = c .before .before .before .fields .ensures;
-  fits = sym (c .before .before .is-ordered .ensures) ∙ c .before .if2 .taken;
-  count = c .count-length .ensures .0;
-  short = c .count-length .ensures .1;
-}
+atom-counted t c =
+    let after-fields = c .before .before .before in
+    let after-if1 = after-fields .before in
+    let start = after-if1 .before .before in
+    record {
+      ready = start .pre .1;
+      on = after-if1 .if1 .left;
+      same = after-fields .fields .ensures;
+      fits = sym (c .before .before .is-ordered .ensures) ∙ c .before .if2 .taken;
+      count = c .count-length .ensures .0;
+      short = c .count-length .ensures .1;
+    }
 
 atom-returns : (t : ℕ) → atom-lts.Need-returns (atom-claims t) (atom-at t) atom.Post
 atom-returns t c = record { past = tt; reads = atom-over _ _ _ _ (c .if1 .taken) }
@@ -115,19 +119,41 @@ atom-cast-if5 : (t : ℕ) → atom-lts.Need-cast-if5 (atom-claims t) (atom-at t)
 atom-cast-if5 t c = search needs
 
 atom-add-after : (t : ℕ) → atom-lts.Need-add-after (atom-claims t) (atom-at t) atom.Post
-atom-add-after t c = omega (arith, short-source (dest-ready (atom-counted t (c .before .before .before .before .before .before .before .before .before .before .before .before .before .before)) (c .before .before .before .before .before .before .before .before .before .before .before .if3 .taken) (c .before .before .before .before .before .before .before .before .before .before .if4 .taken) (c .before .before .before .before .before .before .before .group .ensures) (c .before .before .before .before .before .end .given .1)))
+atom-add-after t c =
+    let after-end = c .before .before .before .before .before in
+    let after-group = after-end .before .before in
+    let after-if4 = after-group .before .before .before in
+    let after-if3 = after-if4 .before in
+    let there = after-if3 .before .before .before in
+    omega (arith, short-source (dest-ready (atom-counted t there) (after-if3 .if3 .taken) (after-if4 .if4 .taken) (after-group .group .ensures) (after-end .end .given .1)))
 
 atom-returns-2 : (t : ℕ) → atom-lts.Need-returns-2 (atom-claims t) (atom-at t) atom.Post
-atom-returns-2 t c = group-passed (atom-counted t (c .before .before .before .before .before .before .before .before .before .before .before .before .before .before)) (c .before .before .before .before .before .before .before .before .before .before .before .if3 .taken) (c .before .before .before .before .before .before .before .before .before .before .if4 .taken) (c .before .before .before .before .before .before .before .group .ensures) (c .before .before .before .before .before .end .given .1) (c .before .if5 .taken)
+atom-returns-2 t c =
+    let after-end = c .before .before .before .before .before in
+    let after-group = after-end .before .before in
+    let after-if4 = after-group .before .before .before in
+    let after-if3 = after-if4 .before in
+    let there = after-if3 .before .before .before in
+    group-passed (atom-counted t there) (after-if3 .if3 .taken) (after-if4 .if4 .taken) (after-group .group .ensures) (after-end .end .given .1) (c .before .if5 .taken)
 
 atom-returns-3 : (t : ℕ) → atom-lts.Need-returns-3 (atom-claims t) (atom-at t) atom.Post
-atom-returns-3 t c = group-elsewhere (atom-counted t (c .before .before .before .before .before .before .before .before .before .before .before .before .before)) (c .before .before .before .before .before .before .before .before .before .before .if3 .taken) (c .before .before .before .before .before .before .before .before .before .if4 .taken) (c .before .before .before .before .before .before .group .ensures) (c .before .before .before .before .end .given .1) (c .if5 .left)
+atom-returns-3 t c =
+    let after-end = c .before .before .before .before in
+    let after-group = after-end .before .before in
+    let after-if4 = after-group .before .before .before in
+    let after-if3 = after-if4 .before in
+    let there = after-if3 .before .before .before in
+    group-elsewhere (atom-counted t there) (after-if3 .if3 .taken) (after-if4 .if4 .taken) (after-group .group .ensures) (after-end .end .given .1) (c .if5 .left)
 
 atom-enum-told : (t : ℕ) → atom-lts.Need-enum-told (atom-claims t) (atom-at t) atom.Post
 atom-enum-told t c = search needs
 
 atom-returns-4 : (t : ℕ) → atom-lts.Need-returns-4 (atom-claims t) (atom-at t) atom.Post
-atom-returns-4 t c = group-bad (atom-counted t (c .before .before .before .before .before .before .before .before .before)) (c .before .before .before .before .before .before .if3 .taken) (c .before .before .before .before .before .if4 .taken) (c .before .before .group .ensures) (c .enum-told .given .1)
+atom-returns-4 t c =
+    let after-if4 = c .before .before .before .before .before in
+    let after-if3 = after-if4 .before in
+    let there = after-if3 .before .before .before in
+    group-bad (atom-counted t there) (after-if3 .if3 .taken) (after-if4 .if4 .taken) (c .before .before .group .ensures) (c .enum-told .given .1)
 
 atom-returns-5 : (t : ℕ) → atom-lts.Need-returns-5 (atom-claims t) (atom-at t) atom.Post
 atom-returns-5 t c = too-deep (atom-counted t (c .before .before .before .before)) (c .before .if3 .taken) (c .if4 .left)
@@ -139,13 +165,27 @@ atom-enum-known-v : (t : ℕ) → atom-lts.Need-enum-known-v (atom-claims t) (at
 atom-enum-known-v t c = search needs
 
 atom-add-next-4 : (t : ℕ) → atom-lts.Need-add-next-4 (atom-claims t) (atom-at t) atom.Post
-atom-add-next-4 t c = let m = leaf-moved (atom-counted t (c .before .before .before .before .before .before .before)) (c .before .before .before .before .if3 .left) (c .before .before .before .leaf-at .ensures) (c .before .v .given .1) in omega (arith, m .pool, c .before .before .before .before .before .before .before .before .before .before .before .before .before .pre .1 .small)
+atom-add-next-4 t c =
+    let after-leaf-at = c .before .before .before in
+    let after-if3 = after-leaf-at .before in
+    let there = after-if3 .before .before .before in
+    let start = there .before .before .before .before .before .before in
+    let m = leaf-moved (atom-counted t there) (after-if3 .if3 .left) (after-leaf-at .leaf-at .ensures) (c .before .v .given .1) in omega (arith, m .pool, start .pre .1 .small)
 
 atom-add-next-5 : (t : ℕ) → atom-lts.Need-add-next-5 (atom-claims t) (atom-at t) atom.Post
-atom-add-next-5 t c = omega (arith, short-source (ready-on (c .before .before .before .before .before .before .before .before .before .before .before .before .before .before .pre .1) (leaf-moved (atom-counted t (c .before .before .before .before .before .before .before .before)) (c .before .before .before .before .before .if3 .left) (c .before .before .before .before .leaf-at .ensures) (c .before .before .v .given .1))))
+atom-add-next-5 t c =
+    let after-leaf-at = c .before .before .before .before in
+    let after-if3 = after-leaf-at .before in
+    let there = after-if3 .before .before .before in
+    let start = there .before .before .before .before .before .before in
+    omega (arith, short-source (ready-on (start .pre .1) (leaf-moved (atom-counted t there) (after-if3 .if3 .left) (after-leaf-at .leaf-at .ensures) (c .before .before .v .given .1))))
 
 atom-returns-6 : (t : ℕ) → atom-lts.Need-returns-6 (atom-claims t) (atom-at t) atom.Post
-atom-returns-6 t c = leaf-passed (atom-counted t (c .before .before .before .before .before .before .before .before)) (c .before .before .before .before .before .if3 .left) (c .before .before .before .before .leaf-at .ensures) (c .before .before .v .given .1)
+atom-returns-6 t c =
+    let after-leaf-at = c .before .before .before .before in
+    let after-if3 = after-leaf-at .before in
+    let there = after-if3 .before .before .before in
+    leaf-passed (atom-counted t there) (after-if3 .if3 .left) (after-leaf-at .leaf-at .ensures) (c .before .before .v .given .1)
 
 atom-enum-told-2 : (t : ℕ) → atom-lts.Need-enum-told-2 (atom-claims t) (atom-at t) atom.Post
 atom-enum-told-2 t c = search needs
@@ -172,10 +212,19 @@ group-enum-known-next : (t : ℕ) → group-lts.Need-enum-known-next (group-clai
 group-enum-known-next t c = search needs
 
 group-returns : (t : ℕ) → group-lts.Need-returns (group-claims t) (group-at t) group.Post group-Inv-loop group-μ-loop
-group-returns t c = branching-last (c .before .before .before .before .before .before .loop .inv) (λ z. omega (arith, z, c .before .before .before .before .before .loop-test .taken)) (c .before .before .before .before .pattern .ensures) (c .before .before .next .given .1) (c .if1 .taken)
+group-returns t c =
+    let after-pattern = c .before .before .before .before in
+    let after-loop-test = after-pattern .before in
+    let turn = after-loop-test .before in
+    branching-last (turn .loop .inv) (λ z. omega (arith, z, after-loop-test .loop-test .taken)) (after-pattern .pattern .ensures) (c .before .before .next .given .1) (c .if1 .taken)
 
 group-add-from : (t : ℕ) → group-lts.Need-add-from (group-claims t) (group-at t) group.Post group-Inv-loop group-μ-loop
-group-add-from t c = omega (arith, short-source (branch-ready (c .before .before .before .before .before .before .before .loop .inv) (λ z. omega (arith, z, c .before .before .before .before .before .before .loop-test .taken)) (c .before .before .before .before .before .pattern .ensures) (c .before .before .before .next .given .1)))
+group-add-from t c =
+    let after-next = c .before .before .before in
+    let after-pattern = after-next .before .before in
+    let after-loop-test = after-pattern .before in
+    let turn = after-loop-test .before in
+    omega (arith, short-source (branch-ready (turn .loop .inv) (λ z. omega (arith, z, after-loop-test .loop-test .taken)) (after-pattern .pattern .ensures) (after-next .next .given .1)))
 
 group-sub-left : (t : ℕ) → group-lts.Need-sub-left (group-claims t) (group-at t) group.Post group-Inv-loop group-μ-loop
 group-sub-left t c = omega arith
@@ -184,7 +233,12 @@ group-loop-less : (t : ℕ) → group-lts.Need-loop-less (group-claims t) (group
 group-loop-less t c = omega arith
 
 group-loop-again : (t : ℕ) → group-lts.Need-loop-again (group-claims t) (group-at t) group.Post group-Inv-loop group-μ-loop
-group-loop-again t c = branching-more (c .before .before .before .before .before .before .before .loop .inv) (λ z. omega (arith, z, c .before .before .before .before .before .before .loop-test .taken)) (c .before .before .before .before .before .pattern .ensures) (c .before .before .before .next .given .1) (c .before .if1 .left)
+group-loop-again t c =
+    let after-next = c .before .before .before in
+    let after-pattern = after-next .before .before in
+    let after-loop-test = after-pattern .before in
+    let turn = after-loop-test .before in
+    branching-more (turn .loop .inv) (λ z. omega (arith, z, after-loop-test .loop-test .taken)) (after-pattern .pattern .ensures) (after-next .next .given .1) (c .before .if1 .left)
 
 group-enum-told : (t : ℕ) → group-lts.Need-enum-told (group-claims t) (group-at t) group.Post group-Inv-loop group-μ-loop
 group-enum-told t c = search needs
@@ -211,25 +265,44 @@ pattern-enum-known-next : (t : ℕ) → pattern-lts.Need-enum-known-next (patter
 pattern-enum-known-next t c = search needs
 
 pattern-ends-of-requires : (t : ℕ) → pattern-lts.Need-ends-of-requires (pattern-claims t) (pattern-at t) pattern.Post pattern-Inv-loop pattern-μ-loop
-pattern-ends-of-requires t c κs = let m = going-moved (c .before .before .before .before .loop .inv) (c .before .before .before .atom .ensures) (c .before .next .given .1) in let r = c .before .before .before .before .loop .inv .ready in (record-in r (omega (arith, m .on, m .atom)), omega (arith, m .on, m .atom, r .few))
+pattern-ends-of-requires t c κs =
+    let after-atom = c .before .before .before in
+    let turn = after-atom .before in
+    let m = going-moved (turn .loop .inv) (after-atom .atom .ensures) (c .before .next .given .1) in let r = turn .loop .inv .ready in (record-in r (omega (arith, m .on, m .atom)), omega (arith, m .on, m .atom, r .few))
 
 pattern-add-t11 : (t : ℕ) → pattern-lts.Need-add-t11 (pattern-claims t) (pattern-at t) pattern.Post pattern-Inv-loop pattern-μ-loop
 pattern-add-t11 t c = let g = c .before .before .before .before .before .before .loop .inv in let r = g .ready in omega (arith, g .on, r .atom, r .few)
 
 pattern-returns : (t : ℕ) → pattern-lts.Need-returns (pattern-claims t) (pattern-at t) pattern.Post pattern-Inv-loop pattern-μ-loop
-pattern-returns t c = going-last (c .before .before .before .before .before .before .loop .inv) (c .before .before .before .before .before .atom .ensures) (c .before .before .before .next .given .1) (c .before .ends-of .ensures) (c .if1 .taken)
+pattern-returns t c =
+    let after-next = c .before .before .before in
+    let after-atom = after-next .before .before in
+    let turn = after-atom .before in
+    going-last (turn .loop .inv) (after-atom .atom .ensures) (after-next .next .given .1) (c .before .ends-of .ensures) (c .if1 .taken)
 
 pattern-returns-2 : (t : ℕ) → pattern-lts.Need-returns-2 (pattern-claims t) (pattern-at t) pattern.Post pattern-Inv-loop pattern-μ-loop
-pattern-returns-2 t c = going-other (c .before .before .before .before .before .before .before .loop .inv) (c .before .before .before .before .before .before .atom .ensures) (c .before .before .before .before .next .given .1) (c .before .before .ends-of .ensures) (c .before .if1 .left) (c .if2 .taken)
+pattern-returns-2 t c =
+    let after-next = c .before .before .before .before in
+    let after-atom = after-next .before .before in
+    let turn = after-atom .before in
+    going-other (turn .loop .inv) (after-atom .atom .ensures) (after-next .next .given .1) (c .before .before .ends-of .ensures) (c .before .if1 .left) (c .if2 .taken)
 
 pattern-add-before : (t : ℕ) → pattern-lts.Need-add-before (pattern-claims t) (pattern-at t) pattern.Post pattern-Inv-loop pattern-μ-loop
 pattern-add-before t c = let g = c .before .before .before .before .before .before .before .loop .inv in let r = g .ready in omega (arith, g .on, r .atom, r .few)
 
 pattern-loop-less : (t : ℕ) → pattern-lts.Need-loop-less (pattern-claims t) (pattern-at t) pattern.Post pattern-Inv-loop pattern-μ-loop
-pattern-loop-less t c = let m = going-moved (c .before .before .before .before .before .before .before .loop .inv) (c .before .before .before .before .before .before .atom .ensures) (c .before .before .before .before .next .given .1) in omega (arith, m .on, m .atom)
+pattern-loop-less t c =
+    let after-next = c .before .before .before .before in
+    let after-atom = after-next .before .before in
+    let turn = after-atom .before in
+    let m = going-moved (turn .loop .inv) (after-atom .atom .ensures) (after-next .next .given .1) in omega (arith, m .on, m .atom)
 
 pattern-loop-again : (t : ℕ) → pattern-lts.Need-loop-again (pattern-claims t) (pattern-at t) pattern.Post pattern-Inv-loop pattern-μ-loop
-pattern-loop-again t c = going-more (c .before .before .before .before .before .before .before .loop .inv) (c .before .before .before .before .before .before .atom .ensures) (c .before .before .before .before .next .given .1) (c .before .before .ends-of .ensures) (c .if2 .left)
+pattern-loop-again t c =
+    let after-next = c .before .before .before .before in
+    let after-atom = after-next .before .before in
+    let turn = after-atom .before in
+    going-more (turn .loop .inv) (after-atom .atom .ensures) (after-next .next .given .1) (c .before .before .ends-of .ensures) (c .if2 .left)
 
 pattern-enum-told : (t : ℕ) → pattern-lts.Need-enum-told (pattern-claims t) (pattern-at t) pattern.Post pattern-Inv-loop pattern-μ-loop
 pattern-enum-told t c = search needs

@@ -34,23 +34,34 @@ enum-known-n c = search needs
 
 add-t19 : tie.Need-add-t19
 add-t19 c =
-    let a = c .before .before .before .before .before .before .before .before .args in
-    let (e, m) = text-good (a .body .now) (a .atoms) (a .a) (a .b) (a .p) (record-size * a .atoms + a .p + a .b - (record-size * a .atoms + a .p)) _ (c .before .before .before .before .before .before .if1 .taken) (c .before .before .before .before .before .if2 .taken) (omega arith) (sym (c .before .n .given .1) ∙ c .before .before .before .text-length .ensures) in
+    let after-text-length = c .before .before .before in
+    let after-if2 = after-text-length .before .before in
+    let after-if1 = after-if2 .before in
+    let start = after-if1 .before .before in
+    let a = start .args in
+    let (e, m) = text-good (a .body .now) (a .atoms) (a .a) (a .b) (a .p) (record-size * a .atoms + a .p + a .b - (record-size * a .atoms + a .p)) _ (after-if1 .if1 .taken) (after-if2 .if2 .taken) (omega arith) (sym (c .before .n .given .1) ∙ after-text-length .text-length .ensures) in
     omega (arith, m)
 
 returns : tie.Need-returns
 returns c =
-    let a = c .before .before .before .before .before .before .before .before .args in
-    let (e, m) = text-good (a .body .now) (a .atoms) (a .a) (a .b) (a .p) (record-size * a .atoms + a .p + a .b - (record-size * a .atoms + a .p)) _ (c .before .before .before .before .before .before .if1 .taken) (c .before .before .before .before .before .if2 .taken) (omega arith) (sym (c .before .n .given .1) ∙ c .before .before .before .text-length .ensures) in
-    record { short = (c .before .before .before .before .before .if2 .taken, omega (arith, m)); reads = e }
+    let after-text-length = c .before .before .before in
+    let after-if2 = after-text-length .before .before in
+    let after-if1 = after-if2 .before in
+    let start = after-if1 .before .before in
+    let a = start .args in
+    let (e, m) = text-good (a .body .now) (a .atoms) (a .a) (a .b) (a .p) (record-size * a .atoms + a .p + a .b - (record-size * a .atoms + a .p)) _ (after-if1 .if1 .taken) (after-if2 .if2 .taken) (omega arith) (sym (c .before .n .given .1) ∙ after-text-length .text-length .ensures) in
+    record { short = (after-if2 .if2 .taken, omega (arith, m)); reads = e }
 
 enum-told : tie.Need-enum-told
 enum-told c = search needs
 
 returns-2 : tie.Need-returns-2
 returns-2 c =
-    let a = c .before .before .before .before .before .before .before .args in
-    record { short = tt; reads = text-bad (a .body .now) (a .atoms) (a .a) (a .b) (a .p) (record-size * a .atoms + a .p + a .b - (record-size * a .atoms + a .p)) (c .before .before .before .before .before .if1 .taken) (c .before .before .before .before .if2 .taken) (omega arith) (sym (c .enum-told .given .1) ∙ c .before .before .text-length .ensures) }
+    let after-if2 = c .before .before .before .before in
+    let after-if1 = after-if2 .before in
+    let start = after-if1 .before .before in
+    let a = start .args in
+    record { short = tt; reads = text-bad (a .body .now) (a .atoms) (a .a) (a .b) (a .p) (record-size * a .atoms + a .p + a .b - (record-size * a .atoms + a .p)) (after-if1 .if1 .taken) (after-if2 .if2 .taken) (omega arith) (sym (c .enum-told .given .1) ∙ c .before .before .text-length .ensures) }
 
 returns-3 : tie.Need-returns-3
 returns-3 c =
