@@ -1,7 +1,10 @@
 -- The three sentences on budgets, of the matching call: what its answer, scratch and parts are where no other refusal applies. Assumes nothing.
-use mathlib.Core.Path.{_≡_, sym, _∙_}
-use mathlib.Core.Option.{none, some}
+use mathlib.Core.Path.{_≡_, refl, sym, ap, _∙_}
+use mathlib.Core.Logic.{_↔_, ⊎-elim}
+use mathlib.Core.List.{List}
+use mathlib.Core.Option.{Option, none, some}
 use Prim.Native.Nat.{ℕ, _≤_, _<_}
+use native.Mathlib.Omega.{arith}
 use lib.ListN.{length}
 use Rattle.pattern.specs.Numbers.{BUDGET}
 use Rattle.pattern.specs.Bytes.{Bytes}
@@ -10,6 +13,7 @@ use Rattle.pattern.specs.Parts.{verdict}
 use Rattle.pattern.specs.Trials.{trials, trial-bound}
 use Rattle.pattern.specs.Decode.{decode}
 use Rattle.pattern.specs.Answers.{cleared, lent-fault, judged, matchOf}
+use Rattle.pattern.proofs.Tests.{le-or-lt}
 use Rattle.pattern.proofs.Bound.{bound}
 use Rattle.pattern.proofs.Calls.{within-budget, beyond-budget, budgets-agree, bound-enough}
 use Rattle.matcher.specs.declared.Matched.{Matched}
@@ -18,6 +22,16 @@ use Rattle.matcher.specs.Answered.{outcome-of}
 -- what `match_label` promises of its answer, and of scratch and parts afterwards
 abbrev pub Promised : (table label scratch parts : Bytes) → (budget : ℕ) → Matched → (scratch′ parts′ : Bytes) → Type 0
 Promised table label scratch parts budget r scratch′ parts′ = outcome-of budget r scratch′ parts′ ≡ matchOf table label scratch parts budget
+
+judged-count : (v : Option (List ℕ)) (t : Syntax pattern) (label scratch parts : Bytes) → judged v t label scratch parts .answer .trials ≡ trials label t
+unfolding judged
+judged-count none t label scratch parts = refl
+judged-count (some ends) t label scratch parts = refl
+
+judged-zero : (v : Option (List ℕ)) (t : Syntax pattern) (label scratch parts : Bytes) → judged v t label scratch parts .answer .number ≡ 0
+unfolding judged
+judged-zero none t label scratch parts = refl
+judged-zero (some ends) t label scratch parts = refl
 
 module _ (table label scratch parts : Bytes) (t : Syntax pattern) (good : decode table ≡ some t) (lent : lent-fault t label scratch parts ≡ none) where
   module _ (budget : ℕ) (r : Matched) (scratch′ parts′ : Bytes) (call : Promised table label scratch parts budget r scratch′ parts′) where
@@ -34,11 +48,22 @@ module _ (table label scratch parts : Bytes) (t : Syntax pattern) (good : decode
     pub call-bound : trial-bound (size t) (length label) ≤ budget → outcome-of budget r scratch′ parts′ ≡ judged (verdict label t) t label scratch parts
     call-bound h = call ∙ bound-enough table label scratch parts t good lent budget h
 
+    -- "A verdict is given exactly when that count is within the caller's budget"
+    pub call-exactly : (outcome-of budget r scratch′ parts′ .answer .number ≡ 0) ↔ (trials label t ≤ budget)
+    call-exactly = (
+      λ e. ⊎-elim (λ h. h) (λ h. let x : outcome-of budget r scratch′ parts′ .answer .number ≡ BUDGET = ap (λ m. m .answer .number) (call-beyond h) in absurd (omega arith)) (le-or-lt (trials label t) budget),
+      λ h. ap (λ m. m .answer .number) (call-within h) ∙ judged-zero (verdict label t) t label scratch parts,
+    )
+
+    -- "the match makes at most A x (n+1) x (n+1) x (n+2) x (n+3) / 6 trials": what is reported, with 15 too
+    pub call-count : outcome-of budget r scratch′ parts′ .answer .trials ≤ trial-bound (size t) (length label)
+    call-count =
+        ⊎-elim
+        (λ h. let x : outcome-of budget r scratch′ parts′ .answer .trials ≡ trials label t = ap (λ m. m .answer .trials) (call-within h) ∙ judged-count (verdict label t) t label scratch parts in omega (arith, x, bound label t))
+        (λ h. let x : outcome-of budget r scratch′ parts′ .answer .trials ≡ budget = ap (λ m. m .answer .trials) (call-beyond h) in omega (arith, x, h, bound label t))
+        (le-or-lt (trials label t) budget)
+
   -- "Every other budget that the count is within gives the same verdict, the same parts written and the same number reported"
   pub calls-agree : (b c : ℕ) (r q : Matched) (s p s′ p′ : Bytes) → Promised table label scratch parts b r s p → Promised table label scratch parts c q s′ p′
       → trials label t ≤ b → trials label t ≤ c → outcome-of b r s p ≡ outcome-of c q s′ p′
   calls-agree b c r q s p s′ p′ x y h k = x ∙ budgets-agree table label scratch parts t good lent b c h k ∙ sym y
-
--- "the match makes at most A x (n+1) x (n+1) x (n+2) x (n+3) / 6 trials": the count that a verdict reports is within the bound
-pub count-bound : (label : Bytes) (t : Syntax pattern) → trials label t ≤ trial-bound (size t) (length label)
-count-bound label t = bound label t
