@@ -12,16 +12,12 @@ use Rattle.pattern.specs.Syntax.{pattern, Syntax, size}
 use Rattle.pattern.specs.Parts.{verdict}
 use Rattle.pattern.specs.Trials.{trials, trial-bound}
 use Rattle.pattern.specs.Decode.{decode}
-use Rattle.pattern.specs.Answers.{cleared, lent-fault, judged, matchOf}
+use Rattle.pattern.specs.Answers.{cleared, lent-fault, judged}
 use Rattle.pattern.proofs.Tests.{le-or-lt}
 use Rattle.pattern.proofs.Bound.{bound}
 use Rattle.pattern.proofs.Calls.{within-budget, beyond-budget, budgets-agree, bound-enough}
 use Rattle.matcher.specs.declared.Matched.{Matched}
-use Rattle.matcher.specs.Answered.{outcome-of}
-
--- what `match_label` promises of its answer, and of scratch and parts afterwards
-abbrev pub Promised : (table label scratch parts : Bytes) → (budget : ℕ) → Matched → (scratch′ parts′ : Bytes) → Type 0
-Promised table label scratch parts budget r scratch′ parts′ = outcome-of budget r scratch′ parts′ ≡ matchOf table label scratch parts budget
+use Rattle.matcher.specs.Answered.{outcome-of, Promised}
 
 judged-count : (v : Option (List ℕ)) (t : Syntax pattern) (label scratch parts : Bytes) → judged v t label scratch parts .answer .trials ≡ trials label t
 unfolding judged

@@ -6,7 +6,7 @@ use Rattle.pattern.specs.Numbers.{label-limit, TABLE, LABEL, WORK, PARTS, BUDGE
 use Rattle.pattern.specs.Bytes.{Bytes}
 use Rattle.pattern.specs.Syntax.{top-size}
 use Rattle.pattern.specs.Decode.{tree-of}
-use Rattle.pattern.specs.Answers.{Answer, refusal, result, work, Matched as Outcome}
+use Rattle.pattern.specs.Answers.{Answer, refusal, result, work, matchOf, Matched as Outcome}
 use Rattle.matcher.specs.declared.Matched.{Matched}
 use Rattle.matcher.specs.declared.Matched.the-variants.{Table, Label, Work, Parts, Budget, No, Yes}
 use Rattle.matcher.specs.Atoms.{GoodTable, atoms}
@@ -24,6 +24,10 @@ answer-of budget (Yes trials) = result 1 trials
 -- the answer with scratch and parts afterwards
 abbrev pub outcome-of : (budget : ℕ) → Matched → (scratch parts : Bytes) → Outcome
 outcome-of budget r scratch parts = record { answer = answer-of budget r; scratch = scratch; parts = parts }
+
+-- what `match_label` promises of its answer, and of scratch and parts afterwards
+abbrev pub Promised : (table label scratch parts : Bytes) → (budget : ℕ) → Matched → (scratch′ parts′ : Bytes) → Type 0
+Promised table label scratch parts budget r scratch′ parts′ = outcome-of budget r scratch′ parts′ ≡ matchOf table label scratch parts budget
 
 -- a good table, and a label and lent slices that fit it
 pub record Running (table label scratch parts : Bytes) (count : ℕ) : Type 0 where

@@ -1,8 +1,8 @@
 // Matching a label against a table, each trial counted against a budget.
 ghost use mathlib.Core.Path.{_≡_};
-ghost use Rattle.pattern.specs.Answers.{matchOf, tried};
+ghost use Rattle.pattern.specs.Answers.{tried};
 ghost use Rattle.pattern.specs.Decode.{tree-of};
-ghost use Rattle.matcher.specs.Answered.{answer-of, outcome-of, Running};
+ghost use Rattle.matcher.specs.Answered.{answer-of, outcome-of, Promised, Running};
 
 mod atom;
 mod body;
@@ -113,7 +113,7 @@ pub fn match_label(
     parts: &mut [u8],
     budget: u64,
 ) -> Matched
-    ensures { λ r. ⌜ outcome-of budget r (now (scratch .exit)) (now (parts .exit)) ≡ matchOf (now (table .entry)) (now (label .entry)) (now (scratch .entry)) (now (parts .entry)) budget ⌝ }
+    ensures { λ r. ⌜ Promised (now (table .entry)) (now (label .entry)) (now (scratch .entry)) (now (parts .entry)) budget r (now (scratch .exit)) (now (parts .exit)) ⌝ }
 {
     match table::test(table) {
         Tested::Bad => Matched::Table,
