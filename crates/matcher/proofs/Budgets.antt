@@ -15,7 +15,7 @@ use Rattle.pattern.specs.Decode.{decode}
 use Rattle.pattern.specs.Answers.{cleared, lent-fault, judged}
 use Rattle.pattern.proofs.Tests.{le-or-lt}
 use Rattle.pattern.proofs.Bound.{bound}
-use Rattle.pattern.proofs.Calls.{within-budget, beyond-budget, budgets-agree, bound-enough}
+use Rattle.pattern.proofs.Calls.{within-budget, beyond-budget, budgets-agree, bound-enough, shown, scratch-ignored}
 use Rattle.matcher.specs.declared.Matched.{Matched}
 use Rattle.matcher.specs.Answered.{outcome-of, Promised}
 
@@ -63,3 +63,10 @@ module _ (table label scratch parts : Bytes) (t : Syntax pattern) (good : decode
   pub calls-agree : (b c : ℕ) (r q : Matched) (s p s′ p′ : Bytes) → Promised table label scratch parts b r s p → Promised table label scratch parts c q s′ p′
       → trials label t ≤ b → trials label t ≤ c → outcome-of b r s p ≡ outcome-of c q s′ p′
   calls-agree b c r q s p s′ p′ x y h k = x ∙ budgets-agree table label scratch parts t good lent b c h k ∙ sym y
+
+  -- the same on scratch that holds other bytes, as it does after a first call
+  pub calls-agree-anew : (other : Bytes) → length scratch ≡ length other → (b c : ℕ) (r q : Matched) (s p s′ p′ : Bytes)
+      → Promised table label scratch parts b r s p → Promised table label other parts c q s′ p′ → trials label t ≤ b → trials label t ≤ c
+      → shown (outcome-of b r s p) ≡ shown (outcome-of c q s′ p′)
+  calls-agree-anew other e b c r q s p s′ p′ x y h k =
+      ap shown (x ∙ budgets-agree table label scratch parts t good lent b c h k) ∙ scratch-ignored table label scratch other parts c e ∙ sym (ap shown y)
