@@ -20,9 +20,9 @@ use Rattle.pattern.proofs.RoundTrip.{some-pattern}
 use Rattle.pattern.proofs.Nodes.{At, at-branch}
 use Rattle.table.specs.declared.Record.{Record}
 use Rattle.table.specs.Fields.{record-of}
-use Rattle.planes.specs.declared.fill.Source.{Source}
-use Rattle.planes.specs.declared.fill.Source.the-variants.{Empty, Codes, Literal}
-use Rattle.planes.specs.Cells.{InRoom, Plane, Kept, Not, on}
+use Rattle.planes.specs.declared.fill.Content.{Content}
+use Rattle.planes.specs.declared.fill.Content.the-variants.{Empty, Codes, Literal}
+use Rattle.planes.specs.Cells.{InRoom, Plane, Kept, Others, on}
 use Rattle.planes.specs.Whole.{Blanked, Addable, Added}
 use Rattle.planes.specs.Filled.{held-in, Fit, Fillable, Filled}
 use Rattle.matcher.specs.Atoms.{atoms, node, head, inside, Work, Settled}
@@ -62,9 +62,9 @@ module _ (table label s : Bytes) (w top x : ℕ) (ok : Bodying table label s w t
   pub body-blank : (1 ≤ w) × InRoom s w top
   body-blank = (omega (arith, ok .work .wide), work-room (ok .work) top (omega (arith, ok .topmost)))
 
-  -- plane top can be filled from a source that lies where it should
-  pub body-fill : (source : Source) → Fit table source → Fillable table label s w source top
-  body-fill source f = record { wide = ok .work .wide; fit = f; into = body-blank .1 }
+  -- plane top can be filled with what lies where it should
+  pub body-fill : (content : Content) → Fit table content → Fillable table label s w content top
+  body-fill content f = record { wide = ok .work .wide; fit = f; into = body-blank .1 }
 
   module _ (r : Record) (got : r ≡ record-of (its table (layout table) x)) (s′ : Bytes) where
     pub body-codes : r .kind ≡ 1 → Filled table label s s′ w (Codes (r .a)) top → Bodied table label s s′ w top x
@@ -100,7 +100,7 @@ pub record Rest (table label s : Bytes) (w top x many first k : ℕ) : Type 0 wh
 pub record UniteAt (table label s₁ : Bytes) (w top x many : ℕ) (s : Bytes) (first k : ℕ) : Type 0 where
   pub below : k ≤ many
   pub long : length s ≡ length s₁
-  pub kept : Kept s₁ s w (top + 1) (Not top)
+  pub kept : Kept s₁ s w (top + 1) (Others top)
   pub settled : Settled table label s w (suc x)
   pub more : k < many → Rest table label s w top x many first k
   pub done : many ≤ k → Plane s w top (decide label (inside (head (node table x))))
@@ -125,7 +125,7 @@ module _ (table label s₀ s₁ : Bytes) (w top x : ℕ) (ok : Bodying table lab
   g : Branches table x (r .a) (r .b) (inside (head (node table x)))
   g = told-group table (ok .work .good) x (ok .there) r got n1 n2
 
-  away : (q i j : ℕ) → 2 * suc x ≤ q → q < 2 * atoms table → Not top q i j
+  away : (q i j : ℕ) → 2 * suc x ≤ q → q < 2 * atoms table → Others top q i j
   away q i j l m e = omega (arith, ok .topmost)
 
   pub unite-start : UniteAt table label s₁ w top x (r .a) s₁ (x + 1) 0
@@ -135,7 +135,7 @@ module _ (table label s₀ s₁ : Bytes) (w top x : ℕ) (ok : Bodying table lab
       record {
         below = omega arith;
         long = refl;
-        kept = kept-all s₁ w (top + 1) (Not top);
+        kept = kept-all s₁ w (top + 1) (Others top);
         settled = settled-kept (blank .kept) away (ok .settled);
         more = λ _. record {
           bs = g .all;

@@ -17,7 +17,7 @@ use Rattle.pattern.specs.Decode.{layout, its}
 use Rattle.table.specs.declared.Record.{Record}
 use Rattle.table.specs.Fields.{record-of}
 use Rattle.planes.specs.declared.join.Tally.{Tally}
-use Rattle.planes.specs.declared.fill.Source.the-variants.{Empty}
+use Rattle.planes.specs.declared.fill.Content.the-variants.{Empty}
 use Rattle.planes.specs.Cells.{InRoom, Plane, Kept, on}
 use Rattle.planes.specs.Joined.{join-trials}
 use Rattle.planes.specs.Whole.{Blanked}

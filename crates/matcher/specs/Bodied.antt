@@ -3,7 +3,7 @@ use mathlib.Core.Path.{_≡_}
 use Prim.Native.Nat.{ℕ, suc, _+_, _*_, _<_}
 use Rattle.pattern.specs.Bytes.{Bytes}
 use Rattle.pattern.specs.Decision.{decide}
-use Rattle.planes.specs.Cells.{Plane, Kept, Not}
+use Rattle.planes.specs.Cells.{Plane, Kept, Others}
 use Rattle.matcher.specs.Atoms.{atoms, node, head, inside, Work, Settled}
 
 -- the planes of all atoms after x are settled, and top is the first plane after those of the atoms
@@ -15,4 +15,4 @@ pub record Bodying (table label s : Bytes) (w top x : ℕ) : Type 0 where
 
 pub record Bodied (table label s s′ : Bytes) (w top x : ℕ) : Type 0 where
   pub plane : Plane s′ w top (decide label (inside (head (node table x))))
-  pub kept : Kept s s′ w (top + 1) (Not top)
+  pub kept : Kept s s′ w (top + 1) (Others top)

@@ -9,7 +9,7 @@ use Rattle.pattern.specs.Decision.{decide}
 use Rattle.pattern.specs.Trials.{joins, repeats, own, trials}
 use Rattle.pattern.specs.Decode.{tree-of}
 use Rattle.planes.specs.declared.join.Tally.{Tally}
-use Rattle.planes.specs.Cells.{Plane, Kept, Not}
+use Rattle.planes.specs.Cells.{Plane, Kept, Others}
 use Rattle.planes.specs.Budget.{Counted}
 use Rattle.planes.specs.Made.{Making}
 use Rattle.matcher.specs.Atoms.{atoms, node, head, inside, Work, Settled}
@@ -47,7 +47,7 @@ pub record Following (table label s : Bytes) (w x : ℕ) : Type 0 where
 pub record Followed (table label s s′ : Bytes) (w x budget trials : ℕ) (r : Tally) : Type 0 where
   pub counted : Counted budget (trials + follow-trials label (node table x)) (r .trials) (r .stopped)
   pub whole : r .stopped ≡ false → Plane s′ w (2 * x + 1) (decide label (node table x))
-  pub kept : Kept s s′ w (2 * x + 2) (Not (2 * x + 1))
+  pub kept : Kept s s′ w (2 * x + 2) (Others (2 * x + 1))
 
 pub record Stepped (table label s s′ : Bytes) (w top x budget trials : ℕ) (r : Tally) : Type 0 where
   pub counted : Counted budget (trials + own label (node table x)) (r .trials) (r .stopped)

@@ -10,7 +10,7 @@ use crate::walk::record_at;
 use planes::cells::add;
 use planes::cells::blank;
 use planes::cells::holds;
-use planes::fill::Source;
+use planes::fill::Content;
 use planes::fill::fill;
 use planes::join::Tally;
 use planes::join::join;
@@ -28,7 +28,7 @@ fn begin(table: &[u8], label: &[u8], scratch: &mut [u8], w: usize, top: usize, x
     ensures { λ _. ⌜ Begun (now (table .entry)) (now (label .entry)) (now (scratch .entry)) (now (scratch .exit)) w top x ⌝ }
 {
     fill_body(table, label, scratch, w, top, x);
-    fill(table, label, scratch, w, Source::Empty, top + 1);
+    fill(table, label, scratch, w, Content::Empty, top + 1);
     blank(scratch, w, 2 * x);
 }
 

@@ -12,7 +12,7 @@ use pattern::limits::HEADER_SIZE;
 use pattern::limits::RECORD_SIZE;
 use planes::cells::add;
 use planes::cells::blank;
-use planes::fill::Source;
+use planes::fill::Content;
 use planes::fill::fill;
 
 // Where the pool begins.
@@ -48,17 +48,17 @@ pub fn fill_body(table: &[u8], label: &[u8], scratch: &mut [u8], w: usize, top: 
 {
     let r = record_at(table, x);
     if r.kind == kind::CODES {
-        fill(table, label, scratch, w, Source::Codes(r.a), top);
+        fill(table, label, scratch, w, Content::Codes(r.a), top);
         return;
     }
     if r.kind == kind::LITERAL {
         if r.b == 0 {
-            fill(table, label, scratch, w, Source::Empty, top);
+            fill(table, label, scratch, w, Content::Empty, top);
             return;
         }
         let from = pool(table) + r.a as usize;
         let len = r.b as usize;
-        fill(table, label, scratch, w, Source::Literal(from, len), top);
+        fill(table, label, scratch, w, Content::Literal(from, len), top);
         return;
     }
     unite(table, label, scratch, w, top, x);

@@ -10,7 +10,7 @@ use crate::walk::after;
 use crate::walk::record_at;
 use planes::cells::byte;
 
-// The last m from which right reaches n, with left on i to m.
+// The last m with left on i to m and right on m to n, read in row n; i if there is none.
 fn last_end(scratch: &[u8], w: usize, left: usize, right: usize, i: usize, n: usize) -> usize
     requires { ⌜ i ≤ n ⌝ ∗ ⌜ n < w ⌝ ∗ ⌜ Readable (now scratch) w left ⌝ ∗ ⌜ Readable (now scratch) w right ⌝ }
     ensures { λ r. ⌜ r ≡ i + longest (suc n - i) (trial (on (now (scratch .entry)) w left) (on (now (scratch .entry)) w right) i n) ⌝ }

@@ -9,7 +9,7 @@ use borrow.Author.Tests.{le-leb, lt-leb}
 use lib.ListN.{length}
 use Rattle.pattern.specs.Decision.{any, made, join}
 use Rattle.planes.specs.declared.join.Tally.{Tally}
-use Rattle.planes.specs.Cells.{InRoom, Plane, Kept, Not, on}
+use Rattle.planes.specs.Cells.{InRoom, Plane, Kept, Others, on}
 use Rattle.planes.specs.Joined.{join-trials, Ready, Joined}
 use Rattle.planes.specs.Whole.{Addable, Added}
 use Rattle.planes.specs.Made.{Gathered, fewer, body-trials, Making, Elsewhere, MadeOf}
@@ -22,7 +22,7 @@ module _ (s : List ℕ) (w from out : ℕ) where
   gather-taken low k h s′ got = record { plane = plane-same (got .plane) (λ i j hi hj. rw (le-leb low k h)); kept = got .kept }
 
   pub gather-left : Addable s w from out → (low k : ℕ) → k < low → Gathered s s w from out low k
-  gather-left ok low k h = record { plane = plane-same (ok .into .flags) (λ i j hi hj. rw (lt-leb low k h)); kept = kept-all s w (out + 1) (Not out) }
+  gather-left ok low k h = record { plane = plane-same (ok .into .flags) (λ i j hi hj. rw (lt-leb low k h)); kept = kept-all s w (out + 1) (Others out) }
 
 -- where k bodies are made, and out has those of fewer than o
 pub record MakeAt (s₀ : List ℕ) (w top out low times budget trials : ℕ) (s : List ℕ) (spent from to k o : ℕ) : Type 0 where

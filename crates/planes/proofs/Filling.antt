@@ -1,4 +1,4 @@
--- The loop that fills a plane from a source, in plain values. Assumes nothing.
+-- The loop that fills a plane, in plain values. Assumes nothing.
 use mathlib.Core.Path.{_≡_, refl, sym, _∙_}
 use mathlib.Core.Bool.{Bool, true, false}
 use mathlib.Core.List.{List}
@@ -10,9 +10,9 @@ use borrow.Author.Tests.{eq-eqb, ne-eqb, eqb-true, eqb-false}
 use lib.Dec.{eqb}
 use lib.ListN.{length, getD}
 use Rattle.pattern.specs.Codes.{in-set}
-use Rattle.planes.specs.declared.fill.Source.{Source}
-use Rattle.planes.specs.declared.fill.Source.the-variants.{Empty, Codes, Literal}
-use Rattle.planes.specs.Cells.{Tells, Kept, Not, bitOf, marked}
+use Rattle.planes.specs.declared.fill.Content.{Content}
+use Rattle.planes.specs.declared.fill.Content.the-variants.{Empty, Codes, Literal}
+use Rattle.planes.specs.Cells.{Tells, Kept, Others, bitOf, marked}
 use Rattle.planes.specs.Whole.{Blanked}
 use Rattle.planes.specs.Filled.{held-in, span, Fit, Fillable, Filled}
 use Rattle.planes.proofs.Planes.{mark-long, mark-tells, mark-kept, kept-all, kept-then, tells-same, tells-kept}
@@ -25,63 +25,63 @@ same-or-not a b = go (eqb a b) (eqb-true a b) (eqb-false a b)
     go true f g = inl (f refl)
     go false f g = inr (g refl)
 
--- no stretch of another length is in a source
-held-off : (table label : List ℕ) (source : Source) → Fit table source → (i j : ℕ) → i ≤ j → j ≤ length label → (i + span source ≡ j → ⊥) → held-in table label source i j ≡ false
+-- a plane is filled with no stretch of another length
+held-off : (table label : List ℕ) (content : Content) → Fit table content → (i j : ℕ) → i ≤ j → j ≤ length label → (i + span content ≡ j → ⊥) → held-in table label content i j ≡ false
 unfolding held-in Fit
 held-off table label Empty f i j hi hj n = ne-eqb i j (λ e. n (omega arith))
 held-off table label (Codes set) f i j hi hj n = one-not set label i j hj (λ e. n (omega arith))
 held-off table label (Literal from len) f i j hi hj n = same-apart label table i j from (from + len) hj f (λ e. n (omega arith))
 
--- what a source says of its stretch from i on, and where its bytes lie
-module _ (table label : List ℕ) (i : ℕ) {source : Source} where
-  pub value-empty : source ≡ Empty → held-in table label source i (i + span source) ≡ true
+-- what is said of the stretch from i on, and where its bytes lie
+module _ (table label : List ℕ) (i : ℕ) {content : Content} where
+  pub value-empty : content ≡ Empty → held-in table label content i (i + span content) ≡ true
   unfolding held-in
   value-empty e = rw e (eq-eqb i (i + 0) (omega arith))
 
-  module _ (h : i + span source ≤ length label) where
-    pub value-codes : (set : ℕ) → source ≡ Codes set → (i < length label) × (held-in table label source i (i + span source) ≡ in-set set (getD label i 0))
+  module _ (h : i + span content ≤ length label) where
+    pub value-codes : (set : ℕ) → content ≡ Codes set → (i < length label) × (held-in table label content i (i + span content) ≡ in-set set (getD label i 0))
     unfolding held-in
     value-codes set e = let l : i + 1 ≤ length label = rw e at h in (omega arith, rw e (one-byte set label i (i + 1) l (omega arith)))
 
-    pub value-literal : (from len : ℕ) → source ≡ Literal from len → Fit table source → (i + len ≤ length label) × (from + len ≤ length table)
+    pub value-literal : (from len : ℕ) → content ≡ Literal from len → Fit table content → (i + len ≤ length label) × (from + len ≤ length table)
     unfolding Fit
     value-literal from len e f = (rw e at h, rw e at f)
 
 -- the stretches that end before j are filled, the others empty
-pub record FillAt (table label s₁ : List ℕ) (w : ℕ) (source : Source) (out : ℕ) (s : List ℕ) (j : ℕ) : Type 0 where
-  pub from : span source ≤ j
+pub record FillAt (table label s₁ : List ℕ) (w : ℕ) (content : Content) (out : ℕ) (s : List ℕ) (j : ℕ) : Type 0 where
+  pub from : span content ≤ j
   pub long : length s ≡ length s₁
-  pub done : (a b : ℕ) → a ≤ b → b < w → b < j → Tells s w out a b (held-in table label source a b)
+  pub done : (a b : ℕ) → a ≤ b → b < w → b < j → Tells s w out a b (held-in table label content a b)
   pub ahead : (a b : ℕ) → a ≤ b → b < w → j ≤ b → Tells s w out a b false
-  pub kept : Kept s₁ s w (out + 1) (Not out)
+  pub kept : Kept s₁ s w (out + 1) (Others out)
 
-module _ (table label s₀ s₁ : List ℕ) (w : ℕ) (source : Source) (out : ℕ) (ok : Fillable table label s₀ w source out) (len : length s₁ ≡ length s₀) (empty : Blanked s₀ s₁ w out) where
-  off : (a b : ℕ) → a ≤ b → b < w → (a + span source ≡ b → ⊥) → false ≡ held-in table label source a b
-  off a b l m n = sym (held-off table label source (ok .fit) a b l (omega (arith, ok .wide)) n)
+module _ (table label s₀ s₁ : List ℕ) (w : ℕ) (content : Content) (out : ℕ) (ok : Fillable table label s₀ w content out) (len : length s₁ ≡ length s₀) (empty : Blanked s₀ s₁ w out) where
+  off : (a b : ℕ) → a ≤ b → b < w → (a + span content ≡ b → ⊥) → false ≡ held-in table label content a b
+  off a b l m n = sym (held-off table label content (ok .fit) a b l (omega (arith, ok .wide)) n)
 
-  pub fill-start : FillAt table label s₁ w source out s₁ (span source)
+  pub fill-start : FillAt table label s₁ w content out s₁ (span content)
   fill-start = record {
     from = omega arith;
     long = refl;
     done = λ a b l m n. tells-same (empty .plane .holds a b l m) (off a b l m (λ e. omega arith));
     ahead = λ a b l m n. empty .plane .holds a b l m;
-    kept = kept-all s₁ w (out + 1) (Not out);
+    kept = kept-all s₁ w (out + 1) (Others out);
   }
 
-  module _ (s : List ℕ) (j : ℕ) (inv : FillAt table label s₁ w source out s j) where
-    pub fill-end : w ≤ j → Filled table label s₀ s w source out
+  module _ (s : List ℕ) (j : ℕ) (inv : FillAt table label s₁ w content out s j) where
+    pub fill-end : w ≤ j → Filled table label s₀ s w content out
     fill-end h = record {
       plane = record { holds = λ a b l m. inv .done a b l m (omega arith) };
       kept = kept-then (empty .kept) (inv .kept) (λ q a b n. n) (λ q a b n. n);
     }
 
-    pub fill-step : j < w → (i : ℕ) → i + span source ≡ j → (v : Bool) → v ≡ held-in table label source i (i + span source) → FillAt table label s₁ w source out (marked s w out i j (bitOf v)) (j + 1)
+    pub fill-step : j < w → (i : ℕ) → i + span content ≡ j → (v : Bool) → v ≡ held-in table label content i (i + span content) → FillAt table label s₁ w content out (marked s w out i j (bitOf v)) (j + 1)
     fill-step more i e v got =
         let hi : i ≤ j = omega arith in
         let k = mark-kept w out i j hi more s v in
         let other : (a b : ℕ) → a ≤ b → b < w → (a ≡ i → b ≡ j → ⊥) → (x : Bool) → Tells s w out a b x → Tells (marked s w out i j (bitOf v)) w out a b x
         = λ a b l m n x. tells-kept k l m (λ _. (n, λ y z. n (omega arith) (omega arith)), λ _. (λ y z. n (omega arith) (omega arith), λ y z. n z y)) in
-        let column : (a : ℕ) → a ≤ j → Tells (marked s w out i j (bitOf v)) w out a j (held-in table label source a j)
+        let column : (a : ℕ) → a ≤ j → Tells (marked s w out i j (bitOf v)) w out a j (held-in table label content a j)
         = λ a l. ⊎-elim
         (λ z. rw z (tells-same (mark-tells w out i j hi more s v (rw (inv .long ∙ len) (ok .into))) (rw e at got)))
         (λ n. tells-same (other a j l more (λ y _. n y) _ (inv .ahead a j l more (omega arith))) (off a j l more (λ z. n (omega arith))))

@@ -12,7 +12,7 @@ use Rattle.pattern.specs.Trials.{tries}
 use Rattle.planes.specs.declared.join.Search.{Search}
 use Rattle.planes.specs.declared.join.Search.the-variants.{Found, Missing, Stopped}
 use Rattle.planes.specs.declared.join.Tally.{Tally}
-use Rattle.planes.specs.Cells.{Tells, Plane, Kept, Not, on, bitOf, marked}
+use Rattle.planes.specs.Cells.{Tells, Plane, Kept, Others, on, bitOf, marked}
 use Rattle.planes.specs.Seek.{seek}
 use Rattle.planes.specs.Whole.{Blanked}
 use Rattle.planes.specs.Joined.{column-trials, join-trials, Ready, Vacant, Off, Columned, Joined}
@@ -22,7 +22,7 @@ use Rattle.planes.proofs.Counting.{Counting, count-start, count-step, c
 use Rattle.planes.proofs.Seeking.{Says, seek-says}
 
 -- a join that could be made still can
-ready-kept : {s s′ : List ℕ} {w left right out N : ℕ} → length s′ ≡ length s → Kept s s′ w N (Not out) → Ready s w left right out → Ready s′ w left right out
+ready-kept : {s s′ : List ℕ} {w left right out N : ℕ} → length s′ ≡ length s → Kept s s′ w N (Others out) → Ready s w left right out → Ready s′ w left right out
 ready-kept e k h = record {
   wide = h .wide;
   from-left = read-kept e k (λ i j. h .not-left) (h .from-left);
@@ -50,7 +50,7 @@ module _ (s₀ : List ℕ) (w left right out j budget trials : ℕ) where
   }
 
   module _ (hj : j < w) (ok : Ready s₀ w left right out) (s : List ℕ) (spent i : ℕ) (inv : ColumnAt s₀ w left right out j budget trials s spent i) where
-    others : Kept s₀ s w (out + 1) (Not out)
+    others : Kept s₀ s w (out + 1) (Others out)
     others = kept-less (out + 1) (out + 1) (omega arith) (inv .kept) (λ q a b n e. absurd (n e))
 
     pub column-ready : Ready s w left right out
@@ -114,7 +114,7 @@ pub record PlaneAt (s₀ : List ℕ) (w left right out budget trials : ℕ) (s :
   pub long : length s ≡ length s₀
   pub done : (a b : ℕ) → a ≤ b → b < j → Tells s w out a b (join (on s₀ w left) (on s₀ w right) a b)
   pub ahead : (a b : ℕ) → a ≤ b → j ≤ b → b < w → Tells s w out a b false
-  pub kept : Kept s₀ s w (out + 1) (Not out)
+  pub kept : Kept s₀ s w (out + 1) (Others out)
 
 module _ (s₀ : List ℕ) (w left right out budget trials : ℕ) where
   pub plane-start : trials ≤ budget → Plane s₀ w out (λ i j. false) → PlaneAt s₀ w left right out budget trials s₀ trials 0
@@ -123,7 +123,7 @@ module _ (s₀ : List ℕ) (w left right out budget trials : ℕ) where
     long = refl;
     done = λ a b l m. absurd (omega arith);
     ahead = λ a b l m n. v .holds a b l n;
-    kept = kept-all s₀ w (out + 1) (Not out);
+    kept = kept-all s₀ w (out + 1) (Others out);
   }
 
   module _ (ok : Ready s₀ w left right out) (s : List ℕ) (spent j : ℕ) (inv : PlaneAt s₀ w left right out budget trials s spent j) where
@@ -151,7 +151,7 @@ module _ (s₀ : List ℕ) (w left right out budget trials : ℕ) where
       columns-tried : column-trials (on s w left) (on s w right) j ≡ column-trials (on s₀ w left) (on s₀ w right) j
       columns-tried = column-same w _ _ _ _ left-same right-same j more
 
-      all-kept : Kept s₀ s′ w (out + 1) (Not out)
+      all-kept : Kept s₀ s′ w (out + 1) (Others out)
       all-kept = kept-then (inv .kept) (got .kept) (λ q a b n. n) (λ q a b n x. absurd (n x))
 
       pub plane-stop : r .stopped ≡ true → Joined s₀ s′ w left right out budget trials r

@@ -9,7 +9,7 @@ use native.Mathlib.Omega.{arith}
 use lib.Arith.{digits-lt, digits-div, digits-mod}
 use lib.Bits.{bitOr}
 use lib.ListN.{length, getD, set, length-set}
-use Rattle.planes.specs.Cells.{at, cell, InRoom, bitOf, on, Kept, Not}
+use Rattle.planes.specs.Cells.{at, cell, InRoom, bitOf, on, Kept, Others}
 use Rattle.planes.specs.Whole.{Blanked, Addable, Added}
 use Rattle.planes.proofs.Planes.{at-in, set-here, set-kept, kept-all, kept-then, kept-less}
 
@@ -25,7 +25,7 @@ module _ (s₀ : List ℕ) (w out : ℕ) (f : ℕ → ℕ → ℕ) where
   pass-start = record { below = omega arith; long = refl; done = λ i j hi hj l. absurd (omega arith); kept = kept-all _ _ _ _ }
 
   module _ (s : List ℕ) (k : ℕ) (inv : PassAt s₀ w out f s k) where
-    pub pass-end : w * w ≤ k → ((i j : ℕ) → i < w → j < w → cell s w out i j ≡ f i j) × Kept s₀ s w (out + 1) (Not out)
+    pub pass-end : w * w ≤ k → ((i j : ℕ) → i < w → j < w → cell s w out i j ≡ f i j) × Kept s₀ s w (out + 1) (Others out)
     pass-end h = (λ i j hi hj. inv .done i j hi hj (omega (arith, digits-lt hi hj)), kept-less (out + 1) (out + 1) (omega arith) (inv .kept) (λ q i j n e l. n e))
 
     module _ (some : 1 ≤ w) (more : k < w * w) where

@@ -38,7 +38,7 @@ on s w p i j = not (eqb (cell s w p i j) 0)
 pub record Plane (s : List ℕ) (w p : ℕ) (R : Rel) : Type 0 where
   pub holds : (i j : ℕ) → i ≤ j → j < w → Tells s w p i j (R i j)
 
--- plane p can be read: it lies in s whole, its cells are 0 or 1
+-- plane p can be read: it lies in s whole, its cells are 0 or 1, and the two of a stretch agree
 pub record Readable (s : List ℕ) (w p : ℕ) : Type 0 where
   pub room : InRoom s w p
   pub flags : Plane s w p (on s w p)
@@ -49,5 +49,5 @@ pub record Kept (s s′ : List ℕ) (w N : ℕ) (P : ℕ → ℕ → ℕ → Typ
   pub rest : (k : ℕ) → N * w * w ≤ k → getD s′ k 0 ≡ getD s k 0
 
 -- the cells of the planes other than p
-abbrev pub Not : ℕ → ℕ → ℕ → ℕ → Type 0
-Not p q i j = q ≡ p → ⊥
+abbrev pub Others : ℕ → ℕ → ℕ → ℕ → Type 0
+Others p q i j = q ≡ p → ⊥

@@ -1,4 +1,4 @@
--- Planes that need no trial: what a source says of a stretch, and what filling a plane from it asks and promises. Assumes nothing.
+-- Planes that need no trial: the relation of what they are filled with, and what filling asks and promises. Assumes nothing.
 use mathlib.Core.Path.{_≡_}
 use mathlib.Core.List.{List}
 use Prim.Native.Nat.{ℕ, _+_, _≤_}
@@ -7,34 +7,34 @@ use lib.ListN.{length}
 use lib.Seq.{slice}
 use Rattle.pattern.specs.Bytes.{same}
 use Rattle.pattern.specs.Decision.{Rel, one}
-use Rattle.planes.specs.declared.fill.Source.{Source}
-use Rattle.planes.specs.declared.fill.Source.the-variants.{Empty, Codes, Literal}
-use Rattle.planes.specs.Cells.{InRoom, Plane, Kept, Not}
+use Rattle.planes.specs.declared.fill.Content.{Content}
+use Rattle.planes.specs.declared.fill.Content.the-variants.{Empty, Codes, Literal}
+use Rattle.planes.specs.Cells.{InRoom, Plane, Kept, Others}
 
--- the relation that a source stands for
-unfoldable pub held-in : (table label : List ℕ) → Source → Rel
+-- the relation that it stands for
+unfoldable pub held-in : (table label : List ℕ) → Content → Rel
 held-in table label Empty i j = eqb i j
 held-in table label (Codes set) i j = one set (slice i j label)
 held-in table label (Literal from len) i j = same (slice i j label) (slice from (from + len) table)
 
 -- it has stretches of this length alone
-abbrev pub span : Source → ℕ
+abbrev pub span : Content → ℕ
 span Empty = 0
 span (Codes set) = 1
 span (Literal from len) = len
 
 -- a literal lies in the table
-unfoldable pub Fit : (table : List ℕ) → Source → Type 0
+unfoldable pub Fit : (table : List ℕ) → Content → Type 0
 Fit table Empty = Unit {0}
 Fit table (Codes set) = Unit {0}
 Fit table (Literal from len) = from + len ≤ length table
 
-pub record Fillable (table label s : List ℕ) (w : ℕ) (source : Source) (out : ℕ) : Type 0 where
+pub record Fillable (table label s : List ℕ) (w : ℕ) (content : Content) (out : ℕ) : Type 0 where
   pub wide : w ≡ length label + 1
-  pub fit : Fit table source
+  pub fit : Fit table content
   pub into : InRoom s w out
 
 -- s and s′ are the lists before and after
-pub record Filled (table label s s′ : List ℕ) (w : ℕ) (source : Source) (out : ℕ) : Type 0 where
-  pub plane : Plane s′ w out (held-in table label source)
-  pub kept : Kept s s′ w (out + 1) (Not out)
+pub record Filled (table label s s′ : List ℕ) (w : ℕ) (content : Content) (out : ℕ) : Type 0 where
+  pub plane : Plane s′ w out (held-in table label content)
+  pub kept : Kept s s′ w (out + 1) (Others out)

@@ -6,7 +6,7 @@ use Prim.Native.Nat.{ℕ, suc, _+_, _-_, _≤_}
 use Rattle.pattern.specs.Decision.{Rel, trial, join}
 use Rattle.pattern.specs.Trials.{tries, sum}
 use Rattle.planes.specs.declared.join.Tally.{Tally}
-use Rattle.planes.specs.Cells.{InRoom, Readable, Tells, Plane, Kept, Not, on}
+use Rattle.planes.specs.Cells.{InRoom, Readable, Tells, Plane, Kept, Others, on}
 use Rattle.planes.specs.Budget.{Counted}
 
 -- the trials of the stretches that end at j, and of all stretches below w: `joins n` is `join-trials (suc n)`
@@ -42,4 +42,4 @@ pub record Columned (s s′ : List ℕ) (w left right out j budget trials : ℕ)
 pub record Joined (s s′ : List ℕ) (w left right out budget trials : ℕ) (r : Tally) : Type 0 where
   pub counted : Counted budget (trials + join-trials w (on s w left) (on s w right)) (r .trials) (r .stopped)
   pub whole : r .stopped ≡ false → Plane s′ w out (join (on s w left) (on s w right))
-  pub kept : Kept s s′ w (out + 1) (Not out)
+  pub kept : Kept s s′ w (out + 1) (Others out)

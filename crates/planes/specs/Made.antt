@@ -8,14 +8,14 @@ use lib.ListN.{length}
 use Rattle.pattern.specs.Decision.{Rel, any, made}
 use Rattle.pattern.specs.Trials.{sum}
 use Rattle.planes.specs.declared.join.Tally.{Tally}
-use Rattle.planes.specs.Cells.{Plane, Kept, Not, on}
+use Rattle.planes.specs.Cells.{Plane, Kept, Others, on}
 use Rattle.planes.specs.Budget.{Counted}
 use Rattle.planes.specs.Joined.{join-trials}
 
 -- s and s′ are the lists before and after
 pub record Gathered (s s′ : List ℕ) (w from out low k : ℕ) : Type 0 where
   pub plane : Plane s′ w out (λ i j. leb low k && on s w from i j || on s w out i j)
-  pub kept : Kept s s′ w (out + 1) (Not out)
+  pub kept : Kept s s′ w (out + 1) (Others out)
 
 -- the stretches made of low to o - 1 bodies
 abbrev pub fewer : Rel → ℕ → ℕ → Rel

@@ -2,12 +2,12 @@
 use mathlib.Core.Bool.{false, _||_}
 use mathlib.Core.List.{List}
 use Prim.Native.Nat.{ℕ, _+_, _≤_}
-use Rattle.planes.specs.Cells.{Readable, Plane, Kept, Not, on}
+use Rattle.planes.specs.Cells.{Readable, Plane, Kept, Others, on}
 
 -- s and s′ are the lists before and after
 pub record Blanked (s s′ : List ℕ) (w out : ℕ) : Type 0 where
   pub plane : Plane s′ w out (λ i j. false)
-  pub kept : Kept s s′ w (out + 1) (Not out)
+  pub kept : Kept s s′ w (out + 1) (Others out)
 
 pub record Addable (s : List ℕ) (w from out : ℕ) : Type 0 where
   pub wide : 1 ≤ w
@@ -16,4 +16,4 @@ pub record Addable (s : List ℕ) (w from out : ℕ) : Type 0 where
 
 pub record Added (s s′ : List ℕ) (w from out : ℕ) : Type 0 where
   pub plane : Plane s′ w out (λ i j. on s w from i j || on s w out i j)
-  pub kept : Kept s s′ w (out + 1) (Not out)
+  pub kept : Kept s s′ w (out + 1) (Others out)

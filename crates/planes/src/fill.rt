@@ -1,4 +1,4 @@
-// Planes that need no trial. The stretches of a source are all of one length, so one for each place is looked at.
+// Planes that need no trial: what they are filled with is of one length, so one stretch for each place is looked at.
 ghost use mathlib.Core.Path.{_≡_};
 ghost use Prim.Native.Nat.{_+_, _≤_};
 ghost use lib.ListN.{length};
@@ -8,21 +8,21 @@ ghost use Rattle.planes.specs.Filled.{span, Fit, Fillable, held-in, Fill
 use crate::cells::blank;
 use crate::cells::mark;
 
-// What a plane is filled from: the empty stretches; one byte of a set; some bytes from a place of the table on.
-pub enum Source {
+// What a plane is filled with: the empty stretches; one byte of a set; some bytes from a place of the table on.
+pub enum Content {
     Empty,
     Codes(u16),
     Literal(usize, usize),
 }
 
-// The length of a source's stretches.
-fn width(source: Source) -> usize
-    ensures { λ r. ⌜ r ≡ span source ⌝ }
+// The length of the stretches that a plane is filled with.
+fn width(content: Content) -> usize
+    ensures { λ r. ⌜ r ≡ span content ⌝ }
 {
-    match source {
-        Source::Empty => 0,
-        Source::Codes(_) => 1,
-        Source::Literal(_, len) => len,
+    match content {
+        Content::Empty => 0,
+        Content::Codes(_) => 1,
+        Content::Literal(_, len) => len,
     }
 }
 
@@ -41,29 +41,29 @@ fn is_same(label: &[u8], i: usize, table: &[u8], from: usize, len: usize) -> boo
     true
 }
 
-// The source says yes of its stretch that begins at i.
-fn value(table: &[u8], label: &[u8], source: Source, i: usize) -> bool
-    requires { ⌜ i + span source ≤ length (now label) ⌝ ∗ ⌜ Fit (now table) source ⌝ }
-    ensures { λ r. ⌜ r ≡ held-in (now (table .entry)) (now (label .entry)) source i (i + span source) ⌝ }
+// The stretch of that length that begins at i is one of those.
+fn value(table: &[u8], label: &[u8], content: Content, i: usize) -> bool
+    requires { ⌜ i + span content ≤ length (now label) ⌝ ∗ ⌜ Fit (now table) content ⌝ }
+    ensures { λ r. ⌜ r ≡ held-in (now (table .entry)) (now (label .entry)) content i (i + span content) ⌝ }
 {
-    match source {
-        Source::Empty => true,
-        Source::Codes(set) => codes::in_set(set, label[i]),
-        Source::Literal(from, len) => is_same(label, i, table, from, len),
+    match content {
+        Content::Empty => true,
+        Content::Codes(set) => codes::in_set(set, label[i]),
+        Content::Literal(from, len) => is_same(label, i, table, from, len),
     }
 }
 
-// Plane out, from a source.
-pub fn fill(table: &[u8], label: &[u8], scratch: &mut [u8], w: usize, source: Source, out: usize)
-    requires { ⌜ Fillable (now table) (now label) (now scratch) w source out ⌝ }
-    ensures { λ _. ⌜ Filled (now (table .entry)) (now (label .entry)) (now (scratch .entry)) (now (scratch .exit)) w source out ⌝ }
+// Plane out, with what it is to be filled with.
+pub fn fill(table: &[u8], label: &[u8], scratch: &mut [u8], w: usize, content: Content, out: usize)
+    requires { ⌜ Fillable (now table) (now label) (now scratch) w content out ⌝ }
+    ensures { λ _. ⌜ Filled (now (table .entry)) (now (label .entry)) (now (scratch .entry)) (now (scratch .exit)) w content out ⌝ }
 {
     blank(scratch, w, out);
-    let n = width(source);
+    let n = width(content);
     let mut j = n;
     while j < w {
         let i = j - n;
-        mark(scratch, w, out, i, j, value(table, label, source, i));
+        mark(scratch, w, out, i, j, value(table, label, content, i));
         j += 1;
     }
 }

@@ -22,7 +22,8 @@ pub struct Tally {
     pub stopped: bool,
 }
 
-// The last end m of i to j with left on i to m and right on m to j, each trial counted against the budget.
+// The last end m of i to j with left on i to m and right on m to j, each trial counted against the budget. What right says
+// of m to j stands in row j too, so both cells of a trial are read along a row.
 fn search_end(
     scratch: &[u8],
     w: usize,

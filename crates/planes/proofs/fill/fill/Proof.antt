@@ -7,10 +7,10 @@ use Rattle.planes.proofs.fill.fill.Statement.{statement}
 use Rattle.planes.proofs.fill.fill.Tie as tie
 
 abbrev Inv-loop : tie.InvT-loop
-Inv-loop table label scratch₀ w source out n j₀ scratch j = FillAt table label scratch₀ w source out scratch j
+Inv-loop table label scratch₀ w content out n j₀ scratch j = FillAt table label scratch₀ w content out scratch j
 
 abbrev μ-loop : tie.MeasureT-loop
-μ-loop table label scratch₀ w source out n j₀ scratch j = w - j
+μ-loop table label scratch₀ w content out n j₀ scratch j = w - j
 
 blank-requires : tie.Need-blank-requires Inv-loop μ-loop
 blank-requires c κs = (omega (arith, c .before .before .before .before .pre .wide), c .before .before .before .before .pre .into)

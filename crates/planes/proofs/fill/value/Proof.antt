@@ -1,4 +1,4 @@
--- `planes::fill::value` meets its contract: in each arm the source is the one of the pattern. Assumes nothing.
+-- `planes::fill::value` meets its contract: in each arm the content is the one of the pattern. Assumes nothing.
 use mathlib.Core.Path.{sym, _∙_}
 use borrow.Author.Needs.{needs}
 use denote.Ref.{now}
@@ -10,30 +10,30 @@ use Rattle.planes.proofs.fill.value.Tie as tie
 enum-told : tie.Need-enum-told
 enum-told c = search needs
 
-enum-known-source : tie.Need-enum-known-source
-enum-known-source c = search needs
+enum-known-content : tie.Need-enum-known-content
+enum-known-content c = search needs
 
 shared-slice-read-in-set : tie.Need-shared-slice-read-in-set
-shared-slice-read-in-set c = let s = c .before .before .before .before .before .before in value-codes (now (s .args .table)) (now (s .args .label)) (s .args .i) (s .pre .0) _ (c .before .before .source .given .1) .0
+shared-slice-read-in-set c = let s = c .before .before .before .before .before .before in value-codes (now (s .args .table)) (now (s .args .label)) (s .args .i) (s .pre .0) _ (c .before .before .content .given .1) .0
 
 in-set-requires : tie.Need-in-set-requires
 in-set-requires c κs = search needs
 
-enum-known-source-2 : tie.Need-enum-known-source-2
-enum-known-source-2 c = search needs
+enum-known-content-2 : tie.Need-enum-known-content-2
+enum-known-content-2 c = search needs
 
 is-same-requires : tie.Need-is-same-requires
-is-same-requires c κs = let s = c .before .before .before .before .before in value-literal (now (s .args .table)) (now (s .args .label)) (s .args .i) (s .pre .0) _ _ (c .before .source2 .given .1) (s .pre .1)
+is-same-requires c κs = let s = c .before .before .before .before .before in value-literal (now (s .args .table)) (now (s .args .label)) (s .args .i) (s .pre .0) _ _ (c .before .content2 .given .1) (s .pre .1)
 
 returns : tie.Need-returns
 returns c = sym (value-empty _ _ _ (c .enum-told .given .1))
 
 returns-2 : tie.Need-returns-2
-returns-2 c = c .in-set .ensures ∙ sym (value-codes _ _ _ (c .before .before .before .before .before .before .before .pre .0) _ (c .before .before .before .source .given .1) .1)
+returns-2 c = c .in-set .ensures ∙ sym (value-codes _ _ _ (c .before .before .before .before .before .before .before .pre .0) _ (c .before .before .before .content .given .1) .1)
 
 returns-3 : tie.Need-returns-3
 unfolding held-in
-returns-3 c = rw (c .before .before .source2 .given .1) (c .is-same .ensures)
+returns-3 c = rw (c .before .before .content2 .given .1) (c .is-same .ensures)
 
 pub value-spec : {M : Type 1} → statement M
-value-spec = tie.close (tie.spec enum-told enum-known-source shared-slice-read-in-set in-set-requires enum-known-source-2 is-same-requires returns returns-2 returns-3)
+value-spec = tie.close (tie.spec enum-told enum-known-content shared-slice-read-in-set in-set-requires enum-known-content-2 is-same-requires returns returns-2 returns-3)
