@@ -25,7 +25,7 @@ flat-over [] s = refl
 flat-over (r ∷ xs) s = ap (λ l. r .kind ∷ r .ends ∷ word (r .low) (word (r .high) (word (r .a) (word (r .b) l)))) (flat-over xs s)
 
 -- of two trees one after the other
-pub wrote-both : {o o₁ o₂ : Sort} (e f : ℕ) (x : Syntax o₁) (y : Syntax o₂) (t : Syntax o) (n p m q m′ q′ : ℕ) (recs recs₁ recs₂ text text₁ text₂ : Bytes)
+wrote-both : {o o₁ o₂ : Sort} (e f : ℕ) (x : Syntax o₁) (y : Syntax o₂) (t : Syntax o) (n p m q m′ q′ : ℕ) (recs recs₁ recs₂ text text₁ text₂ : Bytes)
     → size t ≡ size x + size y → pool t ≡ pool x ++ pool y → records 1 t n p ≡ records e x n p ++ records f y (n + size x) (p + length (pool x))
     → Wrote e x n p m q recs recs₁ text text₁ → Wrote f y m q m′ q′ recs₁ recs₂ text₁ text₂ → Wrote 1 t n p m′ q′ recs recs₂ text text₂
 wrote-both e f x y t n p m q m′ q′ recs recs₁ recs₂ text text₁ text₂ z v r a b =

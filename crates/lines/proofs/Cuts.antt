@@ -25,7 +25,7 @@ first-after b (c ∷ u) w e = go (eqb c b) e (first-after b u w)
     go false e r = ap suc (r (omega arith))
 
 -- "cut at the first tab"
-pub cut-first : (source label : Bytes) → first tab-byte source ≡ length source → cut (source ++ tab-byte ∷ label) ≡ some (source, label)
+cut-first : (source label : Bytes) → first tab-byte source ≡ length source → cut (source ++ tab-byte ∷ label) ≡ some (source, label)
 unfolding cut cut-at
 cut-first source label e =
     let line : Bytes = source ++ tab-byte ∷ label in

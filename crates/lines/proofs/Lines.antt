@@ -36,7 +36,7 @@ module _ (held s : Bytes) (i : ℕ) where
   unfolding taken
   taken-newline h e = ap (taken held) (drop-one s i h) ∙ if-true _ _ _ (eq-eqb _ _ e)
 
-  pub taken-byte : i < length s → ¬ (getD s i 0 ≡ newline-byte) → taken held (drop i s) ≡ taken (hold held (getD s i 0)) (drop (i + 1) s)
+  taken-byte : i < length s → ¬ (getD s i 0 ≡ newline-byte) → taken held (drop i s) ≡ taken (hold held (getD s i 0)) (drop (i + 1) s)
   unfolding taken
   taken-byte h e = ap (taken held) (drop-one s i h) ∙ if-false _ _ _ (ne-eqb _ _ e)
 

@@ -16,13 +16,13 @@ use Rattle.pattern.proofs.Stores.{puts-then}
 
 module _ (parts : Bytes) (i c : ℕ) where
   -- two bytes, and what is after them
-  pub drop-two : i + 1 < length parts → drop i parts ≡ getD parts i 0 ∷ getD parts (i + 1) 0 ∷ drop (i + 2) parts
+  drop-two : i + 1 < length parts → drop i parts ≡ getD parts i 0 ∷ getD parts (i + 1) 0 ∷ drop (i + 2) parts
   drop-two h =
       let e : i + 1 + 1 ≡ i + 2 = omega arith in
       drop-one parts i (omega arith) ∙ ap (λ s. getD parts i 0 ∷ s) (drop-one parts (i + 1) h) ∙ ap (λ k. getD parts i 0 ∷ getD parts (i + 1) 0 ∷ drop k parts) e
 
   -- an end, one that was not written, and none
-  pub listed-more : i + 1 < length parts → ¬ (getD parts (i + 1) 0 ≡ unset)
+  listed-more : i + 1 < length parts → ¬ (getD parts (i + 1) 0 ≡ unset)
       → listed c (ends-in (drop i parts)) ≡ c ∷ decimal (getD parts i 0 + 256 * getD parts (i + 1) 0) ++ listed comma-byte (ends-in (drop (i + 2) parts))
   unfolding ends-in listed
   listed-more h f = ap (λ s. listed c (ends-in s)) (drop-two h) ∙ ap (listed c) (if-false _ _ _ (ne-eqb _ _ f))

@@ -40,7 +40,7 @@ module _ {X : Type 0} {f : Bytes → Bytes → X} {a : Bytes → X} {b : Bytes �
   walk-ended {held} {s} e = ap of-taken e ∙ sym (by-taken held s)
 
   -- one that did not
-  pub walk-held : {held s line : Bytes} → (line, none) ≡ taken held s → a line ≡ f held s
+  walk-held : {held s line : Bytes} → (line, none) ≡ taken held s → a line ≡ f held s
   walk-held {held} {s} e = ap of-taken e ∙ sym (by-taken held s)
 
 told-walks : Walks told (λ held. []) (λ held s. reply held ++ newline-byte ∷ told [] s)
@@ -100,7 +100,7 @@ module _ {chunk line after : Bytes} {from held : ℕ} {r : Taken} (t : Took chun
   unfolding rest-if
   took-ended e = ap (λ b. (take (r .held) after, rest-if b (drop (r .next) chunk))) (sym e) ∙ t .equal
 
-  pub took-held : r .ended ≡ false → (take (r .held) after, none) ≡ taken (take held line) (drop from chunk)
+  took-held : r .ended ≡ false → (take (r .held) after, none) ≡ taken (take held line) (drop from chunk)
   unfolding rest-if
   took-held e = ap (λ b. (take (r .held) after, rest-if b (drop (r .next) chunk))) (sym e) ∙ t .equal
 

@@ -97,7 +97,7 @@ module _ (table : Bytes) (good : GoodTable table) (x : ℕ) where
         follow = goes q refl (at-node table h) (at-node table g) (omega (arith, at-size table g, some-pattern q));
       }
 
-  pub view : x < atoms table → View table x
+  view : x < atoms table → View table x
   view h =
       let t : Syntax pattern = tree-of table in
       let k = subst (λ (s : Bytes). Held s (layout s) (nodes t) 0 x) (decoded-encode table t (good .decoded)) (held t x h) in

@@ -10,11 +10,11 @@ use borrow.Author.Tests.{lt-ltb, le-ltb, ltb-true, ltb-false}
 use Rattle.pattern.specs.Trials.{sum}
 use Rattle.planes.specs.Budget.{Counted}
 
-pub sum-none : (f : ℕ → ℕ) → sum 0 f ≡ 0
+sum-none : (f : ℕ → ℕ) → sum 0 f ≡ 0
 unfolding sum
 sum-none f = refl
 
-pub sum-more : (f : ℕ → ℕ) (n : ℕ) → sum (n + 1) f ≡ sum n f + f n
+sum-more : (f : ℕ → ℕ) (n : ℕ) → sum (n + 1) f ≡ sum n f + f n
 unfolding sum
 sum-more f n = rw add-one
 

@@ -36,7 +36,7 @@ module _ (s₀ : List ℕ) (w out : ℕ) (f : ℕ → ℕ → ℕ) where
       column = mod-lt k some
 
       -- cell k of plane p
-      pub pass-cell : (p : ℕ) → at w p 0 0 + k ≡ at w p (k / w) (k % w)
+      pass-cell : (p : ℕ) → at w p 0 0 + k ≡ at w p (k / w) (k % w)
       pass-cell p = omega (arith, add-mul (p * w) (k / w) w, div-add-mod' k w)
 
       pub pass-in : (p : ℕ) → InRoom s₀ w p → at w p 0 0 + k < length s

@@ -28,7 +28,7 @@ module _ (w p i j : ℕ) (hi : i < w) (hj : j < w) where
   row-le = omega (arith, mul-le-mul-left (p * w + i) (some hi), mul-one (p * w + i))
 
   -- two cells with one index are one cell
-  pub at-inj : (p′ i′ j′ : ℕ) → i′ < w → j′ < w → at w p i j ≡ at w p′ i′ j′ → (p ≡ p′) × (i ≡ i′) × (j ≡ j′)
+  at-inj : (p′ i′ j′ : ℕ) → i′ < w → j′ < w → at w p i j ≡ at w p′ i′ j′ → (p ≡ p′) × (i ≡ i′) × (j ≡ j′)
   at-inj p′ i′ j′ hi′ hj′ e =
       let q : p * w + i ≡ p′ * w + i′ = sym (digits-div (p * w + i) hj) ∙ ap (λ (k : ℕ). k / w) e ∙ digits-div (p′ * w + i′) hj′ in (
         sym (digits-div p hi) ∙ ap (λ (k : ℕ). k / w) q ∙ digits-div p′ hi′,

@@ -26,7 +26,7 @@ pub cap-large : (x : ℕ) → number-limit < x → cap x ≡ large-number
 unfolding cap
 cap-large x h = simp (lt-leb x number-limit h)
 
-pub cap-self : (x : ℕ) → x ≤ large-number → cap x ≡ x
+cap-self : (x : ℕ) → x ≤ large-number → cap x ≡ x
 cap-self x h = ⊎-elim (cap-small x) (λ g. cap-large x g ∙ omega arith) (le-or-lt x number-limit)
 
 pub cap-least : (x : ℕ) → cap x ≤ large-number
@@ -95,7 +95,7 @@ cap-number x l =
     (le-or-lt x number-limit)
 
 -- no digit stands at a place
-pub nothing-leads : (s : Bytes) (at : ℕ) → Kind-not s at (counts digit) → (lead (drop at s) ≡ 0) × ((v : ℕ) → number v (drop at s) ≡ v)
+nothing-leads : (s : Bytes) (at : ℕ) → Kind-not s at (counts digit) → (lead (drop at s) ≡ 0) × ((v : ℕ) → number v (drop at s) ≡ v)
 nothing-leads s at d = ⊎-elim
     (λ g. let e : drop at s ≡ [] = drop-of-length-le s g in rw e (lead-nil, number-nil))
     (λ g. rw (drop-cons s at 0 g) (no-lead (getD s at 0) (drop (suc at) s) (d .not g), λ v. no-number (getD s at 0) (drop (suc at) s) v (d .not g)))

@@ -23,7 +23,7 @@ pub record Runs (r : Run) (l : Bytes) (r′ : Run) (n : ℕ) : Type 0 where
   pub run : ahead r l ≡ r′
   pub size : extent r l ≡ n
 
-pub runs-end : (r : Run) → Runs r [] r 0
+runs-end : (r : Run) → Runs r [] r 0
 unfolding ahead extent
 runs-end r = record { run = refl; size = refl }
 

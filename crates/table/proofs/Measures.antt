@@ -82,7 +82,7 @@ letters-at set h =
 
 -- ---- steps along lists
 
-pub same-step : (u v : Bytes) (i j : ℕ) → j ≡ i + 1 → i < length u → i < length v → same (drop i u) (drop i v) ≡ eqb (getD u i 0) (getD v i 0) && same (drop j u) (drop j v)
+same-step : (u v : Bytes) (i j : ℕ) → j ≡ i + 1 → i < length u → i < length v → same (drop i u) (drop i v) ≡ eqb (getD u i 0) (getD v i 0) && same (drop j u) (drop j v)
 unfolding same
 same-step u v i j e h k =
     let n : suc i ≡ j = omega (arith, e) in

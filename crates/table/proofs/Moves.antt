@@ -51,7 +51,7 @@ module _ {s : Bytes} {A : ℕ} {at : Place} where
   moved-then m n =
       record { on = omega (arith, m .on, n .on); atom = n .atom; pool = n .pool; source = omega (arith, m .source, n .source) }
 
-  pub moved-again : {next dest : Place} → Moved s A at next → Moved s A (byte-on next) dest → Moved s A at dest
+  moved-again : {next dest : Place} → Moved s A at next → Moved s A (byte-on next) dest → Moved s A at dest
   moved-again m n =
       record { on = omega (arith, m .on, n .on); atom = n .atom; pool = n .pool; source = omega (arith, m .source, n .source) }
 

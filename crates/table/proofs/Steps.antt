@@ -33,7 +33,7 @@ use Rattle.table.proofs.Leafing.{no-atoms}
 
 -- ---- what an answer says
 
-pub place-eq : {a b c x y z : ℕ} → a ≡ x → b ≡ y → c ≡ z → place a b c ≡ place x y z
+place-eq : {a b c x y z : ℕ} → a ≡ x → b ≡ y → c ≡ z → place a b c ≡ place x y z
 place-eq e f g = λ j. place (e j) (f j) (g j)
 
 to-some : {k : Sort} (at : Place) (o : Option (Syntax k)) (e : Place) → passed.To e ≡ passed-by at o → (t : Syntax k) × (o ≡ some t) × (e ≡ beyond at t)
@@ -248,14 +248,14 @@ module _ (s : Bytes) (A : ℕ) (at : Place) (d : ℕ) where
           let z : pred k ≡ k - 1 = omega arith in
           ap₂ (λ (y : Place) j. read-branches s A f j (y .atom) (y .pool) d) (sym u) z ∙ q
 
-      pub branches-bad : GroupReads s A (byte-on next) d (k - 1) passed.Bad → GroupReads s A at d k passed.Bad
+      branches-bad : GroupReads s A (byte-on next) d (k - 1) passed.Bad → GroupReads s A at d k passed.Bad
       unfolding read-pattern passed-by
       branches-bad x zero n = absurd (omega arith)
       branches-bad x (suc f) n =
           let (t, v, u, z) = walked-some at _ next (w f (omega arith)) in
           sym (ap (passed-by at) (kept _ _ (lt-ltb 0 k more-left) ∙ going-on _ _ v ∙ second _ _ _ (ne-eqb _ _ e) ∙ stopped _ _ (as-left f t _ u (bad-none (byte-on next) (read-branches s A f (k - 1) (next .atom) (next .pool) d) (x f (omega arith))))))
 
-      pub branches-more : (dest : Place) → GroupReads s A (byte-on next) d (k - 1) (passed.To dest) → GroupReads s A at d k (passed.To dest)
+      branches-more : (dest : Place) → GroupReads s A (byte-on next) d (k - 1) (passed.To dest) → GroupReads s A at d k (passed.To dest)
       unfolding read-pattern passed-by size pool print
       branches-more dest x zero n = absurd (omega arith)
       branches-more dest x (suc f) n =

@@ -63,7 +63,7 @@ module _ (s : Bytes) (bytes : (k : ℕ) → getD s k 0 < 256) where
       sym (take-append-drop atoms-place s) ∙ ap (λ x. x ++ drop atoms-place s) (o .marked)
       ∙ ap (λ x. opening ++ x) (step s atoms-place length-place (omega arith) (omega (arith, o .long)) (pair s bytes length-place header-size (omega arith) (o .long) refl))
 
-  pub read-whole : (t : Syntax pattern) → read s ≡ some t → Whole s t
+  read-whole : (t : Syntax pattern) → read s ≡ some t → Whole s t
   unfolding read encode
   read-whole t e =
       let A : ℕ = header-of s .atoms in
