@@ -494,25 +494,27 @@ impl Trials for Unchecked {
         mut put: impl FnMut(usize, usize, u8),
     ) -> Option<u64> {
         assert!(left.len() >= w * w && right.len() >= w * w);
-        for i in 0..w {
-            for j in i..w {
+        for j in 0..w {
+            for i in 0..=j {
                 let mut found = 0;
-                // The rows i and j lie in the planes, and m stays in both of them.
+                let mut m = j;
+                // Rows i and j lie in the planes, and m in both of them.
                 unsafe {
-                    let start = left.as_ptr().add(i * w + i);
-                    let mut first = left.as_ptr().add(i * w + j + 1);
-                    let mut second = right.as_ptr().add(j * w + j + 1);
-                    while first != start {
+                    let first = left.as_ptr().add(i * w);
+                    let second = right.as_ptr().add(j * w);
+                    loop {
                         if trials == budget {
                             return None;
                         }
                         trials += 1;
-                        first = first.sub(1);
-                        second = second.sub(1);
-                        if *first & *second != 0 {
+                        if *first.add(m) & *second.add(m) != 0 {
                             found = 1;
                             break;
                         }
+                        if m == i {
+                            break;
+                        }
+                        m -= 1;
                     }
                 }
                 put(i, j, found);
