@@ -1,9 +1,9 @@
-//! Times of several calls that are made in turn, round by round.
+//! Times of several calls that are made in turn, round by round, each round from another call on.
 
 use crate::clock;
 
 /// The times of each call in each round, in nanoseconds.
-pub struct Rounds<const CALLS: usize>(pub [Vec<f64>; CALLS]);
+pub struct Rounds<const CALLS: usize>([Vec<f64>; CALLS]);
 
 impl<const CALLS: usize> Rounds<CALLS> {
     /// Makes all calls once a round; short calls are repeated within it.
@@ -15,9 +15,16 @@ impl<const CALLS: usize> Rounds<CALLS> {
         };
         let repeats: [u64; CALLS] =
             std::array::from_fn(|at| (2e7 / time(at, 1).max(1.0)).clamp(1.0, 1e6) as u64);
+        Self::by(rounds, |at| time(at, repeats[at]))
+    }
+
+    /// Takes the time of each call once a round; the call that is first changes from round to round.
+    pub fn by(rounds: usize, mut time: impl FnMut(usize) -> f64) -> Self {
         let mut times = [const { vec![] }; CALLS];
-        for _ in 0..rounds {
-            (0..CALLS).for_each(|at| times[at].push(time(at, repeats[at])));
+        for round in 0..rounds {
+            for at in (0..CALLS).map(|call| (round + call) % CALLS) {
+                times[at].push(time(at));
+            }
         }
         Self(times)
     }
