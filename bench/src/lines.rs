@@ -120,7 +120,7 @@ pub fn lines(rounds: usize) {
         let [tool, plain] = timed.times().map(|time| number as f64 * 1e9 / time);
         println!(
             "{name:<32}{number:>10}{tool:>12.0}{plain:>12.0}{:>8.2}",
-            timed.ratio(1)
+            timed.ratio(0, 1)
         );
     }
     std::fs::remove_file(&file).unwrap();

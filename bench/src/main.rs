@@ -18,16 +18,17 @@ fn main() {
     if given("--lines") {
         return lines::answer_input();
     }
+    proved::assert_placed();
     let quick = given("--quick");
     let rounds = if quick { 3 } else { 9 };
     tables::compiling(rounds);
     tables::writing_back(rounds);
     if quick {
-        matches::matching(rounds, &[10, 60]);
+        matches::matching(&[(10, rounds), (60, rounds)]);
         matches::groups_of_groups(&[5, 10, 15, 20, 25, 50, 100, 150]);
     } else {
         let every_fifth: Vec<usize> = (5..=255).step_by(5).collect();
-        matches::matching(rounds, &[10, 60, 255]);
+        matches::matching(&[(10, rounds), (60, rounds), (255, 5)]);
         matches::groups_of_groups(&every_fifth);
     }
     lines::lines(rounds);

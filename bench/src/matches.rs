@@ -1,6 +1,6 @@
 //! (c) and (d): matching.
 
-use crate::rounds::Rounds;
+use crate::rounds::{median, Rounds};
 use crate::tables::table_of;
 use crate::{clock, naive, plain, proved};
 use std::hint::black_box;
@@ -41,11 +41,12 @@ fn time_match<const WAYS: usize>(
     (trials, Rounds::of(rounds, calls))
 }
 
-pub fn matching(rounds: usize, lens: &[usize]) {
-    println!("\n(c) matching, ns a trial");
+/// Labels of each length and its number of rounds.
+pub fn matching(lens: &[(usize, usize)]) {
+    println!("\n(c) matching, ns a trial; the ratio to plain over four placements of the library");
     println!(
-        "{:<16}{:>5}{:>12}{:>10}{:>10}{:>10}{:>10}{:>10}",
-        "pattern", "n", "trials", "library", "plain", "unsafe", "ratio", "to unsafe"
+        "{:<16}{:>5}{:>12}{:>10}{:>10}{:>10}{:>10}{:>10}{:>10}",
+        "pattern", "n", "trials", "library", "plain", "unsafe", "least", "median", "greatest"
     );
     let digits = |n: usize| (0..n).map(|at| b'0' + (at % 10) as u8).collect::<Vec<u8>>();
     let mixed = |n: usize| (0..n).map(|at| b"12ab3c"[at % 6]).collect::<Vec<u8>>();
@@ -62,22 +63,33 @@ pub fn matching(rounds: usize, lens: &[usize]) {
         (".N.A.N1\"!\"", &digits),
     ];
     for (source, label) in rows {
-        let table = table_of(source.as_bytes());
-        for &n in lens {
-            let ways: [Way; 3] = [
-                proved::match_label,
-                plain::match_label,
-                plain::match_label_unchecked,
-            ];
-            let (trials, timed) = time_match(&table, &label(n), ways, rounds);
-            let [library, plain, unchecked] = timed.times().map(|time| time / trials as f64);
-            println!(
-                "{source:<16}{n:>5}{trials:>12}{library:>10.3}{plain:>10.3}{unchecked:>10.3}{:>10.2}{:>10.2}",
-                timed.ratio(1),
-                timed.ratio(2)
-            );
+        for &(n, rounds) in lens {
+            matching_row(source, &label(n), rounds);
         }
     }
+}
+
+fn matching_row(source: &str, label: &[u8], rounds: usize) {
+    let ways: [Way; 6] = [
+        proved::match_label_at::<0>,
+        proved::match_label_at::<1>,
+        proved::match_label_at::<2>,
+        proved::match_label_at::<3>,
+        plain::match_label,
+        plain::match_label_unchecked,
+    ];
+    let (trials, timed) = time_match(&table_of(source.as_bytes()), label, ways, rounds);
+    let [placed @ .., plain, unchecked] = timed.times().map(|time| time / trials as f64);
+    let library = median(placed.to_vec());
+    let mut ratios = [0, 1, 2, 3].map(|place| timed.ratio(place, 4));
+    ratios.sort_by(f64::total_cmp);
+    println!(
+        "{source:<16}{:>5}{trials:>12}{library:>10.3}{plain:>10.3}{unchecked:>10.3}{:>10.2}{:>10.2}{:>10.2}",
+        label.len(),
+        ratios[0],
+        median(ratios.to_vec()),
+        ratios[3]
+    );
 }
 
 /// `.(.(.(.N,.A)))1"!"` for the backtracking matcher.
@@ -120,7 +132,7 @@ pub fn groups_of_groups(lens: &[usize]) {
         let (trials, timed) = time_match(&table, &label, ways, 3);
         let [library, plain] = timed.times().map(|time| time / 1e6);
         let bound = (table[5] as u64) * ((n + 1) * (n + 1) * (n + 2) * (n + 3) / 6) as u64;
-        let ratio = timed.ratio(1);
+        let ratio = timed.ratio(0, 1);
         print!("{n:>5}{bound:>14}{trials:>14}{library:>12.3}{plain:>12.3}{ratio:>8.2}");
         if stopped {
             println!("{:>14}{:>14}", "-", "-");

@@ -34,15 +34,17 @@ impl<const CALLS: usize> Rounds<CALLS> {
         std::array::from_fn(|at| median(self.0[at].clone()))
     }
 
-    /// The median of the first call's time by another one's in the same round: what slows the
-    /// machine for a while slows both.
-    pub fn ratio(&self, other: usize) -> f64 {
-        let pairs = self.0[0].iter().zip(&self.0[other]);
-        median(pairs.map(|(first, other)| first / other).collect())
+    /// The median of one call's time by another one's in the same round: what slows the machine
+    /// for a while slows both.
+    pub fn ratio(&self, call: usize, other: usize) -> f64 {
+        let pairs = self.0[call].iter().zip(&self.0[other]);
+        median(pairs.map(|(call, other)| call / other).collect())
     }
 }
 
-fn median(mut numbers: Vec<f64>) -> f64 {
+/// The middle number, or the mean of the middle two.
+pub fn median(mut numbers: Vec<f64>) -> f64 {
     numbers.sort_by(f64::total_cmp);
-    numbers[numbers.len() / 2]
+    let last = numbers.len() - 1;
+    (numbers[last / 2] + numbers[last.div_ceil(2)]) / 2.0
 }
