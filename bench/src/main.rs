@@ -1,5 +1,8 @@
 //! Compares the proved library, through its C functions, and the line tool with plain Rust.
-//! Times are processor time; a ratio is the library's time by that of plain Rust.
+//! Times are processor time. A ratio is the library's time by that of plain Rust in the same
+//! round, the median over the rounds. In (c) the program holds four copies of the library, its
+//! matching function at 0, 16, 32 and 48 bytes after a multiple of 64 (build.rs), since the trial
+//! loop is slower where it crosses a line of the cache; plain Rust lies where the linker puts it.
 //!
 //! bench [--quick]
 //! bench --lines    the line tool in plain Rust, for the comparison

@@ -1,4 +1,6 @@
-//! (c) and (d): matching.
+//! (c) and (d): matching. In (c) the library's time is the median over its four placements, and
+//! the least, median and greatest of their four ratios to plain Rust are shown; in (d) the library
+//! lies where the linker puts it.
 
 use crate::rounds::{median, Rounds};
 use crate::tables::table_of;
@@ -41,7 +43,7 @@ fn time_match<const WAYS: usize>(
     (trials, Rounds::of(rounds, calls))
 }
 
-/// Labels of each length and its number of rounds.
+/// The lengths of labels, each with its number of rounds.
 pub fn matching(lens: &[(usize, usize)]) {
     println!("\n(c) matching, ns a trial; the ratio to plain over four placements of the library");
     println!(

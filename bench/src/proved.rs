@@ -1,4 +1,4 @@
-//! The library's calls, answered as plain Rust answers.
+//! The library's calls, answered as plain Rust answers, and its matching function at four placements.
 
 use crate::plain;
 
@@ -50,7 +50,7 @@ pub fn match_label_at<const PLACE: usize>(
     answered(number, &answer).map(|(verdict, trials)| (verdict == 1, trials))
 }
 
-/// Declares the copies of mpt_match that build.rs links.
+/// Declares the copies of mpt_match that build.rs links, by their placements.
 macro_rules! copies {
     ($($name:ident),*) => {
         extern "C" {
