@@ -18,29 +18,20 @@ fn time_match<const WAYS: usize>(
     rounds: usize,
 ) -> (u64, Rounds<WAYS>) {
     let work = (2 * usize::from(table[5]) + 4) * (label.len() + 1) * (label.len() + 1);
-    let mut scratch = vec![0; work];
+    let (mut scratch, mut parts) = (vec![0; work], [0; 128]);
+    let found = ways[0](table, label, &mut scratch, &mut parts, u64::MAX);
     // Every way gives the same answer and parts.
-    let found = ways.map(|way| {
-        let mut parts = [0; 128];
-        (way(table, label, &mut scratch, &mut parts, u64::MAX), parts)
-    });
-    assert!(found.iter().all(|each| *each == found[0]));
-    let (_, trials) = found[0].0.unwrap();
-    let mut calls = ways.map(|way| {
-        let (mut scratch, mut parts) = (vec![0; work], [0; 128]);
+    let mut runs = ways.map(|way| (way, vec![0; work], [0; 128]));
+    let mut calls = runs.each_mut().map(|(way, scratch, parts)| {
         move || {
             let budget = black_box(u64::MAX);
-            _ = black_box(way(
-                table,
-                black_box(label),
-                &mut scratch,
-                &mut parts,
-                budget,
-            ))
+            assert_eq!(way(table, black_box(label), scratch, parts, budget), found)
         }
     });
     let calls = calls.each_mut().map(|call| call as &mut dyn FnMut());
-    (trials, Rounds::of(rounds, calls))
+    let timed = Rounds::of(rounds, calls);
+    assert!(runs.iter().all(|run| run.2 == parts));
+    (found.unwrap().1, timed)
 }
 
 /// The lengths of labels, each with its number of rounds.

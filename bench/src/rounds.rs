@@ -6,16 +6,15 @@ use crate::clock;
 pub struct Rounds<const CALLS: usize>([Vec<f64>; CALLS]);
 
 impl<const CALLS: usize> Rounds<CALLS> {
-    /// Makes all calls once a round; short calls are repeated within it.
+    /// Makes all calls once a round. They do the same work; if it is short, they are repeated.
     pub fn of(rounds: usize, mut calls: [&mut dyn FnMut(); CALLS]) -> Self {
         let mut time = |at: usize, repeats: u64| {
             let start = clock::nanoseconds();
             (0..repeats).for_each(|_| calls[at]());
             (clock::nanoseconds() - start) as f64 / repeats as f64
         };
-        let repeats: [u64; CALLS] =
-            std::array::from_fn(|at| (2e7 / time(at, 1).max(1.0)).clamp(1.0, 1e6) as u64);
-        Self::by(rounds, |at| time(at, repeats[at]))
+        let repeats = (2e7 / time(0, 1).max(1.0)).clamp(1.0, 1e6) as u64;
+        Self::by(rounds, |at| time(at, repeats))
     }
 
     /// Takes the time of each call once a round; the call that is first changes from round to round.
