@@ -1,6 +1,5 @@
-//! (c) and (d): matching. In (c) the library's time is the median over its four placements, and
-//! the least, median and greatest of their four ratios to plain Rust are shown; in (d) the library
-//! lies where the linker puts it.
+//! (c) and (d): matching. In (c) the times of the library and of plain Rust are medians over four
+//! placements of each, and the ratios are the least, median and greatest of the 16 pairs.
 
 use crate::rounds::{median, Rounds};
 use crate::tables::table_of;
@@ -36,7 +35,7 @@ fn time_match<const WAYS: usize>(
 
 /// The lengths of labels, each with its number of rounds.
 pub fn matching(lens: &[(usize, usize)]) {
-    println!("\n(c) matching, ns a trial; the ratio to plain over four placements of the library");
+    println!("\n(c) matching, ns a trial; ratios to plain over the placements");
     println!(
         "{:<16}{:>5}{:>12}{:>10}{:>10}{:>10}{:>10}{:>10}{:>10}",
         "pattern", "n", "trials", "library", "plain", "unsafe", "least", "median", "greatest"
@@ -63,25 +62,31 @@ pub fn matching(lens: &[(usize, usize)]) {
 }
 
 fn matching_row(source: &str, label: &[u8], rounds: usize) {
-    let ways: [Way; 6] = [
+    let ways: [Way; 9] = [
         proved::match_label_at::<0>,
         proved::match_label_at::<1>,
         proved::match_label_at::<2>,
         proved::match_label_at::<3>,
-        plain::match_label,
+        plain::match_label_at::<0>,
+        plain::match_label_at::<1>,
+        plain::match_label_at::<2>,
+        plain::match_label_at::<3>,
         plain::match_label_unchecked,
     ];
     let (trials, timed) = time_match(&table_of(source.as_bytes()), label, ways, rounds);
-    let [placed @ .., plain, unchecked] = timed.times().map(|time| time / trials as f64);
-    let library = median(placed.to_vec());
-    let mut ratios = [0, 1, 2, 3].map(|place| timed.ratio(place, 4));
+    let times = timed.times().map(|time| time / trials as f64);
+    let (library, plain) = (median(times[..4].to_vec()), median(times[4..8].to_vec()));
+    let mut ratios: Vec<f64> = (0..16)
+        .map(|pair| timed.ratio(pair / 4, 4 + pair % 4))
+        .collect();
     ratios.sort_by(f64::total_cmp);
     println!(
-        "{source:<16}{:>5}{trials:>12}{library:>10.3}{plain:>10.3}{unchecked:>10.3}{:>10.2}{:>10.2}{:>10.2}",
+        "{source:<16}{:>5}{trials:>12}{library:>10.3}{plain:>10.3}{:>10.3}{:>10.2}{:>10.2}{:>10.2}",
         label.len(),
+        times[8],
         ratios[0],
-        median(ratios.to_vec()),
-        ratios[3]
+        median(ratios.clone()),
+        ratios[15]
     );
 }
 
