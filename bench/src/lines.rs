@@ -116,15 +116,11 @@ pub fn lines(rounds: usize) {
         let [tool, plain] = ways.map(|way| process(way, &file).output().unwrap().stdout);
         assert!(tool == plain, "{name}");
         let number = input.iter().filter(|&&byte| byte == b'\n').count();
-        let mut times = [vec![], vec![]];
-        for _ in 0..rounds {
-            (0..2).for_each(|at| times[at].push(time(ways[at], &file)));
-        }
-        let timed = Rounds(times);
+        let timed = Rounds::<2>::by(rounds, |at| time(ways[at], &file));
         let [tool, plain] = timed.times().map(|time| number as f64 * 1e9 / time);
         println!(
             "{name:<32}{number:>10}{tool:>12.0}{plain:>12.0}{:>8.2}",
-            timed.ratio(1)
+            timed.ratio(0, 1)
         );
     }
     std::fs::remove_file(&file).unwrap();

@@ -1,5 +1,9 @@
 //! Compares the proved library, through its C functions, and the line tool with plain Rust.
-//! Times are processor time; a ratio is the library's time by that of plain Rust.
+//! Times are processor time. A ratio is the library's time by that of plain Rust in the same
+//! round, the median over the rounds. A trial loop is slower where it crosses a line of the cache,
+//! so in (c) both are timed at 0, 16, 32 and 48 bytes after a multiple of 64: build.rs links
+//! four copies of the library, and plain::place moves the code of plain Rust. In the other
+//! sections each lies at one place.
 //!
 //! bench [--quick]
 //! bench --lines    the line tool in plain Rust, for the comparison
@@ -18,16 +22,17 @@ fn main() {
     if given("--lines") {
         return lines::answer_input();
     }
+    proved::assert_placed();
     let quick = given("--quick");
     let rounds = if quick { 3 } else { 9 };
     tables::compiling(rounds);
     tables::writing_back(rounds);
     if quick {
-        matches::matching(rounds, &[10, 60]);
+        matches::matching(&[(10, 9), (60, 9)]);
         matches::groups_of_groups(&[5, 10, 15, 20, 25, 50, 100, 150]);
     } else {
         let every_fifth: Vec<usize> = (5..=255).step_by(5).collect();
-        matches::matching(rounds, &[10, 60, 255]);
+        matches::matching(&[(10, 27), (60, 27), (255, 5)]);
         matches::groups_of_groups(&every_fifth);
     }
     lines::lines(rounds);

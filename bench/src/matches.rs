@@ -1,6 +1,7 @@
-//! (c) and (d): matching.
+//! (c) and (d): matching. In (c) the times of the library and of plain Rust are medians over four
+//! placements of each, and the ratios are the least, median and greatest of the 16 pairs.
 
-use crate::rounds::Rounds;
+use crate::rounds::{median, Rounds};
 use crate::tables::table_of;
 use crate::{clock, naive, plain, proved};
 use std::hint::black_box;
@@ -16,36 +17,28 @@ fn time_match<const WAYS: usize>(
     rounds: usize,
 ) -> (u64, Rounds<WAYS>) {
     let work = (2 * usize::from(table[5]) + 4) * (label.len() + 1) * (label.len() + 1);
-    let mut scratch = vec![0; work];
+    let (mut scratch, mut parts) = (vec![0; work], [0; 128]);
+    let found = ways[0](table, label, &mut scratch, &mut parts, u64::MAX);
     // Every way gives the same answer and parts.
-    let found = ways.map(|way| {
-        let mut parts = [0; 128];
-        (way(table, label, &mut scratch, &mut parts, u64::MAX), parts)
-    });
-    assert!(found.iter().all(|each| *each == found[0]));
-    let (_, trials) = found[0].0.unwrap();
-    let mut calls = ways.map(|way| {
-        let (mut scratch, mut parts) = (vec![0; work], [0; 128]);
+    let mut runs = ways.map(|way| (way, vec![0; work], [0; 128]));
+    let mut calls = runs.each_mut().map(|(way, scratch, parts)| {
         move || {
             let budget = black_box(u64::MAX);
-            _ = black_box(way(
-                table,
-                black_box(label),
-                &mut scratch,
-                &mut parts,
-                budget,
-            ))
+            assert_eq!(way(table, black_box(label), scratch, parts, budget), found)
         }
     });
     let calls = calls.each_mut().map(|call| call as &mut dyn FnMut());
-    (trials, Rounds::of(rounds, calls))
+    let timed = Rounds::of(rounds, calls);
+    assert!(runs.iter().all(|run| run.2 == parts));
+    (found.unwrap().1, timed)
 }
 
-pub fn matching(rounds: usize, lens: &[usize]) {
-    println!("\n(c) matching, ns a trial");
+/// The lengths of labels, each with its number of rounds.
+pub fn matching(lens: &[(usize, usize)]) {
+    println!("\n(c) matching, ns a trial; ratios to plain over the placements");
     println!(
-        "{:<16}{:>5}{:>12}{:>10}{:>10}{:>10}{:>10}{:>10}",
-        "pattern", "n", "trials", "library", "plain", "unsafe", "ratio", "to unsafe"
+        "{:<16}{:>5}{:>12}{:>10}{:>10}{:>10}{:>10}{:>10}{:>10}",
+        "pattern", "n", "trials", "library", "plain", "unsafe", "least", "median", "greatest"
     );
     let digits = |n: usize| (0..n).map(|at| b'0' + (at % 10) as u8).collect::<Vec<u8>>();
     let mixed = |n: usize| (0..n).map(|at| b"12ab3c"[at % 6]).collect::<Vec<u8>>();
@@ -62,22 +55,39 @@ pub fn matching(rounds: usize, lens: &[usize]) {
         (".N.A.N1\"!\"", &digits),
     ];
     for (source, label) in rows {
-        let table = table_of(source.as_bytes());
-        for &n in lens {
-            let ways: [Way; 3] = [
-                proved::match_label,
-                plain::match_label,
-                plain::match_label_unchecked,
-            ];
-            let (trials, timed) = time_match(&table, &label(n), ways, rounds);
-            let [library, plain, unchecked] = timed.times().map(|time| time / trials as f64);
-            println!(
-                "{source:<16}{n:>5}{trials:>12}{library:>10.3}{plain:>10.3}{unchecked:>10.3}{:>10.2}{:>10.2}",
-                timed.ratio(1),
-                timed.ratio(2)
-            );
+        for &(n, rounds) in lens {
+            matching_row(source, &label(n), rounds);
         }
     }
+}
+
+fn matching_row(source: &str, label: &[u8], rounds: usize) {
+    let ways: [Way; 9] = [
+        proved::match_label_at::<0>,
+        proved::match_label_at::<1>,
+        proved::match_label_at::<2>,
+        proved::match_label_at::<3>,
+        plain::match_label_at::<0>,
+        plain::match_label_at::<1>,
+        plain::match_label_at::<2>,
+        plain::match_label_at::<3>,
+        plain::match_label_unchecked,
+    ];
+    let (trials, timed) = time_match(&table_of(source.as_bytes()), label, ways, rounds);
+    let times = timed.times().map(|time| time / trials as f64);
+    let (library, plain) = (median(times[..4].to_vec()), median(times[4..8].to_vec()));
+    let mut ratios: Vec<f64> = (0..16)
+        .map(|pair| timed.ratio(pair / 4, 4 + pair % 4))
+        .collect();
+    ratios.sort_by(f64::total_cmp);
+    println!(
+        "{source:<16}{:>5}{trials:>12}{library:>10.3}{plain:>10.3}{:>10.3}{:>10.2}{:>10.2}{:>10.2}",
+        label.len(),
+        times[8],
+        ratios[0],
+        median(ratios.clone()),
+        ratios[15]
+    );
 }
 
 /// `.(.(.(.N,.A)))1"!"` for the backtracking matcher.
@@ -120,7 +130,7 @@ pub fn groups_of_groups(lens: &[usize]) {
         let (trials, timed) = time_match(&table, &label, ways, 3);
         let [library, plain] = timed.times().map(|time| time / 1e6);
         let bound = (table[5] as u64) * ((n + 1) * (n + 1) * (n + 2) * (n + 3) / 6) as u64;
-        let ratio = timed.ratio(1);
+        let ratio = timed.ratio(0, 1);
         print!("{n:>5}{bound:>14}{trials:>14}{library:>12.3}{plain:>12.3}{ratio:>8.2}");
         if stopped {
             println!("{:>14}{:>14}", "-", "-");

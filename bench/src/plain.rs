@@ -494,25 +494,27 @@ impl Trials for Unchecked {
         mut put: impl FnMut(usize, usize, u8),
     ) -> Option<u64> {
         assert!(left.len() >= w * w && right.len() >= w * w);
-        for i in 0..w {
-            for j in i..w {
+        for j in 0..w {
+            for i in 0..=j {
                 let mut found = 0;
-                // The rows i and j lie in the planes, and m stays in both of them.
+                let mut m = j;
+                // Rows i and j lie in the planes, and m in both of them.
                 unsafe {
-                    let start = left.as_ptr().add(i * w + i);
-                    let mut first = left.as_ptr().add(i * w + j + 1);
-                    let mut second = right.as_ptr().add(j * w + j + 1);
-                    while first != start {
+                    let first = left.as_ptr().add(i * w);
+                    let second = right.as_ptr().add(j * w);
+                    loop {
                         if trials == budget {
                             return None;
                         }
                         trials += 1;
-                        first = first.sub(1);
-                        second = second.sub(1);
-                        if *first & *second != 0 {
+                        if *first.add(m) & *second.add(m) != 0 {
                             found = 1;
                             break;
                         }
+                        if m == i {
+                            break;
+                        }
+                        m -= 1;
                     }
                 }
                 put(i, j, found);
@@ -530,7 +532,18 @@ pub fn match_label(
     parts: &mut [u8],
     budget: u64,
 ) -> Result<Verdict, Refusal> {
-    match_with::<Safe>(table, label, scratch, parts, budget)
+    match_label_at::<0>(table, label, scratch, parts, budget)
+}
+
+/// The same at a placement.
+pub fn match_label_at<const PLACE: usize>(
+    table: &[u8],
+    label: &[u8],
+    scratch: &mut [u8],
+    parts: &mut [u8],
+    budget: u64,
+) -> Result<Verdict, Refusal> {
+    match_with::<Safe, PLACE>(table, label, scratch, parts, budget)
 }
 
 /// The same with a trial loop without bounds checks.
@@ -541,10 +554,10 @@ pub fn match_label_unchecked(
     parts: &mut [u8],
     budget: u64,
 ) -> Result<Verdict, Refusal> {
-    match_with::<Unchecked>(table, label, scratch, parts, budget)
+    match_with::<Unchecked, 0>(table, label, scratch, parts, budget)
 }
 
-fn match_with<T: Trials>(
+fn match_with<T: Trials, const PLACE: usize>(
     table: &[u8],
     label: &[u8],
     scratch: &mut [u8],
@@ -570,7 +583,7 @@ fn match_with<T: Trials>(
         return Err((14, 0));
     }
     let scratch = &mut scratch[..work];
-    let trials = fill_planes::<T>(&table, label, scratch, budget);
+    let trials = fill_planes::<T, PLACE>(&table, label, scratch, budget);
     let verdict = trials.map(|trials| {
         let atoms = &scratch[4 * w * w..];
         let yes = atoms[w * w + (w - 1) * w] != 0;
@@ -583,14 +596,31 @@ fn match_with<T: Trials>(
     verdict.ok_or((15, 0))
 }
 
+/// The code after it starts 16 times `PLACE` bytes after a multiple of 64.
+#[inline(always)]
+fn place<const PLACE: usize>() {
+    unsafe {
+        std::arch::asm!(
+            ".p2align 6",
+            ".rept {}",
+            "nop",
+            ".p2align 4",
+            ".endr",
+            const PLACE,
+            options(nomem, nostack, preserves_flags)
+        )
+    }
+}
+
 /// Fills two planes for each atom: "satisfies the atom" with row i and column j, and
 /// "the atom and its followers" with row j and column i. Gives the trials made.
-fn fill_planes<T: Trials>(
+fn fill_planes<T: Trials, const PLACE: usize>(
     table: &Table,
     label: &[u8],
     scratch: &mut [u8],
     budget: u64,
 ) -> Option<u64> {
+    place::<PLACE>();
     let n = label.len();
     let w = n + 1;
     let size = w * w;

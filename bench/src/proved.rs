@@ -1,4 +1,4 @@
-//! The library's calls, answered as plain Rust answers.
+//! The library's calls, answered as plain Rust answers, and its matching function at four placements.
 
 use crate::plain;
 
@@ -33,4 +33,50 @@ pub fn match_label(
     let mut answer = [0; 32];
     let number = library::match_label(table, label, scratch, parts, budget, &mut answer);
     answered(number, &answer).map(|(verdict, trials)| (verdict == 1, trials))
+}
+
+/// The same by the copy of the library at a placement.
+pub fn match_label_at<const PLACE: usize>(
+    table: &[u8],
+    label: &[u8],
+    scratch: &mut [u8],
+    parts: &mut [u8],
+    budget: u64,
+) -> Result<plain::Verdict, plain::Refusal> {
+    let mut answer = [0; 32];
+    let copy = COPIES[PLACE];
+    let number =
+        unsafe { library::match_by(copy, table, label, scratch, parts, budget, &mut answer) };
+    answered(number, &answer).map(|(verdict, trials)| (verdict == 1, trials))
+}
+
+/// Declares the copies of mpt_match that build.rs links, by their placements.
+macro_rules! copies {
+    ($($name:ident),*) => {
+        extern "C" {
+            $(fn $name(
+                table: *const u8,
+                table_len: usize,
+                label: *const u8,
+                label_len: usize,
+                scratch: *mut u8,
+                scratch_len: usize,
+                parts: *mut u8,
+                parts_len: usize,
+                budget: u64,
+                answer: *mut u8,
+                answer_len: usize,
+            ) -> u32;)*
+        }
+        const COPIES: [library::Match; 4] = [$($name),*];
+    };
+}
+
+copies!(mpt_match_0, mpt_match_16, mpt_match_32, mpt_match_48);
+
+/// Copy k lies 16 k bytes after a multiple of 64.
+pub fn assert_placed() {
+    for (place, copy) in COPIES.iter().enumerate() {
+        assert_eq!(*copy as usize % 64, 16 * place);
+    }
 }

@@ -1,23 +1,29 @@
-//! Times of several calls that are made in turn, round by round.
+//! Times of several calls that are made in turn, round by round, each round from another call on.
 
 use crate::clock;
 
 /// The times of each call in each round, in nanoseconds.
-pub struct Rounds<const CALLS: usize>(pub [Vec<f64>; CALLS]);
+pub struct Rounds<const CALLS: usize>([Vec<f64>; CALLS]);
 
 impl<const CALLS: usize> Rounds<CALLS> {
-    /// Makes all calls once a round; short calls are repeated within it.
+    /// Makes all calls once a round. They do the same work; if it is short, they are repeated.
     pub fn of(rounds: usize, mut calls: [&mut dyn FnMut(); CALLS]) -> Self {
         let mut time = |at: usize, repeats: u64| {
             let start = clock::nanoseconds();
             (0..repeats).for_each(|_| calls[at]());
             (clock::nanoseconds() - start) as f64 / repeats as f64
         };
-        let repeats: [u64; CALLS] =
-            std::array::from_fn(|at| (2e7 / time(at, 1).max(1.0)).clamp(1.0, 1e6) as u64);
+        let repeats = (2e7 / time(0, 1).max(1.0)).clamp(1.0, 1e6) as u64;
+        Self::by(rounds, |at| time(at, repeats))
+    }
+
+    /// Takes the time of each call once a round; the call that is first changes from round to round.
+    pub fn by(rounds: usize, mut time: impl FnMut(usize) -> f64) -> Self {
         let mut times = [const { vec![] }; CALLS];
-        for _ in 0..rounds {
-            (0..CALLS).for_each(|at| times[at].push(time(at, repeats[at])));
+        for round in 0..rounds {
+            for at in (0..CALLS).map(|call| (round + call) % CALLS) {
+                times[at].push(time(at));
+            }
         }
         Self(times)
     }
@@ -27,15 +33,17 @@ impl<const CALLS: usize> Rounds<CALLS> {
         std::array::from_fn(|at| median(self.0[at].clone()))
     }
 
-    /// The median of the first call's time by another one's in the same round: what slows the
-    /// machine for a while slows both.
-    pub fn ratio(&self, other: usize) -> f64 {
-        let pairs = self.0[0].iter().zip(&self.0[other]);
-        median(pairs.map(|(first, other)| first / other).collect())
+    /// The median of one call's time by another one's in the same round: what slows the machine
+    /// for a while slows both.
+    pub fn ratio(&self, call: usize, other: usize) -> f64 {
+        let pairs = self.0[call].iter().zip(&self.0[other]);
+        median(pairs.map(|(call, other)| call / other).collect())
     }
 }
 
-fn median(mut numbers: Vec<f64>) -> f64 {
+/// The middle number, or the mean of the middle two.
+pub fn median(mut numbers: Vec<f64>) -> f64 {
     numbers.sort_by(f64::total_cmp);
-    numbers[numbers.len() / 2]
+    let last = numbers.len() - 1;
+    (numbers[last / 2] + numbers[last.div_ceil(2)]) / 2.0
 }

@@ -50,7 +50,7 @@ pub fn compiling(rounds: usize) {
         let [library, plain] = timed.times();
         println!(
             "{name:<12}{library:>12.0}{plain:>12.0}{:>10.2}",
-            timed.ratio(1)
+            timed.ratio(0, 1)
         );
     }
 }
@@ -101,7 +101,7 @@ pub fn writing_back(rounds: usize) {
             let [library, plain] = timed.times();
             println!(
                 "{name:<12}{call:<12}{library:>12.0}{plain:>12.0}{:>10.2}",
-                timed.ratio(1)
+                timed.ratio(0, 1)
             );
         }
     }

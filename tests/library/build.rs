@@ -42,6 +42,8 @@ fn main() {
 
     println!("cargo:rerun-if-env-changed=MPT_LIB");
     println!("cargo:rerun-if-changed={}", library.display());
+    // For the build script of bench.
+    println!("cargo:object={}", object.display());
     println!("cargo:rustc-link-search=native={}", out.display());
     println!("cargo:rustc-link-lib=static:-bundle=mpt_alone");
 }

@@ -32,6 +32,21 @@ extern "C" {
     ) -> u32;
 }
 
+/// The type of mpt_match.
+pub type Match = unsafe extern "C" fn(
+    *const u8,
+    usize,
+    *const u8,
+    usize,
+    *mut u8,
+    usize,
+    *mut u8,
+    usize,
+    u64,
+    *mut u8,
+    usize,
+) -> u32;
+
 /// An empty slice is lent as null, as C callers do.
 fn start(bytes: &[u8]) -> *const u8 {
     if bytes.is_empty() {
@@ -88,20 +103,34 @@ pub fn match_label(
     budget: u64,
     answer: &mut [u8],
 ) -> u32 {
+    unsafe { match_by(mpt_match, table, label, scratch, parts, budget, answer) }
+}
+
+/// The same by a given copy of mpt_match.
+///
+/// # Safety
+/// The function keeps to what include/mpt.h says of mpt_match.
+pub unsafe fn match_by(
+    function: Match,
+    table: &[u8],
+    label: &[u8],
+    scratch: &mut [u8],
+    parts: &mut [u8],
+    budget: u64,
+    answer: &mut [u8],
+) -> u32 {
     let (scratch_len, parts_len, answer_len) = (scratch.len(), parts.len(), answer.len());
-    unsafe {
-        mpt_match(
-            start(table),
-            table.len(),
-            start(label),
-            label.len(),
-            start_mut(scratch),
-            scratch_len,
-            start_mut(parts),
-            parts_len,
-            budget,
-            start_mut(answer),
-            answer_len,
-        )
-    }
+    function(
+        start(table),
+        table.len(),
+        start(label),
+        label.len(),
+        start_mut(scratch),
+        scratch_len,
+        start_mut(parts),
+        parts_len,
+        budget,
+        start_mut(answer),
+        answer_len,
+    )
 }

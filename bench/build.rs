@@ -1,0 +1,44 @@
+//! Links four more copies of the library's object, for section (c): their matching functions,
+//! mpt_match_0 and so on, lie 0, 16, 32 and 48 bytes after a multiple of 64.
+
+use std::path::{Path, PathBuf};
+use std::process::Command;
+
+fn run(command: &mut Command) {
+    let status = command
+        .status()
+        .unwrap_or_else(|e| panic!("{command:?}: {e}"));
+    assert!(status.success(), "{command:?}");
+}
+
+/// A copy whose code is one section: `offset` bytes, the matching function, all other functions.
+fn place(object: &Path, offset: usize, out: &Path) -> PathBuf {
+    let name = format!("mpt_match_{offset}");
+    let script = out.join(format!("{name}.ld"));
+    let copy = out.join(format!("{name}.o"));
+    let code = format!(". += {offset}; *(.text.mpt_match) *(.text .text.*)");
+    let sections = format!("SECTIONS {{ .text.{name} : ALIGN(64) {{ {code} }} }}\n");
+    std::fs::write(&script, sections).unwrap();
+    run(Command::new("ld")
+        .args(["-r", "-T"])
+        .args([&script, object])
+        .arg("-o")
+        .arg(&copy));
+    run(Command::new("objcopy")
+        .arg(format!("--redefine-sym=mpt_match={name}"))
+        .arg(format!("--keep-global-symbol={name}"))
+        .arg(&copy));
+    copy
+}
+
+fn main() {
+    // The one object that the build script of tests/library makes.
+    let object = PathBuf::from(std::env::var("DEP_MPT_ALONE_OBJECT").unwrap());
+    let out = PathBuf::from(std::env::var("OUT_DIR").unwrap());
+    for offset in [0, 16, 32, 48] {
+        let copy = place(&object, offset, &out);
+        println!("cargo:rustc-link-arg={}", copy.display());
+    }
+    println!("cargo:rerun-if-changed=build.rs");
+    println!("cargo:rerun-if-changed={}", object.display());
+}
