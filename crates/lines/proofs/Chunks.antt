@@ -12,27 +12,32 @@ use borrow.Author.Tests.{lt-ltb, le-ltb}
 use Rattle.pattern.specs.Bytes.{Bytes, bytes}
 use Rattle.pattern.proofs.Tests.{if-true, if-false, le-or-lt}
 use Rattle.lines.specs.Sizes.{line-limit, held-limit, newline-byte}
-use Rattle.lines.specs.Reply.{reply}
-use Rattle.lines.specs.Output.{last-line, lines-after, split, replies, first-line, output, hold, told, kept, in-chunks, joined}
+use Rattle.lines.specs.Reply.{Reply, reply, zeros}
+use Rattle.lines.specs.Output.{answer-to, prefixed, answers, last-line, lines-after, split, first-line, output, hold, Told, say, told, in-chunks, joined}
+use Rattle.lines.proofs.Told.{say-say}
 
 -- what is held of a line
 abbrev pub cap : Bytes → Bytes
 cap line = take held-limit line
 
 -- "L for too long (looked at first)"
-pub too-long : (line : Bytes) → line-limit < length line → reply line ≡ bytes "L"
+pub too-long : (line scratch : Bytes) → line-limit < length line → reply line scratch ≡ record { text = bytes "L"; scratch = scratch }
 unfolding reply
-too-long line h = if-true _ _ _ (lt-ltb _ _ h)
+too-long line scratch h = if-true _ _ _ (lt-ltb _ _ h)
 
 -- a line that is cut to what is held has the same reply
-pub reply-cap : (line : Bytes) → reply (cap line) ≡ reply line
-reply-cap line = ⊎-elim short long (le-or-lt (length line) held-limit)
+pub reply-cap : (line scratch : Bytes) → reply (cap line) scratch ≡ reply line scratch
+reply-cap line scratch = ⊎-elim short long (le-or-lt (length line) held-limit)
   where
-    short : length line ≤ held-limit → reply (cap line) ≡ reply line
-    short h = ap reply (take-all held-limit line h)
+    short : length line ≤ held-limit → reply (cap line) scratch ≡ reply line scratch
+    short h = ap (λ l. reply l scratch) (take-all held-limit line h)
 
-    long : held-limit < length line → reply (cap line) ≡ reply line
-    long h = too-long (cap line) (omega (arith, length-take-le held-limit line (omega arith))) ∙ sym (too-long line (omega arith))
+    long : held-limit < length line → reply (cap line) scratch ≡ reply line scratch
+    long h = too-long (cap line) scratch (omega (arith, length-take-le held-limit line (omega arith))) ∙ sym (too-long line scratch (omega arith))
+
+answer-cap : (line scratch : Bytes) → answer-to (cap line) scratch ≡ answer-to line scratch
+unfolding answer-to
+answer-cap line scratch = ap (λ (r : Reply). record { text = r .text ++ newline-byte ∷ []; scratch = r .scratch }) (reply-cap line scratch)
 
 -- a byte more
 hold-cap : (line : Bytes) (c : ℕ) → hold (cap line) c ≡ cap (line ++ c ∷ [])
@@ -50,57 +55,58 @@ hold-cap line c = ⊎-elim full room (le-or-lt held-limit (length line))
         if-true _ _ _ (lt-ltb (length (cap line)) held-limit (omega (arith, ap length e))) ∙ ap (λ v. v ++ c ∷ []) e ∙ sym (take-all held-limit (line ++ c ∷ []) (omega (arith, length-append line (c ∷ []))))
 
 -- no line ends where a chunk does not say so
-last-cap : (line : Bytes) → replies (last-line (cap line)) ≡ replies (last-line line)
-unfolding last-line replies
-last-cap [] = refl
-last-cap (c ∷ s) = ap (λ v. v ++ newline-byte ∷ []) (reply-cap (c ∷ s))
+last-cap : (line scratch : Bytes) → answers (last-line (cap line)) scratch ≡ answers (last-line line) scratch
+unfolding last-line answers prefixed
+last-cap [] scratch = refl
+last-cap (c ∷ s) scratch = ap (λ (r : Reply). prefixed (r .text) (answers [] (r .scratch))) (answer-cap (c ∷ s) scratch)
+
+-- a chunk after another
+abbrev then : Told → Bytes → Told
+then x t = say (x .text) (told (x .held) t (x .scratch))
 
 -- chunk after chunk is one chunk
-told-append : (held s t : Bytes) → told held (s ++ t) ≡ told held s ++ told (kept held s) t
-unfolding told kept
-told-append held [] t = refl
-told-append held (c ∷ s) t = go (eqb c newline-byte) (told-append [] s t) (told-append (hold held c) s t)
+told-append : (held s t scratch : Bytes) → told held (s ++ t) scratch ≡ then (told held s scratch) t
+unfolding told say
+told-append held [] t scratch = refl
+told-append held (c ∷ s) t scratch = go (eqb c newline-byte) (told-append [] s t (answer-to held scratch .scratch)) (told-append (hold held c) s t scratch)
   where
-    go : (b : Bool) → told [] (s ++ t) ≡ told [] s ++ told (kept [] s) t → told (hold held c) (s ++ t) ≡ told (hold held c) s ++ told (kept (hold held c) s) t
-        → (elim b [ true ↦ reply held ++ newline-byte ∷ told [] (s ++ t) | false ↦ told (hold held c) (s ++ t) ])
-        ≡ (elim b [ true ↦ reply held ++ newline-byte ∷ told [] s | false ↦ told (hold held c) s ]) ++ told (elim b [ true ↦ kept [] s | false ↦ kept (hold held c) s ]) t
-    go true x y = ap (λ v. reply held ++ newline-byte ∷ v) x ∙ sym (append-assoc (reply held) (newline-byte ∷ told [] s) (told (kept [] s) t))
+    go : (b : Bool) → told [] (s ++ t) (answer-to held scratch .scratch) ≡ then (told [] s (answer-to held scratch .scratch)) t → told (hold held c) (s ++ t) scratch ≡ then (told (hold held c) s scratch) t
+        → (elim b [ true ↦ say (answer-to held scratch .text) (told [] (s ++ t) (answer-to held scratch .scratch)) | false ↦ told (hold held c) (s ++ t) scratch ])
+        ≡ then (elim b [ true ↦ say (answer-to held scratch .text) (told [] s (answer-to held scratch .scratch)) | false ↦ told (hold held c) s scratch ]) t
+    go true x y = ap (say (answer-to held scratch .text)) x ∙ sym (say-say (answer-to held scratch .text) (told [] s (answer-to held scratch .scratch) .text) _)
     go false x y = y
 
-kept-append : (held s t : Bytes) → kept held (s ++ t) ≡ kept (kept held s) t
-unfolding kept
-kept-append held [] t = refl
-kept-append held (c ∷ s) t = go (eqb c newline-byte) (kept-append [] s t) (kept-append (hold held c) s t)
-  where
-    go : (b : Bool) → kept [] (s ++ t) ≡ kept (kept [] s) t → kept (hold held c) (s ++ t) ≡ kept (kept (hold held c) s) t
-        → (elim b [ true ↦ kept [] (s ++ t) | false ↦ kept (hold held c) (s ++ t) ]) ≡ kept (elim b [ true ↦ kept [] s | false ↦ kept (hold held c) s ]) t
-    go true x y = x
-    go false x y = y
+-- all that is written where the input ends after a chunk
+abbrev ended : Told → Bytes
+ended t = t .text ++ answers (last-line (t .held)) (t .scratch) .text
 
-one-chunk : (held : Bytes) (chunks : List Bytes) → in-chunks held chunks ≡ told held (joined chunks) ++ replies (last-line (kept held (joined chunks)))
-unfolding in-chunks joined told kept
-one-chunk held [] = refl
-one-chunk held (x ∷ xs) =
-    ap (λ v. told held x ++ v) (one-chunk (kept held x) xs)
-    ∙ sym (append-assoc (told held x) _ _)
-    ∙ ap (λ v. v ++ replies (last-line (kept (kept held x) (joined xs)))) (sym (told-append held x (joined xs)))
-    ∙ ap (λ v. told held (x ++ joined xs) ++ replies (last-line v)) (sym (kept-append held x (joined xs)))
+ended-say : (v : Bytes) (t : Told) → ended (say v t) ≡ v ++ ended t
+unfolding say
+ended-say v t = append-assoc v (t .text) _
 
--- one chunk gives the replies to its lines
-chunk-lines : (begun s : Bytes) → told (cap begun) s ++ replies (last-line (kept (cap begun) s)) ≡ replies (lines-after begun s)
-unfolding told kept lines-after replies
-chunk-lines begun [] = last-cap begun
-chunk-lines begun (c ∷ s) = go (eqb c newline-byte) (chunk-lines [] s) (chunk-lines (begun ++ c ∷ []) s)
+one-chunk : (held : Bytes) (chunks : List Bytes) (scratch : Bytes) → in-chunks held chunks scratch ≡ ended (told held (joined chunks) scratch)
+unfolding in-chunks joined told
+one-chunk held [] scratch = refl
+one-chunk held (x ∷ xs) scratch =
+    let t = told held x scratch in
+    ap (λ v. t .text ++ v) (one-chunk (t .held) xs (t .scratch)) ∙ sym (ended-say (t .text) (told (t .held) (joined xs) (t .scratch))) ∙ sym (ap ended (told-append held x (joined xs) scratch))
+
+-- one chunk gives the answers to its lines
+chunk-lines : (begun s scratch : Bytes) → ended (told (cap begun) s scratch) ≡ answers (lines-after begun s) scratch .text
+unfolding told lines-after answers prefixed
+chunk-lines begun [] scratch = ap (λ (r : Reply). r .text) (last-cap begun scratch)
+chunk-lines begun (c ∷ s) scratch = go (eqb c newline-byte) (chunk-lines [] s (answer-to (cap begun) scratch .scratch)) (chunk-lines (begun ++ c ∷ []) s scratch)
   where
-    go : (b : Bool) → told [] s ++ replies (last-line (kept [] s)) ≡ replies (lines-after [] s)
-        → told (cap (begun ++ c ∷ [])) s ++ replies (last-line (kept (cap (begun ++ c ∷ [])) s)) ≡ replies (lines-after (begun ++ c ∷ []) s)
-        → (elim b [ true ↦ reply (cap begun) ++ newline-byte ∷ told [] s | false ↦ told (hold (cap begun) c) s ])
-        ++ replies (last-line (elim b [ true ↦ kept [] s | false ↦ kept (hold (cap begun) c) s ]))
-        ≡ replies (elim b [ true ↦ begun ∷ lines-after [] s | false ↦ lines-after (begun ++ c ∷ []) s ])
-    go true x y = append-assoc (reply (cap begun)) (newline-byte ∷ told [] s) _ ∙ ap (λ v. reply (cap begun) ++ newline-byte ∷ v) x ∙ ap (λ v. v ++ newline-byte ∷ replies (lines-after [] s)) (reply-cap begun)
-    go false x y = ap (λ h. told h s ++ replies (last-line (kept h s))) (hold-cap begun c) ∙ y
+    go : (b : Bool) → ended (told [] s (answer-to (cap begun) scratch .scratch)) ≡ answers (lines-after [] s) (answer-to (cap begun) scratch .scratch) .text
+        → ended (told (cap (begun ++ c ∷ [])) s scratch) ≡ answers (lines-after (begun ++ c ∷ []) s) scratch .text
+        → ended (elim b [ true ↦ say (answer-to (cap begun) scratch .text) (told [] s (answer-to (cap begun) scratch .scratch)) | false ↦ told (hold (cap begun) c) s scratch ])
+        ≡ answers (elim b [ true ↦ begun ∷ lines-after [] s | false ↦ lines-after (begun ++ c ∷ []) s ]) scratch .text
+    go true x y =
+        ended-say (answer-to (cap begun) scratch .text) (told [] s (answer-to (cap begun) scratch .scratch)) ∙ ap (λ v. answer-to (cap begun) scratch .text ++ v) x
+        ∙ ap (λ (r : Reply). r .text ++ answers (lines-after [] s) (r .scratch) .text) (answer-cap begun scratch)
+    go false x y = ap (λ h. ended (told h s scratch)) (hold-cap begun c) ∙ y
 
 -- the output of an input that comes in chunks
-pub chunks-hold : (chunks : List Bytes) → first-line ++ in-chunks [] chunks ≡ output (joined chunks)
+pub chunks-hold : (chunks : List Bytes) → first-line ++ in-chunks [] chunks zeros ≡ output (joined chunks)
 unfolding output split
-chunks-hold chunks = ap (λ v. first-line ++ v) (one-chunk [] chunks ∙ chunk-lines [] (joined chunks))
+chunks-hold chunks = ap (λ v. first-line ++ v) (one-chunk [] chunks zeros ∙ chunk-lines [] (joined chunks) zeros)

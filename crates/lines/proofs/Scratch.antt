@@ -1,17 +1,27 @@
--- Scratch bytes that are zeros are zeros after a match. Assumes nothing.
+-- Bytes that are zero stay so: scratch after a match, after a line and after a chunk. Assumes nothing.
 use mathlib.Core.Path.{_≡_, refl, sym, ap, _∙_}
 use mathlib.Core.Bool.{Bool, true, false}
-use mathlib.Core.List.{List, _++_}
+use mathlib.Core.List.{List, [], _∷_, _++_}
 use mathlib.Core.Option.{Option, none, some}
 use Prim.Native.Nat.{ℕ, zero, suc, _+_}
-use lib.ListN.{length, drop, replicate, length-replicate, replicate-append-replicate}
-use Rattle.pattern.specs.Bytes.{Bytes, over}
+use lib.Dec.{eqb, ltb}
+use lib.ListN.{length, take, drop, replicate, length-replicate, replicate-append-replicate}
+use Rattle.pattern.specs.Numbers.{table-room, parts-room}
+use Rattle.pattern.specs.Bytes.{Bytes, bytes, over}
 use Rattle.pattern.specs.Syntax.{pattern, Syntax}
 use Rattle.pattern.specs.Parts.{verdict}
 use Rattle.pattern.specs.Decode.{decode}
-use Rattle.pattern.specs.Answers.{work, cleared, lent-fault, judged, tried-if, tried, tried-unless, Matched, matched, matchOf}
-use Rattle.lines.specs.Sizes.{scratch-size}
-use Rattle.lines.specs.Reply.{zeros}
+use Rattle.pattern.specs.Answers.{work, cleared, lent-fault, judged, tried-if, tried, tried-unless, matched, matchOf, Output, compileOf}
+use Rattle.lines.specs.Sizes.{line-limit, budget, unset, newline-byte}
+use Rattle.lines.specs.Text.{refused-text}
+use Rattle.lines.specs.Reply.{cut, Reply, match-reply, label-reply, table-reply, source-reply, cut-reply, reply}
+use Rattle.lines.specs.Stores.{Zero, zeroed}
+use Rattle.lines.specs.Output.{answer-to, hold, Told, say, told}
+
+-- one of two, by a test
+either-zero : {A : Type 0} (f : A → Bytes) (b : Bool) (x y : A) → Zero (f x) → Zero (f y) → Zero (f (elim b [ true ↦ x | false ↦ y ]))
+either-zero f true x y p q = p
+either-zero f false x y p q = q
 
 abbrev blank : ℕ → Bytes
 blank n = replicate n 0
@@ -22,25 +32,30 @@ drop-same zero n a = (n, refl)
 drop-same (suc k) zero a = (0, refl)
 drop-same (suc k) (suc n) a = drop-same k n a
 
--- zeros over zeros, in as many bytes
-over-blank : (k n : ℕ) (s : Bytes) → length s ≡ n → s ≡ over (blank k) (blank n) → s ≡ blank n
+pub blank-zero : (n : ℕ) (s : Bytes) → s ≡ blank n → Zero s
+blank-zero n s e = e ∙ ap blank (sym (length-replicate {A = ℕ} n 0) ∙ sym (ap length e))
+
+-- zeros over the first of them
+pub zeroed-zero : (k : ℕ) (s : Bytes) → Zero s → Zero (zeroed k s)
+zeroed-zero k s z =
+    let (m, e) = drop-same k (length s) 0 in
+    blank-zero (k + m) (zeroed k s) (ap (λ v. blank k ++ drop k v) z ∙ ap (λ v. blank k ++ v) e ∙ replicate-append-replicate k m 0)
+
+over-zero : (k : ℕ) (s : Bytes) → Zero s → Zero (over (blank k) s)
 unfolding over
-over-blank k n s h d =
-    let (m, e) = drop-same (length (blank k)) n 0 in
-    let f : s ≡ blank (k + m) = d ∙ ap (λ v. blank k ++ v) e ∙ replicate-append-replicate k m 0 in
-    f ∙ ap blank (sym (length-replicate {A = ℕ} (k + m) 0) ∙ sym (ap length f) ∙ h)
+over-zero k s z = let h : length (blank k) ≡ k = length-replicate {A = ℕ} k 0 in rw h (zeroed-zero k s z)
 
 -- scratch after a match is what it was, or has zeros over its first bytes
-module _ (P : Bytes → Type 0) (label scratch parts : Bytes) (budget : ℕ) (same : P scratch) (zeroed : (k : ℕ) → P (over (blank k) scratch)) where
+module _ (P : Bytes → Type 0) (label scratch parts : Bytes) (budget : ℕ) (same : P scratch) (clear : (k : ℕ) → P (over (blank k) scratch)) where
   judged-scratch : (v : Option (List ℕ)) (t : Syntax pattern) → P (judged v t label scratch parts .scratch)
   unfolding judged cleared
-  judged-scratch none t = zeroed (work t (length label))
-  judged-scratch (some ends) t = zeroed (work t (length label))
+  judged-scratch none t = clear (work t (length label))
+  judged-scratch (some ends) t = clear (work t (length label))
 
   tried-scratch : (b : Bool) (t : Syntax pattern) → P (tried-if b t label scratch parts budget .scratch)
   unfolding tried-if cleared
   tried-scratch true t = judged-scratch (verdict label t) t
-  tried-scratch false t = zeroed (work t (length label))
+  tried-scratch false t = clear (work t (length label))
 
   match-scratch : (table : Bytes) → P (matchOf table label scratch parts budget .scratch)
   unfolding matchOf matched tried-unless tried
@@ -54,14 +69,27 @@ module _ (P : Bytes → Type 0) (label scratch parts : Bytes) (budget : ℕ) (sa
       go none = same
       go (some t) = lent (lent-fault t label scratch parts) t
 
-pub match-clean : (table label scratch parts : Bytes) (budget : ℕ) {m : Matched} → m ≡ matchOf table label scratch parts budget → length (m .scratch) ≡ scratch-size → scratch ≡ zeros → m .scratch ≡ zeros
-unfolding zeros
-match-clean table label scratch parts budget {m} e h z =
-    match-scratch (λ x. (s : Bytes) → length s ≡ scratch-size → s ≡ x → s ≡ blank scratch-size) label scratch parts budget
-    (λ s l d. d ∙ z)
-    (λ k s l d. over-blank k scratch-size s l (d ∙ ap (over (blank k)) z))
-    table (m .scratch) h (ap (λ (x : Matched). x .scratch) e)
+-- ---- what the line tool leaves of zeros
 
-pub zeros-length : length zeros ≡ scratch-size
-unfolding zeros
-zeros-length = length-replicate {A = ℕ} scratch-size 0
+module _ (scratch : Bytes) (z : Zero scratch) where
+  label-zero : (table label : Bytes) → Zero (label-reply table label scratch .scratch)
+  unfolding label-reply match-reply
+  label-zero table label = match-scratch Zero label scratch (replicate parts-room unset) budget z (λ k. over-zero k scratch z) table
+
+  source-zero : (source label : Bytes) → Zero (source-reply source label scratch .scratch)
+  unfolding source-reply table-reply
+  source-zero source label = let c = compileOf source (replicate table-room 0) in either-zero (λ (r : Reply). r .scratch) (eqb (c .answer .number) 0) _ _ (label-zero (take (c .answer .value) (c .bytes)) label) z
+
+  cut-zero : (o : Option (Bytes × Bytes)) → Zero (cut-reply o scratch .scratch)
+  unfolding cut-reply
+  cut-zero none = z
+  cut-zero (some (source, label)) = source-zero source label
+
+  pub reply-zero : (line : Bytes) → Zero (reply line scratch .scratch)
+  unfolding reply
+  reply-zero line = either-zero (λ (r : Reply). r .scratch) (ltb line-limit (length line)) _ _ z (cut-zero (cut line))
+
+pub told-zero : (held chunk scratch : Bytes) → Zero scratch → Zero (told held chunk scratch .scratch)
+unfolding told say answer-to
+told-zero held [] scratch z = z
+told-zero held (c ∷ s) scratch z = either-zero (λ (t : Told). t .scratch) (eqb c newline-byte) _ _ (told-zero [] s (reply held scratch .scratch) (reply-zero scratch z held)) (told-zero (hold held c) s scratch z)

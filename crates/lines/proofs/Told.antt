@@ -1,18 +1,19 @@
--- What a chunk tells and keeps, line by line. Assumes nothing.
+-- What a chunk gives, line by line. Assumes nothing.
 use mathlib.Core.Path.{_≡_, refl, sym, ap, _∙_}
 use mathlib.Core.Bool.{Bool, true, false}
-use mathlib.Core.List.{[], _∷_, _++_, append-assoc}
+use mathlib.Core.List.{[], _∷_, _++_, append-assoc, append-nil}
 use mathlib.Core.Option.{Option, none, some}
 use Prim.Native.Nat.{ℕ, _+_, _-_, _≤_}
 use native.Mathlib.Omega.{arith}
 use lib.Dec.{eqb}
-use lib.ListN.{length, take, drop, length-append, take-append-drop, drop-of-length-le}
+use lib.ListN.{length, take, drop, replicate, length-append, take-append-drop, drop-of-length-le}
 use lib.Seq.{sets-eq, take-at, drop-at, drop-drop, length-take-le}
 use Rattle.pattern.specs.Bytes.{Bytes, over}
 use Rattle.lines.specs.Sizes.{newline-byte}
 use Rattle.lines.specs.Reply.{reply}
-use Rattle.lines.specs.Output.{last-line, replies, hold, taken, told, kept, buffered}
+use Rattle.lines.specs.Output.{answer-to, prefixed, answers, last-line, hold, taken, Told, say, told, wiped}
 use Rattle.pattern.specs.Stores.{stored, Puts}
+use Rattle.lines.specs.Stores.{zeroed, Replied}
 use Rattle.lines.specs.Taking.{rest-if, Took}
 use Rattle.lines.specs.declared.line.Taken.{Taken}
 
@@ -43,17 +44,13 @@ module _ {X : Type 0} {f : Bytes → Bytes → X} {a : Bytes → X} {b : Bytes �
   walk-held : {held s line : Bytes} → (line, none) ≡ taken held s → a line ≡ f held s
   walk-held {held} {s} e = ap of-taken e ∙ sym (by-taken held s)
 
-told-walks : Walks told (λ held. []) (λ held s. reply held ++ newline-byte ∷ told [] s)
+told-walks : (scratch : Bytes) → Walks (λ held s. told held s scratch) (λ held. record { text = []; held = held; scratch = scratch }) (λ held s. say (answer-to held scratch .text) (told [] s (answer-to held scratch .scratch)))
 unfolding told
-told-walks = record { none-left = λ held. refl; one-byte = λ held c s. refl }
+told-walks scratch = record { none-left = λ held. refl; one-byte = λ held c s. refl }
 
-pub kept-walks : Walks kept (λ held. held) (λ held s. kept [] s)
-unfolding kept
-kept-walks = record { none-left = λ held. refl; one-byte = λ held c s. refl }
-
-buffered-walks : (lent : Bytes) → Walks (buffered lent) (λ held. over held lent) (λ held s. buffered (over held lent) [] s)
-unfolding buffered
-buffered-walks lent = record { none-left = λ held. refl; one-byte = λ held c s. refl }
+wiped-walks : (line : Bytes) → Walks (λ held s. wiped held s line) (λ held. over held line) (λ held s. wiped [] s (zeroed (length held) line))
+unfolding wiped
+wiped-walks line = record { none-left = λ held. refl; one-byte = λ held c s. refl }
 
 -- bytes are the first of them over others that are the same past those
 over-same : (n : ℕ) (s t : Bytes) → n ≤ length s → drop n s ≡ drop n t → over (take n s) t ≡ s
@@ -82,18 +79,27 @@ module _ {v l m : Bytes} {i j : ℕ} (h : i + length v ≤ length l) (s : Puts l
   pub drop-stored : drop j m ≡ drop j l
   drop-stored = ap (drop j) parted ∙ drop-at (take i l ++ v) (drop (i + length v) l) j parted-at ∙ ap (λ k. drop k l) (sym (s .next))
 
--- the reply to a last line with bytes
-pub last-replied : (line : Bytes) → ¬ (length line ≡ 0) → reply line ++ newline-byte ∷ [] ≡ replies (last-line line)
-unfolding last-line replies
-last-replied [] f = absurd (f refl)
-last-replied (c ∷ s) f = refl
+-- the answer to a last line with bytes, and to none
+pub last-answered : (line scratch : Bytes) → ¬ (length line ≡ 0) → answer-to line scratch ≡ answers (last-line line) scratch
+unfolding last-line answers prefixed answer-to
+last-answered [] scratch f = absurd (f refl)
+last-answered (c ∷ s) scratch f = ap (λ v. record { text = v; scratch = reply (c ∷ s) scratch .scratch }) (sym (append-nil _))
 
-pub last-none : (line : Bytes) → length line ≡ 0 → replies (last-line line) ≡ []
-unfolding last-line replies
-last-none [] e = refl
-last-none (c ∷ s) e = absurd (omega arith)
+pub last-none : (line scratch : Bytes) → length line ≡ 0 → answers (last-line line) scratch ≡ record { text = []; scratch = scratch }
+unfolding last-line answers
+last-none [] scratch e = refl
+last-none (c ∷ s) scratch e = absurd (omega arith)
 
 -- ---- turns over a chunk
+
+-- no text, and a text before another
+pub say-none : (t : Told) → say [] t ≡ t
+unfolding say
+say-none t = refl
+
+pub say-say : (v w : Bytes) (t : Told) → say (v ++ w) t ≡ say v (say w t)
+unfolding say
+say-say v w t = ap (λ x. record { text = x; held = t .held; scratch = t .scratch }) (append-assoc v w (t .text))
 
 module _ {chunk line after : Bytes} {from held : ℕ} {r : Taken} (t : Took chunk from line held after r) where
   pub took-ended : r .ended ≡ true → (take (r .held) after, some (drop (r .next) chunk)) ≡ taken (take held line) (drop from chunk)
@@ -109,22 +115,26 @@ module _ {chunk line after : Bytes} {from held : ℕ} {r : Taken} (t : Took chun
     at-end : {X : Type 0} (f : Bytes → Bytes → X) → f (take (r .held) after) (drop (r .next) chunk) ≡ f (take (r .held) after) []
     at-end f = ap (f (take (r .held) after)) (drop-of-length-le chunk (t .stops e))
 
-    pub turn-told : told (take (r .held) after) (drop (r .next) chunk) ≡ told (take held line) (drop from chunk)
-    turn-told = at-end told ∙ told-walks .none-left _ ∙ walk-held told-walks (took-held e)
+    pub turn-told : (scratch : Bytes) → told (take (r .held) after) (drop (r .next) chunk) scratch ≡ told (take held line) (drop from chunk) scratch
+    turn-told scratch = at-end (λ h s. told h s scratch) ∙ told-walks scratch .none-left _ ∙ walk-held (told-walks scratch) (took-held e)
 
-    pub turn-kept : kept (take (r .held) after) (drop (r .next) chunk) ≡ kept (take held line) (drop from chunk)
-    turn-kept = at-end kept ∙ kept-walks .none-left _ ∙ walk-held kept-walks (took-held e)
+    pub turn-wiped : r .held ≤ length after → wiped (take (r .held) after) (drop (r .next) chunk) after ≡ wiped (take held line) (drop from chunk) line
+    turn-wiped h =
+        at-end (λ h s. wiped h s after) ∙ wiped-walks after .none-left _ ∙ over-same _ _ _ h refl ∙ sym (over-same _ _ _ h (t .stays)) ∙ walk-held (wiped-walks line) (took-held e)
 
-    pub turn-buffered : r .held ≤ length after → buffered after (take (r .held) after) (drop (r .next) chunk) ≡ buffered line (take held line) (drop from chunk)
-    turn-buffered h = at-end (buffered after) ∙ buffered-walks after .none-left _ ∙ over-same _ _ _ h refl ∙ sym (over-same _ _ _ h (t .stays)) ∙ walk-held (buffered-walks line) (took-held e)
+  -- the bytes of one that ended are zeroed
+  pub ended-wiped : r .ended ≡ true → r .held ≤ length after → wiped [] (drop (r .next) chunk) (zeroed (r .held) after) ≡ wiped (take held line) (drop from chunk) line
+  ended-wiped e h =
+      ap (λ l. wiped [] (drop (r .next) chunk) (replicate (r .held) 0 ++ l)) (t .stays)
+      ∙ ap (λ n. wiped [] (drop (r .next) chunk) (zeroed n line)) (sym (length-take-le (r .held) after h))
+      ∙ walk-ended (wiped-walks line) (took-ended e)
 
-  -- the bytes of one that ended stay
-  pub ended-buffered : r .ended ≡ true → r .held ≤ length after → buffered after [] (drop (r .next) chunk) ≡ buffered line (take held line) (drop from chunk)
-  ended-buffered e h = ap (λ l. buffered l [] (drop (r .next) chunk)) (sym (over-same _ _ _ h (t .stays))) ∙ walk-ended (buffered-walks line) (took-ended e)
-
--- the reply to a line that ended stands after what was told before
-pub turn-ended : (held s : Bytes) {line rest out out′ T : Bytes} {i j : ℕ} → (line, some rest) ≡ taken held s → take i out ++ told held s ≡ T
-    → Puts out i (reply line ++ newline-byte ∷ []) out′ j → i + length (reply line ++ newline-byte ∷ []) ≤ length out → take j out′ ++ told [] rest ≡ T
-turn-ended held s {line} {rest} {out} {out′} {T} {i} {j} e f d h =
-    ap (λ v. v ++ told [] rest) (take-stored h d) ∙ append-assoc (take i out) (reply line ++ newline-byte ∷ []) (told [] rest)
-    ∙ ap (λ v. take i out ++ v) (append-assoc (reply line) (newline-byte ∷ []) (told [] rest) ∙ walk-ended told-walks e) ∙ f
+-- the answer to a line that ended stands after what was told before
+pub turn-ended : (held s scratch : Bytes) {line rest scratch′ out out′ : Bytes} {T : Told} {room i j : ℕ} → (line, some rest) ≡ taken held s → say (take i out) (told held s scratch) ≡ T
+    → Replied room (answer-to line scratch) out i scratch′ out′ j → i + room ≤ length out → say (take j out′) (told [] rest scratch′) ≡ T
+turn-ended held s scratch {line} {rest} {scratch′} {out} {out′} {T} {room} {i} {j} e f d h =
+    let w = d .within in
+    ap (λ v. say v (told [] rest scratch′)) (take-stored (omega (arith, w .stores .next, w .short)) (w .stores))
+    ∙ ap (λ x. say (take i out ++ answer-to line scratch .text) (told [] rest x)) (d .works)
+    ∙ say-say (take i out) (answer-to line scratch .text) (told [] rest (answer-to line scratch .scratch))
+    ∙ ap (say (take i out)) (walk-ended (told-walks scratch) e) ∙ f

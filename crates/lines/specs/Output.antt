@@ -7,7 +7,21 @@ use lib.Dec.{ltb, eqb}
 use lib.ListN.{length}
 use Rattle.pattern.specs.Bytes.{Bytes, bytes, over}
 use Rattle.lines.specs.Sizes.{held-limit, newline-byte}
-use Rattle.lines.specs.Reply.{reply}
+use Rattle.lines.specs.Reply.{Reply, reply, zeros}
+use Rattle.lines.specs.Stores.{zeroed}
+
+-- "each line it writes ends with a newline"
+unfoldable pub answer-to : (line scratch : Bytes) → Reply
+answer-to line scratch = record { text = reply line scratch .text ++ newline-byte ∷ []; scratch = reply line scratch .scratch }
+
+-- a text before that of a reply
+unfoldable pub prefixed : Bytes → Reply → Reply
+prefixed text r = record { text = text ++ r .text; scratch = r .scratch }
+
+-- the answers to lines, scratch going from one to the next
+unfoldable pub answers : List Bytes → (scratch : Bytes) → Reply
+answers [] scratch = record { text = []; scratch = scratch }
+answers (line ∷ rest) scratch = prefixed (answer-to line scratch .text) (answers rest (answer-to line scratch .scratch))
 
 -- "a last line without a newline counts if it has bytes"
 unfoldable pub last-line : Bytes → List Bytes
@@ -23,16 +37,11 @@ lines-after begun (c ∷ s) = elim (eqb c newline-byte) [ true ↦ begun ∷ lin
 unfoldable pub split : Bytes → List Bytes
 split input = lines-after [] input
 
--- each reply ends with a newline
-unfoldable pub replies : List Bytes → Bytes
-replies [] = []
-replies (line ∷ rest) = reply line ++ newline-byte ∷ replies rest
-
 unfoldable pub first-line : Bytes
 first-line = bytes "MPT 1" ++ newline-byte ∷ []
 
 unfoldable pub output : (input : Bytes) → Bytes
-output input = first-line ++ replies (split input)
+output input = first-line ++ answers (split input) zeros .text
 
 -- ---- in chunks
 
@@ -45,23 +54,33 @@ unfoldable pub taken : (held chunk : Bytes) → Bytes × Option Bytes
 taken held [] = (held, none)
 taken held (c ∷ s) = elim (eqb c newline-byte) [ true ↦ (held, some s) | false ↦ taken (hold held c) s ]
 
--- what a chunk gives after a held line: the replies to the lines that end in it, and the line held after it
-unfoldable pub told : (held chunk : Bytes) → Bytes
-told held [] = []
-told held (c ∷ s) = elim (eqb c newline-byte) [ true ↦ reply held ++ newline-byte ∷ told [] s | false ↦ told (hold held c) s ]
+-- what a chunk gives after a held line: the answers to the lines that end in it, and the line held and scratch after it
+pub record Told : Type 0 where
+  pub text : Bytes
+  pub held : Bytes
+  pub scratch : Bytes
 
-unfoldable pub kept : (held chunk : Bytes) → Bytes
-kept held [] = held
-kept held (c ∷ s) = elim (eqb c newline-byte) [ true ↦ kept [] s | false ↦ kept (hold held c) s ]
+-- a text before that
+unfoldable pub say : Bytes → Told → Told
+say text t = record { text = text ++ t .text; held = t .held; scratch = t .scratch }
 
--- what the lent bytes of a line are after a chunk: each line of it goes over their start
-unfoldable pub buffered : (lent held chunk : Bytes) → Bytes
-buffered lent held [] = over held lent
-buffered lent held (c ∷ s) = elim (eqb c newline-byte) [ true ↦ buffered (over held lent) [] s | false ↦ buffered lent (hold held c) s ]
+unfoldable pub told : (held chunk scratch : Bytes) → Told
+told held [] scratch = record { text = []; held = held; scratch = scratch }
+told held (c ∷ s) scratch =
+    elim (eqb c newline-byte) [
+      | true ↦ say (answer-to held scratch .text) (told [] s (answer-to held scratch .scratch))
+      | false ↦ told (hold held c) s scratch
+    ]
 
-unfoldable pub in-chunks : (held : Bytes) → List Bytes → Bytes
-in-chunks held [] = replies (last-line held)
-in-chunks held (chunk ∷ rest) = told held chunk ++ in-chunks (kept held chunk) rest
+-- the lent bytes of a line after a chunk: those of each line that ended are zero, and the held one is over their start
+unfoldable pub wiped : (held chunk line : Bytes) → Bytes
+wiped held [] line = over held line
+wiped held (c ∷ s) line = elim (eqb c newline-byte) [ true ↦ wiped [] s (zeroed (length held) line) | false ↦ wiped (hold held c) s line ]
+
+-- what is written after a held line, if the input goes on with these chunks
+unfoldable pub in-chunks : (held : Bytes) → List Bytes → (scratch : Bytes) → Bytes
+in-chunks held [] scratch = answers (last-line held) scratch .text
+in-chunks held (chunk ∷ rest) scratch = told held chunk scratch .text ++ in-chunks (told held chunk scratch .held) rest (told held chunk scratch .scratch)
 
 -- chunks one after the other
 unfoldable pub joined : List Bytes → Bytes

@@ -30,29 +30,38 @@ verdict-text m = elim (eqb (m .answer .value) 0) [ true ↦ bytes "0" | false �
 unfoldable pub match-text : Matched → Bytes
 match-text m = elim (eqb (m .answer .number) 0) [ true ↦ verdict-text m | false ↦ unmatched-text (m .answer .number) ]
 
--- the scratch bytes before the first label; "Patient data stays in no buffer": they are the same before each
-unfoldable pub zeros : Bytes
-zeros = replicate scratch-size 0
+-- what is written for a line, and the scratch bytes afterwards
+pub record Reply : Type 0 where
+  pub text : Bytes
+  pub scratch : Bytes
 
 -- a label matched against a table
-unfoldable pub label-reply : (table label : Bytes) → Bytes
-label-reply table label = match-text (matchOf table label zeros (replicate parts-room unset) budget)
+unfoldable pub match-reply : Matched → Reply
+match-reply m = record { text = match-text m; scratch = m .scratch }
+
+unfoldable pub label-reply : (table label scratch : Bytes) → Reply
+label-reply table label scratch = match-reply (matchOf table label scratch (replicate parts-room unset) budget)
 
 -- a label matched against what compiling gave
-unfoldable pub table-reply : Output → (label : Bytes) → Bytes
-table-reply c label =
+unfoldable pub table-reply : Output → (label scratch : Bytes) → Reply
+table-reply c label scratch =
     elim (eqb (c .answer .number) 0) [
-      | true ↦ label-reply (take (c .answer .value) (c .bytes)) label
-      | false ↦ refused-text (c .answer .number) (c .answer .position)
+      | true ↦ label-reply (take (c .answer .value) (c .bytes)) label scratch
+      | false ↦ record { text = refused-text (c .answer .number) (c .answer .position); scratch = scratch }
     ]
 
-unfoldable pub source-reply : (source label : Bytes) → Bytes
-source-reply source label = table-reply (compileOf source (replicate table-room 0)) label
+unfoldable pub source-reply : (source label scratch : Bytes) → Reply
+source-reply source label scratch = table-reply (compileOf source (replicate table-room 0)) label scratch
 
-unfoldable pub cut-reply : Option (Bytes × Bytes) → Bytes
-cut-reply none = bytes "T"
-cut-reply (some (source, label)) = source-reply source label
+-- "T for no tab"
+unfoldable pub cut-reply : Option (Bytes × Bytes) → (scratch : Bytes) → Reply
+cut-reply none scratch = record { text = bytes "T"; scratch = scratch }
+cut-reply (some (source, label)) scratch = source-reply source label scratch
 
 -- "L for too long (looked at first)"
-unfoldable pub reply : Bytes → Bytes
-reply line = elim (ltb line-limit (length line)) [ true ↦ bytes "L" | false ↦ cut-reply (cut line) ]
+unfoldable pub reply : (line scratch : Bytes) → Reply
+reply line scratch = elim (ltb line-limit (length line)) [ true ↦ record { text = bytes "L"; scratch = scratch } | false ↦ cut-reply (cut line) scratch ]
+
+-- the scratch bytes before the first line
+unfoldable pub zeros : Bytes
+zeros = replicate scratch-size 0

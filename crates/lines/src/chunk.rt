@@ -2,12 +2,13 @@
 ghost use mathlib.Core.Path.{_≡_};
 ghost use Prim.Native.Nat.{_≤_};
 ghost use lib.ListN.{length};
-ghost use Rattle.lines.specs.Sizes.{held-limit, scratch-size, out-room};
+ghost use Rattle.lines.specs.Sizes.{held-limit, out-room};
 ghost use Rattle.lines.specs.Output.{first-line};
 ghost use Rattle.lines.specs.Chunk.{Answers, Finishes};
 use crate::line::take_line;
 use crate::reply::answer_line;
 use crate::sizes::OUT_ROOM;
+use planes::clear::clear;
 
 // Where to go on in the chunk, how many bytes of a line are held, and how many were written.
 pub struct Answered {
@@ -16,7 +17,7 @@ pub struct Answered {
     pub end: usize,
 }
 
-// Answers lines until the chunk ends or there may be no room for a reply.
+// Answers lines until the chunk ends or there may be no room for a reply; the bytes of a line that was answered are zeroed.
 pub fn answer_chunk(
     chunk: &[u8],
     from: usize,
@@ -25,7 +26,7 @@ pub fn answer_chunk(
     scratch: &mut [u8],
     out: &mut [u8],
 ) -> Answered
-    requires { ⌜ (from ≤ length (now chunk)) × (length (now line) ≡ held-limit) × (held ≤ held-limit) × (length (now scratch) ≡ scratch-size) × (out-room ≤ length (now out)) ⌝ }
+    requires { ⌜ (from ≤ length (now chunk)) × (length (now line) ≡ held-limit) × (held ≤ held-limit) × (out-room ≤ length (now out)) ⌝ }
     ensures { λ r. ⌜ Answers (now (chunk .entry)) from (now (line .entry)) held (now (scratch .entry)) (now (out .entry)) (now (line .exit)) (now (scratch .exit)) (now (out .exit)) r ⌝ }
 {
     let mut next = from;
@@ -40,6 +41,7 @@ pub fn answer_chunk(
         n = t.held;
         if t.ended {
             end = answer_line(&line[..n], scratch, out, end);
+            clear(line, n);
             n = 0;
         }
     }
@@ -48,7 +50,7 @@ pub fn answer_chunk(
 
 // Answers a last line without a newline, if it has bytes.
 pub fn answer_last(line: &[u8], scratch: &mut [u8], out: &mut [u8]) -> usize
-    requires { ⌜ (length (now scratch) ≡ scratch-size) × (out-room ≤ length (now out)) ⌝ }
+    requires { ⌜ out-room ≤ length (now out) ⌝ }
     ensures { λ r. ⌜ Finishes (now (line .entry)) (now (scratch .entry)) (now (out .entry)) (now (scratch .exit)) (now (out .exit)) r ⌝ }
 {
     if line.len() == 0 {

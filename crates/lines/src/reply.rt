@@ -1,10 +1,9 @@
 // The reply to one line.
-ghost use mathlib.Core.Path.{_≡_};
-ghost use mathlib.Core.List.{[], _∷_, _++_};
 ghost use Prim.Native.Nat.{_+_, _≤_};
 ghost use lib.ListN.{length};
-ghost use Rattle.lines.specs.Sizes.{scratch-size, newline-byte, reply-room};
+ghost use Rattle.lines.specs.Sizes.{reply-room};
 ghost use Rattle.lines.specs.Reply.{label-reply, source-reply, reply};
+ghost use Rattle.lines.specs.Output.{answer-to};
 ghost use Rattle.lines.specs.Stores.{Replied};
 use crate::line::tab_at;
 use crate::sizes::BUDGET;
@@ -18,8 +17,8 @@ use compiler::Compiled;
 
 // A label under a table.
 fn put_label(table: &[u8], label: &[u8], scratch: &mut [u8], out: &mut [u8], at: usize) -> usize
-    requires { ⌜ (length (now scratch) ≡ scratch-size) × (at + reply-room ≤ length (now out)) ⌝ }
-    ensures { λ r. ⌜ Replied reply-room (label-reply (now (table .entry)) (now (label .entry))) (now (scratch .entry)) (now (out .entry)) at (now (scratch .exit)) (now (out .exit)) r ⌝ }
+    requires { ⌜ at + reply-room ≤ length (now out) ⌝ }
+    ensures { λ r. ⌜ Replied reply-room (label-reply (now (table .entry)) (now (label .entry)) (now (scratch .entry))) (now (out .entry)) at (now (scratch .exit)) (now (out .exit)) r ⌝ }
 {
     let mut parts = [UNSET; PARTS_ROOM];
     let a = matcher::match_label(table, label, scratch, &mut parts, BUDGET).numbers(BUDGET);
@@ -34,8 +33,8 @@ fn put_label(table: &[u8], label: &[u8], scratch: &mut [u8], out: &mut [u8], at:
 
 // A source and a label.
 fn put_cut(source: &[u8], label: &[u8], scratch: &mut [u8], out: &mut [u8], at: usize) -> usize
-    requires { ⌜ (length (now scratch) ≡ scratch-size) × (at + reply-room ≤ length (now out)) ⌝ }
-    ensures { λ r. ⌜ Replied reply-room (source-reply (now (source .entry)) (now (label .entry))) (now (scratch .entry)) (now (out .entry)) at (now (scratch .exit)) (now (out .exit)) r ⌝ }
+    requires { ⌜ at + reply-room ≤ length (now out) ⌝ }
+    ensures { λ r. ⌜ Replied reply-room (source-reply (now (source .entry)) (now (label .entry)) (now (scratch .entry))) (now (out .entry)) at (now (scratch .exit)) (now (out .exit)) r ⌝ }
 {
     let mut table = [0u8; TABLE_ROOM];
     match compiler::compile(source, &mut table) {
@@ -47,8 +46,8 @@ fn put_cut(source: &[u8], label: &[u8], scratch: &mut [u8], out: &mut [u8], at: 
 }
 
 fn put_reply(line: &[u8], scratch: &mut [u8], out: &mut [u8], at: usize) -> usize
-    requires { ⌜ (length (now scratch) ≡ scratch-size) × (at + reply-room ≤ length (now out)) ⌝ }
-    ensures { λ r. ⌜ Replied reply-room (reply (now (line .entry))) (now (scratch .entry)) (now (out .entry)) at (now (scratch .exit)) (now (out .exit)) r ⌝ }
+    requires { ⌜ at + reply-room ≤ length (now out) ⌝ }
+    ensures { λ r. ⌜ Replied reply-room (reply (now (line .entry)) (now (scratch .entry))) (now (out .entry)) at (now (scratch .exit)) (now (out .exit)) r ⌝ }
 {
     if LINE_LIMIT < line.len() {
         return text::put_byte(b'L', out, at);
@@ -62,8 +61,8 @@ fn put_reply(line: &[u8], scratch: &mut [u8], out: &mut [u8], at: usize) -> usiz
 
 // The reply and its newline.
 pub fn answer_line(line: &[u8], scratch: &mut [u8], out: &mut [u8], at: usize) -> usize
-    requires { ⌜ (length (now scratch) ≡ scratch-size) × (at + reply-room + 1 ≤ length (now out)) ⌝ }
-    ensures { λ r. ⌜ Replied (reply-room + 1) (reply (now (line .entry)) ++ newline-byte ∷ []) (now (scratch .entry)) (now (out .entry)) at (now (scratch .exit)) (now (out .exit)) r ⌝ }
+    requires { ⌜ at + reply-room + 1 ≤ length (now out) ⌝ }
+    ensures { λ r. ⌜ Replied (reply-room + 1) (answer-to (now (line .entry)) (now (scratch .entry))) (now (out .entry)) at (now (scratch .exit)) (now (out .exit)) r ⌝ }
 {
     let end = put_reply(line, scratch, out, at);
     text::put_byte(NEWLINE, out, end)

@@ -1,17 +1,16 @@
 -- `chunk::answer_chunk` meets its contract: what is written, and then what the rest tells, is what the chunk tells from the start. What is left of the chunk falls. Assumes nothing.
 use mathlib.Core.Path.{_≡_, refl, sym, ap, _∙_}
 use mathlib.Core.Logic.{⊎-elim}
-use mathlib.Core.List.{_++_}
+use mathlib.Core.List.{[]}
 use Prim.Native.Nat.{_≤_, _-_}
 use native.Mathlib.Omega.{arith}
 use lib.ListN.{length, take, drop}
 use lib.Seq.{length-take-le}
 use Rattle.pattern.proofs.Tests.{le-or-lt}
 use Rattle.lines.specs.Sizes.{held-limit}
-use Rattle.lines.specs.Reply.{zeros}
-use Rattle.lines.specs.Output.{told, kept, buffered}
+use Rattle.lines.specs.Output.{say, told, wiped}
 use Rattle.pattern.proofs.Stores.{puts-length}
-use Rattle.lines.proofs.Told.{walk-ended, kept-walks, took-ended, turn-told, turn-kept, turn-buffered, turn-ended, ended-buffered, drop-stored, same-after}
+use Rattle.lines.proofs.Told.{say-none, took-ended, turn-told, turn-wiped, turn-ended, ended-wiped, drop-stored, same-after}
 use Rattle.lines.proofs.chunk.answer_chunk.Statement.{statement}
 use Rattle.lines.proofs.chunk.answer_chunk.Tie as tie
 
@@ -19,16 +18,15 @@ abbrev Inv-loop : tie.InvT-loop
 Inv-loop chunk from line₀ held scratch₀ out₀ next₀ n₀ end₀ line scratch out next n end =
     (from ≤ next) × (next ≤ length chunk) × (n ≤ held-limit) × (end ≤ length out)
     × (length line ≡ length line₀) × (length scratch ≡ length scratch₀) × (length out ≡ length out₀)
-    × (take end out ++ told (take n line) (drop next chunk) ≡ told (take held line₀) (drop from chunk))
-    × (kept (take n line) (drop next chunk) ≡ kept (take held line₀) (drop from chunk))
-    × (next ≡ from → end ≡ 0) × (scratch₀ ≡ zeros → scratch ≡ zeros)
-    × (buffered line (take n line) (drop next chunk) ≡ buffered line₀ (take held line₀) (drop from chunk)) × (drop end out ≡ drop end out₀)
+    × (say (take end out) (told (take n line) (drop next chunk) scratch) ≡ told (take held line₀) (drop from chunk) scratch₀)
+    × (wiped (take n line) (drop next chunk) line ≡ wiped (take held line₀) (drop from chunk) line₀)
+    × (next ≡ from → end ≡ 0) × (drop end out ≡ drop end out₀)
 
 abbrev μ-loop : tie.MeasureT-loop
 μ-loop chunk from line₀ held scratch₀ out₀ next₀ n₀ end₀ line scratch out next n end = length chunk - next
 
 loop-holds : tie.Need-loop-holds Inv-loop μ-loop
-loop-holds c = (omega arith, omega arith, omega arith, omega arith, refl, refl, refl, refl, refl, λ e. refl, λ e. e, refl, refl)
+loop-holds c = (omega arith, omega arith, omega arith, omega arith, refl, refl, refl, say-none _, refl, λ e. refl, refl)
 
 sub-if1 : tie.Need-sub-if1 Inv-loop μ-loop
 sub-if1 c = omega arith
@@ -47,14 +45,12 @@ returns c =
     let k = c .before .before .loop in
     record {
       tells = k .inv .7;
-      keeps = k .inv .8;
-      leaves = k .inv .11;
-      stays = k .inv .12;
+      wipes = k .inv .8;
+      stays = k .inv .10;
       moves = λ m. ⊎-elim (λ h. absurd (omega (arith, k .inv .9 (omega arith)))) (λ h. h) (le-or-lt (k .next) (c .before .before .before .before .before .before .before .args .from));
       next-fits = k .inv .1;
       held-fits = k .inv .2;
       end-fits = k .inv .3;
-      clean = k .inv .10;
     }
 
 take-line-requires : tie.Need-take-line-requires Inv-loop μ-loop
@@ -69,39 +65,45 @@ slice-aggregate-answer-line c =
     sym (length-take-le _ _ (omega (arith, t .held-fits, t .size)))
 
 answer-line-requires : tie.Need-answer-line-requires Inv-loop μ-loop
-answer-line-requires c κs = (omega arith, omega arith)
+answer-line-requires c κs = omega arith
+
+clear-requires : tie.Need-clear-requires Inv-loop μ-loop
+clear-requires c κs =
+    let after-take-line = c .before .before .before .before .before .before .before .before .before .before .before .before in
+    omega (arith, after-take-line .take-line .ensures .held-fits, after-take-line .take-line .ensures .size)
 
 loop-less : tie.Need-loop-less Inv-loop μ-loop
 loop-less c =
-    let after-take-line = c .before .before .before .before .before .before .before .before .before .before .before in
+    let after-take-line = c .before .before .before .before .before .before .before .before .before .before .before .before .before .before .before in
     let after-loop-test = after-take-line .before .before .before in
     omega (arith, after-take-line .take-line .ensures .moves (after-loop-test .loop-test .taken), after-take-line .take-line .ensures .next-fits)
 
 loop-again : tie.Need-loop-again Inv-loop μ-loop
 loop-again c =
-    let after-answer-line = c .before .before .before .before in
+    let after-clear = c .before .before in
+    let after-answer-line = after-clear .before .before .before .before .before .before in
     let after-if2 = after-answer-line .before .before .before .before in
     let after-take-line = after-if2 .before .before .before in
     let after-loop-test = after-take-line .before .before .before in
     let turn = after-loop-test .before in
     let k = turn .loop in
+    let lent = turn .before .before .before .before .before .pre .1 in
     let t = after-take-line .take-line .ensures in
     let r = after-answer-line .answer-line .ensures in
     let w = r .within in
-    let m = t .moves (after-loop-test .loop-test .taken) in (
+    let m = t .moves (after-loop-test .loop-test .taken) in
+    let ended = after-if2 .if2 .taken in (
       omega arith,
       t .next-fits,
       omega arith,
       omega (arith, w .short, puts-length (w .stores)),
-      t .size ∙ k .inv .4,
+      after-clear .clear .kept .0 ∙ t .size ∙ k .inv .4,
       after-answer-line .answer-line .kept .1 .0 ∙ k .inv .5,
       puts-length (w .stores) ∙ k .inv .6,
-      turn-ended _ _ (took-ended t (after-if2 .if2 .taken)) (k .inv .7) (w .stores) (omega (arith, w .stores .next, w .short)),
-      walk-ended kept-walks (took-ended t (after-if2 .if2 .taken)) ∙ k .inv .8,
+      turn-ended _ _ _ (took-ended t ended) (k .inv .7) r (omega arith),
+      ap (wiped [] _) (after-clear .clear .ensures) ∙ ended-wiped t ended (omega (arith, t .held-fits, t .size, k .inv .4, lent)) ∙ k .inv .8,
       λ e. absurd (omega arith),
-      λ e. r .clean (k .inv .10 e),
-      ended-buffered t (after-if2 .if2 .taken) (omega (arith, t .held-fits, t .size)) ∙ k .inv .11,
-      drop-stored (omega (arith, w .stores .next, w .short)) (w .stores) ∙ same-after _ _ (k .end) (after-answer-line .answer-line .result) (omega (arith, w .stores .next)) (k .inv .12),
+      drop-stored (omega (arith, w .stores .next, w .short)) (w .stores) ∙ same-after _ _ (k .end) (after-answer-line .answer-line .result) (omega (arith, w .stores .next)) (k .inv .10),
     )
 
 loop-less-2 : tie.Need-loop-less-2 Inv-loop μ-loop
@@ -114,8 +116,7 @@ loop-again-2 : tie.Need-loop-again-2 Inv-loop μ-loop
 loop-again-2 c =
     let after-take-line = c .before .before .before in
     let after-loop-test = after-take-line .before .before .before in
-    let turn = after-loop-test .before in
-    let k = turn .loop in
+    let k = after-loop-test .before .loop in
     let t = after-take-line .take-line .ensures in
     let m = t .moves (after-loop-test .loop-test .taken) in (
       omega arith,
@@ -125,12 +126,10 @@ loop-again-2 c =
       t .size ∙ k .inv .4,
       k .inv .5,
       k .inv .6,
-      ap (λ v. take (k .end) (k .out) ++ v) (turn-told t (c .if2 .left)) ∙ k .inv .7,
-      turn-kept t (c .if2 .left) ∙ k .inv .8,
+      ap (say (take (k .end) (k .out))) (turn-told t (c .if2 .left) (k .scratch)) ∙ k .inv .7,
+      turn-wiped t (c .if2 .left) (omega (arith, t .held-fits, t .size)) ∙ k .inv .8,
       λ e. absurd (omega arith),
       k .inv .10,
-      turn-buffered t (c .if2 .left) (omega (arith, t .held-fits, t .size)) ∙ k .inv .11,
-      k .inv .12,
     )
 
 same-length-4 : tie.Need-same-length-4 Inv-loop μ-loop
@@ -147,14 +146,12 @@ returns-2 c =
     let k = c .before .loop in
     record {
       tells = k .inv .7;
-      keeps = k .inv .8;
-      leaves = k .inv .11;
-      stays = k .inv .12;
+      wipes = k .inv .8;
+      stays = k .inv .10;
       moves = λ m. omega arith;
       next-fits = k .inv .1;
       held-fits = k .inv .2;
       end-fits = k .inv .3;
-      clean = k .inv .10;
     }
 
 pub answer-chunk-spec : {M : Type 1} → statement M
@@ -173,6 +170,7 @@ answer-chunk-spec =
     slice-reshare-prefix-answer-line
     slice-aggregate-answer-line
     answer-line-requires
+    clear-requires
     loop-less
     loop-again
     loop-less-2

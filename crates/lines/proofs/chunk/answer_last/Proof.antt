@@ -1,14 +1,17 @@
 -- `chunk::answer_last` meets its contract. Assumes nothing.
-use mathlib.Core.Path.{refl, sym, _∙_}
+use mathlib.Core.Path.{refl, sym, ap, _∙_}
 use native.Mathlib.Omega.{arith}
 use Rattle.pattern.proofs.Stores.{puts-length}
-use Rattle.lines.proofs.Told.{take-stored, drop-stored, last-replied, last-none}
+use Rattle.lines.proofs.Told.{take-stored, drop-stored, last-answered, last-none}
+use Rattle.lines.specs.Reply.{Reply}
 use borrow.Author.Needs.{needs}
 use Rattle.lines.proofs.chunk.answer_last.Statement.{statement}
 use Rattle.lines.proofs.chunk.answer_last.Tie as tie
 
 returns : tie.Need-returns
-returns c = record { tells = sym (last-none _ (c .if1 .taken)); stays = refl; end-fits = omega arith; clean = λ e. e }
+returns c =
+    let none = sym (last-none _ _ (c .if1 .taken)) in
+    record { tells = ap (λ (x : Reply). x .text) none; works = ap (λ (x : Reply). x .scratch) none; stays = refl; end-fits = omega arith }
 
 answer-line-requires : tie.Need-answer-line-requires
 answer-line-requires c κs = search needs
@@ -23,11 +26,12 @@ returns-2 : tie.Need-returns-2
 returns-2 c =
     let r = c .before .before .before .before .answer-line .ensures in
     let w = r .within in
+    let one = last-answered _ _ (c .before .before .before .before .before .before .before .if1 .left) in
     record {
-      tells = take-stored (omega (arith, w .stores .next, w .short)) (w .stores) ∙ last-replied _ (c .before .before .before .before .before .before .before .if1 .left);
+      tells = take-stored (omega (arith, w .stores .next, w .short)) (w .stores) ∙ ap (λ (x : Reply). x .text) one;
+      works = r .works ∙ ap (λ (x : Reply). x .scratch) one;
       stays = drop-stored (omega (arith, w .stores .next, w .short)) (w .stores);
       end-fits = omega (arith, w .short, puts-length (w .stores));
-      clean = r .clean;
     }
 
 pub answer-last-spec : {M : Type 1} → statement M

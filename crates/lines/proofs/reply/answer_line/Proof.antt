@@ -1,6 +1,7 @@
 -- `reply::answer_line` meets its contract. Assumes nothing.
 use native.Mathlib.Omega.{arith}
 use Rattle.pattern.proofs.Stores.{puts-then}
+use Rattle.lines.specs.Output.{answer-to}
 use borrow.Author.Needs.{needs}
 use Rattle.lines.proofs.reply.answer_line.Statement.{statement}
 use Rattle.lines.proofs.reply.answer_line.Tie as tie
@@ -18,11 +19,12 @@ same-length-2 : tie.Need-same-length-2
 same-length-2 c = search needs
 
 returns : tie.Need-returns
+unfolding answer-to
 returns c =
     let r = c .before .before .before .before .before .before .before .before .put-reply .ensures in
     let a = r .within in
     let b = c .before .before .put-byte .ensures in
-    record { within = record { stores = puts-then (a .stores) b; short = omega (arith, a .short, b .next) }; clean = r .clean }
+    record { within = record { stores = puts-then (a .stores) b; short = omega (arith, a .short, b .next) }; works = r .works }
 
 pub answer-line-spec : {M : Type 1} → statement M
 answer-line-spec =

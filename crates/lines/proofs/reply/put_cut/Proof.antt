@@ -4,7 +4,7 @@ use mathlib.Core.List.{[]}
 use lib.Seq.{length-take-le}
 use native.Mathlib.Omega.{arith}
 use Rattle.lines.specs.Sizes.{reply-room}
-use Rattle.lines.proofs.Replies.{within-same, stored-within, refused-short, table-fits, table-reply-is, refused-reply-is}
+use Rattle.lines.proofs.Replies.{replied-same, replied, stored-within, refused-short, table-fits, table-reply-is, refused-reply-is}
 use borrow.Author.Needs.{needs}
 use Rattle.lines.proofs.reply.put_cut.Statement.{statement}
 use Rattle.lines.proofs.reply.put_cut.Tie as tie
@@ -19,10 +19,10 @@ enum-known-n : tie.Need-enum-known-n
 enum-known-n c = search needs
 
 array-share-prefix-table : tie.Need-array-share-prefix-table
-array-share-prefix-table c = table-fits _ [] _ _ (c .before .before .before .before .compile .ensures) _ (c .before .n .given .1)
+array-share-prefix-table c = table-fits _ [] [] _ _ (c .before .before .before .before .compile .ensures) _ (c .before .n .given .1)
 
 slice-aggregate-put-label : tie.Need-slice-aggregate-put-label
-slice-aggregate-put-label c = sym (length-take-le _ _ (table-fits _ [] _ _ (c .before .before .before .before .before .compile .ensures) _ (c .before .before .n .given .1)))
+slice-aggregate-put-label c = sym (length-take-le _ _ (table-fits _ [] [] _ _ (c .before .before .before .before .before .compile .ensures) _ (c .before .before .n .given .1)))
 
 put-label-requires : tie.Need-put-label-requires
 put-label-requires c κs = search needs
@@ -48,7 +48,7 @@ returns c =
     let after-n = after-put-label .before .before .before .before .before in
     let after-compile = after-n .before .before .before in
     let r = after-put-label .put-label .ensures in
-    record { within = within-same (table-reply-is _ _ _ _ (after-compile .compile .ensures) _ (after-n .n .given .1)) (r .within); clean = r .clean }
+    replied-same (table-reply-is _ _ _ _ _ (after-compile .compile .ensures) _ (after-n .n .given .1)) r
 
 same-length-3 : tie.Need-same-length-3
 same-length-3 c = search needs
@@ -58,7 +58,7 @@ returns-2 c =
     let after-known-told2 = c .before .before .before .before in
     let after-number = after-known-told2 .before in
     let after-compile = after-number .before .before .before in
-    record { within = within-same (refused-reply-is _ _ _ _ (after-compile .compile .ensures) _ _ (after-number .number .given .1)) (stored-within reply-room (omega (arith, refused-short (after-number .number .given .0 .0) (after-number .number .given .0 .1 .0) (omega (arith, after-known-told2 .known-told2 .given)) (omega (arith, after-known-told2 .known-told2 .given)))) (c .before .before .put-refused .ensures)); clean = λ e. e }
+    replied-same (refused-reply-is _ _ _ _ _ (after-compile .compile .ensures) _ _ (after-number .number .given .1)) (replied (stored-within reply-room (omega (arith, refused-short (after-number .number .given .0 .0) (after-number .number .given .0 .1 .0) (omega (arith, after-known-told2 .known-told2 .given)) (omega (arith, after-known-told2 .known-told2 .given)))) (c .before .before .put-refused .ensures)))
 
 pub put-cut-spec : {M : Type 1} → statement M
 put-cut-spec =

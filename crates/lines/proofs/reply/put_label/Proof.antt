@@ -1,9 +1,7 @@
 -- `reply::put_label` meets its contract. Assumes nothing.
-use mathlib.Core.Path.{_∙_}
 use native.Mathlib.Omega.{arith}
 use Rattle.lines.specs.Sizes.{reply-room}
-use Rattle.lines.proofs.Scratch.{match-clean}
-use Rattle.lines.proofs.Replies.{within-same, stored-within, within-more, unmatched-short, unmatched-reply, no-reply, yes-reply}
+use Rattle.lines.proofs.Replies.{replied-same, replied, stored-within, within-more, unmatched-short, unmatched-reply, no-reply, yes-reply}
 use borrow.Author.Needs.{needs}
 use Rattle.lines.proofs.reply.put_label.Statement.{statement}
 use Rattle.lines.proofs.reply.put_label.Tie as tie
@@ -35,13 +33,10 @@ returns c =
     let after-struct-known = after-if1 .before in
     let after-numbers = after-struct-known .before in
     let after-match-label = after-numbers .before .before .before .before in
-    let start = after-match-label .before .before .before .before .before .before .before in
     let a = after-numbers .numbers in
     let m = after-match-label .match-label in
-    record {
-      within = within-same (unmatched-reply _ _ _ (start .pre .0) (m .result) _ _ (m .ensures) _ (a .ensures) (after-if1 .if1 .taken)) (stored-within reply-room (omega (arith, unmatched-short (a .result .number) (omega (arith, after-struct-known .struct-known .given)))) (c .before .before .put-unmatched .ensures));
-      clean = match-clean _ _ _ _ _ (m .ensures) (m .kept .1 .1 .0 ∙ start .pre .0);
-    }
+    replied-same (unmatched-reply _ _ _ (m .result) _ _ (m .ensures) _ (a .ensures) (after-if1 .if1 .taken))
+    (replied (stored-within reply-room (omega (arith, unmatched-short (a .result .number) (omega (arith, after-struct-known .struct-known .given)))) (c .before .before .put-unmatched .ensures)))
 
 put-byte-requires : tie.Need-put-byte-requires
 put-byte-requires c κs = search needs
@@ -58,13 +53,9 @@ returns-2 c =
     let after-if1 = after-if2 .before .before in
     let after-numbers = after-if1 .before .before in
     let after-match-label = after-numbers .before .before .before .before in
-    let start = after-match-label .before .before .before .before .before .before .before in
     let a = after-numbers .numbers in
     let m = after-match-label .match-label in
-    record {
-      within = within-same (no-reply _ _ _ (start .pre .0) (m .result) _ _ (m .ensures) _ (a .ensures) (after-if1 .if1 .left) (after-if2 .if2 .taken)) (stored-within reply-room (omega arith) (c .before .before .put-byte .ensures));
-      clean = match-clean _ _ _ _ _ (m .ensures) (m .kept .1 .1 .0 ∙ start .pre .0);
-    }
+    replied-same (no-reply _ _ _ (m .result) _ _ (m .ensures) _ (a .ensures) (after-if1 .if1 .left) (after-if2 .if2 .taken)) (replied (stored-within reply-room (omega arith) (c .before .before .put-byte .ensures)))
 
 slice-aggregate-put-matched : tie.Need-slice-aggregate-put-matched
 slice-aggregate-put-matched c = search needs
@@ -84,13 +75,9 @@ returns-3 c =
     let after-if1 = after-if2 .before .before in
     let after-numbers = after-if1 .before .before in
     let after-match-label = after-numbers .before .before .before .before in
-    let start = after-match-label .before .before .before .before .before .before .before in
     let a = after-numbers .numbers in
     let m = after-match-label .match-label in
-    record {
-      within = within-same (yes-reply _ _ _ (start .pre .0) (m .result) _ _ (m .ensures) _ (a .ensures) (after-if1 .if1 .left) (after-if2 .if2 .left)) (within-more (omega (arith, m .kept .1 .1 .1 .0)) (c .before .before .put-matched .ensures));
-      clean = match-clean _ _ _ _ _ (m .ensures) (m .kept .1 .1 .0 ∙ start .pre .0);
-    }
+    replied-same (yes-reply _ _ _ (m .result) _ _ (m .ensures) _ (a .ensures) (after-if1 .if1 .left) (after-if2 .if2 .left)) (replied (within-more (omega (arith, m .kept .1 .1 .1 .0)) (c .before .before .put-matched .ensures)))
 
 pub put-label-spec : {M : Type 1} → statement M
 put-label-spec =

@@ -4,7 +4,7 @@ use lib.Seq.{length-take-le}
 use native.Mathlib.Omega.{arith}
 use Rattle.pattern.specs.Bytes.{bytes}
 use Rattle.lines.specs.Sizes.{reply-room}
-use Rattle.lines.proofs.Replies.{within-same, stored-within, long-reply, whole-reply, cut-replied}
+use Rattle.lines.proofs.Replies.{replied-same, replied, stored-within, long-reply, whole-reply, cut-replied}
 use borrow.Author.Needs.{needs}
 use Rattle.lines.proofs.reply.put_reply.Statement.{statement}
 use Rattle.lines.proofs.reply.put_reply.Tie as tie
@@ -17,7 +17,7 @@ same-length c = search needs
 
 returns : tie.Need-returns
 unfolding bytes
-returns c = record { within = within-same (long-reply _ (c .before .before .before .before .if1 .taken)) (stored-within reply-room (omega arith) (c .before .before .put-byte .ensures)); clean = λ e. e }
+returns c = replied-same (long-reply _ _ (c .before .before .before .before .if1 .taken)) (replied (stored-within reply-room (omega arith) (c .before .before .put-byte .ensures)))
 
 tab-at-requires : tie.Need-tab-at-requires
 tab-at-requires c κs = search needs
@@ -34,7 +34,7 @@ returns-2 c =
     let after-if2 = c .before .before .before .before in
     let after-tab-at = after-if2 .before in
     let after-if1 = after-tab-at .before in
-    record { within = within-same (whole-reply _ (after-if1 .if1 .left) _ (after-tab-at .tab-at .ensures) (after-if2 .if2 .taken)) (stored-within reply-room (omega arith) (c .before .before .put-byte2 .ensures)); clean = λ e. e }
+    replied-same (whole-reply _ _ (after-if1 .if1 .left) _ (after-tab-at .tab-at .ensures) (after-if2 .if2 .taken)) (replied (stored-within reply-room (omega arith) (c .before .before .put-byte2 .ensures)))
 
 slice-aggregate-put-cut : tie.Need-slice-aggregate-put-cut
 slice-aggregate-put-cut c = sym (length-take-le _ _ (omega arith))
@@ -67,7 +67,7 @@ returns-3 c =
     let after-tab-at = after-if2 .before in
     let after-if1 = after-tab-at .before in
     let r = after-put-cut .put-cut .ensures in
-    record { within = within-same (cut-replied _ (after-if1 .if1 .left) _ (after-tab-at .tab-at .ensures) (after-if2 .if2 .left)) (r .within); clean = r .clean }
+    replied-same (cut-replied _ _ (after-if1 .if1 .left) _ (after-tab-at .tab-at .ensures) (after-if2 .if2 .left)) r
 
 pub put-reply-spec : {M : Type 1} → statement M
 put-reply-spec =
