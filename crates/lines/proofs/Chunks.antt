@@ -14,7 +14,7 @@ use Rattle.pattern.proofs.Tests.{if-true, if-false, le-or-lt}
 use Rattle.lines.specs.Sizes.{line-limit, held-limit, newline-byte}
 use Rattle.lines.specs.Reply.{Reply, reply, zeros}
 use Rattle.lines.specs.Output.{answer-to, prefixed, answers, last-line, lines-after, split, first-line, output, hold, Told, say, told, in-chunks, joined}
-use Rattle.lines.proofs.Told.{say-say}
+use Rattle.lines.proofs.Told.{told-append}
 
 -- what is held of a line
 abbrev pub cap : Bytes → Bytes
@@ -59,22 +59,6 @@ last-cap : (line scratch : Bytes) → answers (last-line (cap line)) scratch ≡
 unfolding last-line answers prefixed
 last-cap [] scratch = refl
 last-cap (c ∷ s) scratch = ap (λ (r : Reply). prefixed (r .text) (answers [] (r .scratch))) (answer-cap (c ∷ s) scratch)
-
--- a chunk after another
-abbrev then : Told → Bytes → Told
-then x t = say (x .text) (told (x .held) t (x .scratch))
-
--- chunk after chunk is one chunk
-told-append : (held s t scratch : Bytes) → told held (s ++ t) scratch ≡ then (told held s scratch) t
-unfolding told say
-told-append held [] t scratch = refl
-told-append held (c ∷ s) t scratch = go (eqb c newline-byte) (told-append [] s t (answer-to held scratch .scratch)) (told-append (hold held c) s t scratch)
-  where
-    go : (b : Bool) → told [] (s ++ t) (answer-to held scratch .scratch) ≡ then (told [] s (answer-to held scratch .scratch)) t → told (hold held c) (s ++ t) scratch ≡ then (told (hold held c) s scratch) t
-        → (elim b [ true ↦ say (answer-to held scratch .text) (told [] (s ++ t) (answer-to held scratch .scratch)) | false ↦ told (hold held c) (s ++ t) scratch ])
-        ≡ then (elim b [ true ↦ say (answer-to held scratch .text) (told [] s (answer-to held scratch .scratch)) | false ↦ told (hold held c) s scratch ]) t
-    go true x y = ap (say (answer-to held scratch .text)) x ∙ sym (say-say (answer-to held scratch .text) (told [] s (answer-to held scratch .scratch) .text) _)
-    go false x y = y
 
 -- all that is written where the input ends after a chunk
 abbrev ended : Told → Bytes

@@ -1,21 +1,24 @@
 -- What a chunk gives, line by line. Assumes nothing.
-use mathlib.Core.Path.{_≡_, refl, sym, ap, _∙_}
+use mathlib.Core.Path.{_≡_, refl, sym, ap, ap₂, _∙_}
 use mathlib.Core.Bool.{Bool, true, false}
 use mathlib.Core.List.{[], _∷_, _++_, append-assoc, append-nil}
 use mathlib.Core.Option.{Option, none, some}
 use Prim.Native.Nat.{ℕ, _+_, _-_, _≤_}
 use native.Mathlib.Omega.{arith}
-use lib.Dec.{eqb}
-use lib.ListN.{length, take, drop, replicate, length-append, take-append-drop, drop-of-length-le}
-use lib.Seq.{sets-eq, take-at, drop-at, drop-drop, length-take-le}
+use lib.Dec.{eqb, ltb}
+use lib.ListN.{length, take, drop, replicate, length-append, take-append-drop}
+use lib.Seq.{slice, slice-empty, sets-eq, take-at, drop-at, drop-drop, length-take-le}
 use Rattle.pattern.specs.Bytes.{Bytes, over}
-use Rattle.lines.specs.Sizes.{newline-byte}
+use Rattle.lines.specs.Sizes.{held-limit, newline-byte}
 use Rattle.lines.specs.Reply.{reply}
 use Rattle.lines.specs.Output.{answer-to, prefixed, answers, last-line, hold, taken, Told, say, told, wiped}
 use Rattle.pattern.specs.Stores.{stored, Puts}
 use Rattle.lines.specs.Stores.{zeroed, Replied}
-use Rattle.lines.specs.Taking.{rest-if, Took}
+use Rattle.lines.specs.Taking.{newline-if, Took}
+use Rattle.lines.specs.Chunk.{Done}
+use Rattle.lines.specs.declared.chunk.Answered.{Answered}
 use Rattle.lines.specs.declared.line.Taken.{Taken}
+use Rattle.lines.proofs.Lines.{slice-join}
 
 -- what goes through a chunk byte by byte: a of the held line at the chunk's end, b of it and the rest at a newline
 pub record Walks {X : Type 0} (f : Bytes → Bytes → X) (a : Bytes → X) (b : Bytes → Bytes → X) : Type 0 where
@@ -36,13 +39,12 @@ module _ {X : Type 0} {f : Bytes → Bytes → X} {a : Bytes → X} {b : Bytes �
       go true h = refl
       go false h = h
 
-  -- a line that ended
-  pub walk-ended : {held s line rest : Bytes} → (line, some rest) ≡ taken held s → b line rest ≡ f held s
-  walk-ended {held} {s} e = ap of-taken e ∙ sym (by-taken held s)
+  -- a line that ended, and one that did not
+  walk-ended : {held s line : Bytes} → taken held s ≡ (line, some []) → f held s ≡ b line []
+  walk-ended {held} {s} e = by-taken held s ∙ ap of-taken e
 
-  -- one that did not
-  walk-held : {held s line : Bytes} → (line, none) ≡ taken held s → a line ≡ f held s
-  walk-held {held} {s} e = ap of-taken e ∙ sym (by-taken held s)
+  walk-held : {held s line : Bytes} → taken held s ≡ (line, none) → f held s ≡ a line
+  walk-held {held} {s} e = by-taken held s ∙ ap of-taken e
 
 told-walks : (scratch : Bytes) → Walks (λ held s. told held s scratch) (λ held. record { text = []; held = held; scratch = scratch }) (λ held s. say (answer-to held scratch .text) (told [] s (answer-to held scratch .scratch)))
 unfolding told
@@ -101,40 +103,103 @@ pub say-say : (v w : Bytes) (t : Told) → say (v ++ w) t ≡ say v (say w t)
 unfolding say
 say-say v w t = ap (λ x. record { text = x; held = t .held; scratch = t .scratch }) (append-assoc v w (t .text))
 
-module _ {chunk line after : Bytes} {from held : ℕ} {r : Taken} (t : Took chunk from line held after r) where
-  pub took-ended : r .ended ≡ true → (take (r .held) after, some (drop (r .next) chunk)) ≡ taken (take held line) (drop from chunk)
-  unfolding rest-if
-  took-ended e = ap (λ b. (take (r .held) after, rest-if b (drop (r .next) chunk))) (sym e) ∙ t .equal
+-- a chunk after another
+abbrev pub then : Told → Bytes → Told
+then x t = say (x .text) (told (x .held) t (x .scratch))
 
-  took-held : r .ended ≡ false → (take (r .held) after, none) ≡ taken (take held line) (drop from chunk)
-  unfolding rest-if
-  took-held e = ap (λ b. (take (r .held) after, rest-if b (drop (r .next) chunk))) (sym e) ∙ t .equal
+pub told-append : (held s t scratch : Bytes) → told held (s ++ t) scratch ≡ then (told held s scratch) t
+unfolding told say
+told-append held [] t scratch = refl
+told-append held (c ∷ s) t scratch = go (eqb c newline-byte) (told-append [] s t (answer-to held scratch .scratch)) (told-append (hold held c) s t scratch)
+  where
+    go : (b : Bool) → told [] (s ++ t) (answer-to held scratch .scratch) ≡ then (told [] s (answer-to held scratch .scratch)) t → told (hold held c) (s ++ t) scratch ≡ then (told (hold held c) s scratch) t
+        → (elim b [ true ↦ say (answer-to held scratch .text) (told [] (s ++ t) (answer-to held scratch .scratch)) | false ↦ told (hold held c) (s ++ t) scratch ])
+        ≡ then (elim b [ true ↦ say (answer-to held scratch .text) (told [] s (answer-to held scratch .scratch)) | false ↦ told (hold held c) s scratch ]) t
+    go true x y = ap (say (answer-to held scratch .text)) x ∙ sym (say-say (answer-to held scratch .text) (told [] s (answer-to held scratch .scratch) .text) _)
+    go false x y = y
 
-  -- a line that did not end is held at the chunk's end
-  module _ (e : r .ended ≡ false) where
-    at-end : {X : Type 0} (f : Bytes → Bytes → X) → f (take (r .held) after) (drop (r .next) chunk) ≡ f (take (r .held) after) []
-    at-end f = ap (f (take (r .held) after)) (drop-of-length-le chunk (t .stops e))
+-- what stood where the held bytes are does not matter
+hold-longer : (held : Bytes) (c : ℕ) → length held ≤ length (hold held c)
+unfolding hold
+hold-longer held c = go (ltb (length held) held-limit)
+  where
+    go : (b : Bool) → length held ≤ length {A = ℕ} (elim b [ true ↦ held ++ c ∷ [] | false ↦ held ])
+    go true = omega (arith, length-append held (c ∷ []))
+    go false = omega arith
 
-    pub turn-told : (scratch : Bytes) → told (take (r .held) after) (drop (r .next) chunk) scratch ≡ told (take held line) (drop from chunk) scratch
-    turn-told scratch = at-end (λ h s. told h s scratch) ∙ told-walks scratch .none-left _ ∙ walk-held (told-walks scratch) (took-held e)
+wiped-same : (held s line other : Bytes) → drop (length held) line ≡ drop (length held) other → wiped held s line ≡ wiped held s other
+unfolding wiped over
+wiped-same held [] line other e = ap (λ v. held ++ v) e
+wiped-same held (c ∷ s) line other e =
+    go (eqb c newline-byte) (wiped-same (hold held c) s line other (same-after line other (length held) (length (hold held c)) (hold-longer held c) e))
+  where
+    go : (b : Bool) → wiped (hold held c) s line ≡ wiped (hold held c) s other
+        → _≡_ {A = Bytes} (elim b [ true ↦ wiped [] s (zeroed (length held) line) | false ↦ wiped (hold held c) s line ]) (elim b [ true ↦ wiped [] s (zeroed (length held) other) | false ↦ wiped (hold held c) s other ])
+    go true x = ap (λ v. wiped [] s (replicate (length held) 0 ++ v)) e
+    go false x = x
 
-    pub turn-wiped : r .held ≤ length after → wiped (take (r .held) after) (drop (r .next) chunk) after ≡ wiped (take held line) (drop from chunk) line
-    turn-wiped h =
-        at-end (λ h s. wiped h s after) ∙ wiped-walks after .none-left _ ∙ over-same _ _ _ h refl ∙ sym (over-same _ _ _ h (t .stays)) ∙ walk-held (wiped-walks line) (took-held e)
+abbrev held-of : Told → Bytes
+held-of t = t .held
 
-  -- the bytes of one that ended are zeroed
-  pub ended-wiped : r .ended ≡ true → r .held ≤ length after → wiped [] (drop (r .next) chunk) (zeroed (r .held) after) ≡ wiped (take held line) (drop from chunk) line
-  ended-wiped e h =
-      ap (λ l. wiped [] (drop (r .next) chunk) (replicate (r .held) 0 ++ l)) (t .stays)
-      ∙ ap (λ n. wiped [] (drop (r .next) chunk) (zeroed n line)) (sym (length-take-le (r .held) after h))
-      ∙ walk-ended (wiped-walks line) (took-ended e)
+wiped-append : (held s t line scratch : Bytes) → wiped held (s ++ t) line ≡ wiped (told held s scratch .held) t (wiped held s line)
+unfolding wiped told say over
+wiped-append held [] t line scratch = wiped-same held t line (over held line) (sym (drop-at held (drop (length held) line) (length held) refl))
+wiped-append held (c ∷ s) t line scratch = go (eqb c newline-byte) (wiped-append [] s t (zeroed (length held) line) (answer-to held scratch .scratch)) (wiped-append (hold held c) s t line scratch)
+  where
+    go : (b : Bool) → wiped [] (s ++ t) (zeroed (length held) line) ≡ wiped (told [] s (answer-to held scratch .scratch) .held) t (wiped [] s (zeroed (length held) line))
+        → wiped (hold held c) (s ++ t) line ≡ wiped (told (hold held c) s scratch .held) t (wiped (hold held c) s line)
+        → _≡_ {A = Bytes} (elim b [ true ↦ wiped [] (s ++ t) (zeroed (length held) line) | false ↦ wiped (hold held c) (s ++ t) line ])
+        (wiped (held-of (elim b [ true ↦ say (answer-to held scratch .text) (told [] s (answer-to held scratch .scratch)) | false ↦ told (hold held c) s scratch ])) t
+        (elim b [ true ↦ wiped [] s (zeroed (length held) line) | false ↦ wiped (hold held c) s line ]))
+    go true x y = x
+    go false x y = y
 
--- the answer to a line that ended stands after what was told before
-pub turn-ended : (held s scratch : Bytes) {line rest scratch′ out out′ : Bytes} {T : Told} {room i j : ℕ} → (line, some rest) ≡ taken held s → say (take i out) (told held s scratch) ≡ T
-    → Replied room (answer-to line scratch) out i scratch′ out′ j → i + room ≤ length out → say (take j out′) (told [] rest scratch′) ≡ T
-turn-ended held s scratch {line} {rest} {scratch′} {out} {out′} {T} {room} {i} {j} e f d h =
-    let w = d .within in
-    ap (λ v. say v (told [] rest scratch′)) (take-stored (omega (arith, w .stores .next, w .short)) (w .stores))
-    ∙ ap (λ x. say (take i out ++ answer-to line scratch .text) (told [] rest x)) (d .works)
-    ∙ say-say (take i out) (answer-to line scratch .text) (told [] rest (answer-to line scratch .scratch))
-    ∙ ap (say (take i out)) (walk-ended (told-walks scratch) e) ∙ f
+-- ---- what is done of a chunk
+
+pub done-none : (chunk line scratch out : Bytes) (from held : ℕ) → held ≤ length line → Done chunk from line held scratch line scratch out (record { next = from; held = held; end = 0 })
+unfolding told wiped
+done-none chunk line scratch out from held h =
+    record { tells = ap (λ s. told (take held line) s scratch) (slice-empty from chunk); wipes = ap (λ s. wiped (take held line) s line) (slice-empty from chunk) ∙ over-same held line line h refl }
+
+-- a line more is taken
+module _ {chunk line₀ scratch₀ line scratch out after : Bytes} {from held₀ : ℕ} {p : Answered} {r : Taken} (d : Done chunk from line₀ held₀ scratch₀ line scratch out p)
+    (t : Took chunk (p .next) line (p .held) after r) (b : from ≤ p .next) (h : r .held ≤ length after) where
+  parts : slice from (r .next) chunk ≡ slice from (p .next) chunk ++ slice (p .next) (r .next) chunk
+  parts = slice-join chunk from (p .next) (r .next) b (t .goes-on) (t .next-fits)
+
+  more-told : told (take held₀ line₀) (slice from (r .next) chunk) scratch₀ ≡ say (take (p .end) out) (told (take (p .held) line) (slice (p .next) (r .next) chunk) scratch)
+  more-told =
+      ap (λ s. told (take held₀ line₀) s scratch₀) parts ∙ told-append (take held₀ line₀) (slice from (p .next) chunk) (slice (p .next) (r .next) chunk) scratch₀
+      ∙ ap (λ x. then x (slice (p .next) (r .next) chunk)) (d .tells)
+
+  more-wiped : wiped (take held₀ line₀) (slice from (r .next) chunk) line₀ ≡ wiped (take (p .held) line) (slice (p .next) (r .next) chunk) line
+  more-wiped =
+      ap (λ s. wiped (take held₀ line₀) s line₀) parts ∙ wiped-append (take held₀ line₀) (slice from (p .next) chunk) (slice (p .next) (r .next) chunk) line₀ scratch₀
+      ∙ ap₂ (λ (x : Told) y. wiped (x .held) (slice (p .next) (r .next) chunk) y) (d .tells) (d .wipes)
+
+  took : (b : Bool) → r .ended ≡ b → taken (take (p .held) line) (slice (p .next) (r .next) chunk) ≡ (take (r .held) after, newline-if b)
+  took b e = t .equal ∙ ap (λ b. (take (r .held) after, newline-if b)) e
+
+  -- it did not end
+  pub done-held : r .ended ≡ false → Done chunk from line₀ held₀ scratch₀ after scratch out (record { next = r .next; held = r .held; end = p .end })
+  unfolding newline-if say
+  done-held e =
+      record {
+        tells = more-told ∙ ap (say (take (p .end) out)) (walk-held (told-walks scratch) (took false e)) ∙ ap (λ v. record { text = v; held = take (r .held) after; scratch = scratch }) (append-nil _);
+        wipes = more-wiped ∙ walk-held (wiped-walks line) (took false e) ∙ over-same _ _ _ h (t .stays);
+      }
+
+  -- it ended: its answer stands after what was written before, and its bytes are zeroed
+  pub done-ended : {scratch′ out′ line′ : Bytes} {room j : ℕ} → r .ended ≡ true → Replied room (answer-to (take (r .held) after) scratch) out (p .end) scratch′ out′ j → p .end + room ≤ length out
+      → line′ ≡ zeroed (r .held) after → Done chunk from line₀ held₀ scratch₀ line′ scratch′ out′ (record { next = r .next; held = 0; end = j })
+  unfolding newline-if say told wiped over
+  done-ended {scratch′} {out′} {line′} {room} {j} e a l z =
+      let w = a .within in
+      record {
+        tells =
+            more-told ∙ ap (say (take (p .end) out)) (walk-ended (told-walks scratch) (took true e))
+            ∙ ap₂ (λ v s. record { text = v; held = []; scratch = s }) (ap (λ v. take (p .end) out ++ v) (append-nil _) ∙ sym (take-stored (omega (arith, w .stores .next, w .short)) (w .stores))) (sym (a .works));
+        wipes =
+            more-wiped ∙ walk-ended (wiped-walks line) (took true e) ∙ ap (λ n. replicate n 0 ++ drop n line) (length-take-le (r .held) after h)
+            ∙ ap (λ v. replicate (r .held) 0 ++ v) (sym (t .stays)) ∙ sym z;
+      }

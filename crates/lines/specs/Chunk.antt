@@ -1,18 +1,24 @@
 -- What answering the lines of a chunk promises. Assumes nothing.
 use mathlib.Core.Path.{_≡_}
-use Prim.Native.Nat.{ℕ, _≤_, _<_}
+use Prim.Native.Nat.{ℕ, _+_, _≤_, _<_}
 use lib.ListN.{length, take, drop}
+use lib.Seq.{slice}
 use Rattle.pattern.specs.Bytes.{Bytes}
-use Rattle.lines.specs.Sizes.{held-limit}
-use Rattle.lines.specs.Output.{answers, last-line, say, told, wiped}
+use Rattle.lines.specs.Sizes.{held-limit, out-room}
+use Rattle.lines.specs.Output.{answers, last-line, told, wiped}
 use Rattle.lines.specs.declared.chunk.Answered.{Answered}
 
--- what is written, and then what the rest of the chunk gives, is what it gives from here on; so for the line's bytes. The output's other bytes stay
+-- what the bytes of a chunk from one place to another give is in the first bytes of the output, the line's and scratch
+pub record Done (chunk : Bytes) (from : ℕ) (line : Bytes) (held : ℕ) (scratch line′ scratch′ out′ : Bytes) (r : Answered) : Type 0 where
+  pub tells : told (take held line) (slice from (r .next) chunk) scratch ≡ record { text = take (r .end) out′; held = take (r .held) line′; scratch = scratch′ }
+  pub wipes : wiped (take held line) (slice from (r .next) chunk) line ≡ line′
+
+-- so much of it is answered that the rest of the output may be short of a reply; that rest stays
 pub record Answers (chunk : Bytes) (from : ℕ) (line : Bytes) (held : ℕ) (scratch out line′ scratch′ out′ : Bytes) (r : Answered) : Type 0 where
-  pub tells : say (take (r .end) out′) (told (take (r .held) line′) (drop (r .next) chunk) scratch′) ≡ told (take held line) (drop from chunk) scratch
-  pub wipes : wiped (take (r .held) line′) (drop (r .next) chunk) line′ ≡ wiped (take held line) (drop from chunk) line
+  pub done : Done chunk from line held scratch line′ scratch′ out′ r
+  pub fills : r .next < length chunk → length out < r .end + out-room
   pub stays : drop (r .end) out′ ≡ drop (r .end) out
-  pub moves : from < length chunk → from < r .next
+  pub goes-on : from ≤ r .next
   pub next-fits : r .next ≤ length chunk
   pub held-fits : r .held ≤ held-limit
   pub end-fits : r .end ≤ length out′

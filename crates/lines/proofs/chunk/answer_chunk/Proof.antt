@@ -1,16 +1,13 @@
--- `chunk::answer_chunk` meets its contract: what is written, and then what the rest tells, is what the chunk tells from the start. What is left of the chunk falls. Assumes nothing.
+-- `chunk::answer_chunk` meets its contract: what was taken of the chunk so far is done. What is left of the chunk falls. Assumes nothing.
 use mathlib.Core.Path.{_≡_, refl, sym, ap, _∙_}
-use mathlib.Core.Logic.{⊎-elim}
-use mathlib.Core.List.{[]}
 use Prim.Native.Nat.{_≤_, _-_}
 use native.Mathlib.Omega.{arith}
-use lib.ListN.{length, take, drop}
+use lib.ListN.{length, drop}
 use lib.Seq.{length-take-le}
-use Rattle.pattern.proofs.Tests.{le-or-lt}
 use Rattle.lines.specs.Sizes.{held-limit}
-use Rattle.lines.specs.Output.{say, told, wiped}
+use Rattle.lines.specs.Chunk.{Done}
 use Rattle.pattern.proofs.Stores.{puts-length}
-use Rattle.lines.proofs.Told.{say-none, took-ended, turn-told, turn-wiped, turn-ended, ended-wiped, drop-stored, same-after}
+use Rattle.lines.proofs.Told.{done-none, done-held, done-ended, drop-stored, same-after}
 use Rattle.lines.proofs.chunk.answer_chunk.Statement.{statement}
 use Rattle.lines.proofs.chunk.answer_chunk.Tie as tie
 
@@ -18,15 +15,13 @@ abbrev Inv-loop : tie.InvT-loop
 Inv-loop chunk from line₀ held scratch₀ out₀ next₀ n₀ end₀ line scratch out next n end =
     (from ≤ next) × (next ≤ length chunk) × (n ≤ held-limit) × (end ≤ length out)
     × (length line ≡ length line₀) × (length scratch ≡ length scratch₀) × (length out ≡ length out₀)
-    × (say (take end out) (told (take n line) (drop next chunk) scratch) ≡ told (take held line₀) (drop from chunk) scratch₀)
-    × (wiped (take n line) (drop next chunk) line ≡ wiped (take held line₀) (drop from chunk) line₀)
-    × (next ≡ from → end ≡ 0) × (drop end out ≡ drop end out₀)
+    × Done chunk from line₀ held scratch₀ line scratch out (record { next = next; held = n; end = end }) × (drop end out ≡ drop end out₀)
 
 abbrev μ-loop : tie.MeasureT-loop
 μ-loop chunk from line₀ held scratch₀ out₀ next₀ n₀ end₀ line scratch out next n end = length chunk - next
 
 loop-holds : tie.Need-loop-holds Inv-loop μ-loop
-loop-holds c = (omega arith, omega arith, omega arith, omega arith, refl, refl, refl, say-none _, refl, λ e. refl, refl)
+loop-holds c = (omega arith, omega arith, omega arith, omega arith, refl, refl, refl, done-none _ _ _ _ _ _ (omega arith), refl)
 
 sub-if1 : tie.Need-sub-if1 Inv-loop μ-loop
 sub-if1 c = omega arith
@@ -44,10 +39,10 @@ returns : tie.Need-returns Inv-loop μ-loop
 returns c =
     let k = c .before .before .loop in
     record {
-      tells = k .inv .7;
-      wipes = k .inv .8;
-      stays = k .inv .10;
-      moves = λ m. ⊎-elim (λ h. absurd (omega (arith, k .inv .9 (omega arith)))) (λ h. h) (le-or-lt (k .next) (c .before .before .before .before .before .before .before .args .from));
+      done = k .inv .7;
+      fills = λ m. omega arith;
+      stays = k .inv .8;
+      goes-on = k .inv .0;
       next-fits = k .inv .1;
       held-fits = k .inv .2;
       end-fits = k .inv .3;
@@ -91,8 +86,7 @@ loop-again c =
     let t = after-take-line .take-line .ensures in
     let r = after-answer-line .answer-line .ensures in
     let w = r .within in
-    let m = t .moves (after-loop-test .loop-test .taken) in
-    let ended = after-if2 .if2 .taken in (
+    let m = t .moves (after-loop-test .loop-test .taken) in (
       omega arith,
       t .next-fits,
       omega arith,
@@ -100,10 +94,8 @@ loop-again c =
       after-clear .clear .kept .0 ∙ t .size ∙ k .inv .4,
       after-answer-line .answer-line .kept .1 .0 ∙ k .inv .5,
       puts-length (w .stores) ∙ k .inv .6,
-      turn-ended _ _ _ (took-ended t ended) (k .inv .7) r (omega arith),
-      ap (wiped [] _) (after-clear .clear .ensures) ∙ ended-wiped t ended (omega (arith, t .held-fits, t .size, k .inv .4, lent)) ∙ k .inv .8,
-      λ e. absurd (omega arith),
-      drop-stored (omega (arith, w .stores .next, w .short)) (w .stores) ∙ same-after _ _ (k .end) (after-answer-line .answer-line .result) (omega (arith, w .stores .next)) (k .inv .10),
+      done-ended (k .inv .7) t (k .inv .0) (omega (arith, t .held-fits, t .size, k .inv .4, lent)) (after-if2 .if2 .taken) r (omega arith) (after-clear .clear .ensures),
+      drop-stored (omega (arith, w .stores .next, w .short)) (w .stores) ∙ same-after _ _ (k .end) (after-answer-line .answer-line .result) (omega (arith, w .stores .next)) (k .inv .8),
     )
 
 loop-less-2 : tie.Need-loop-less-2 Inv-loop μ-loop
@@ -126,10 +118,8 @@ loop-again-2 c =
       t .size ∙ k .inv .4,
       k .inv .5,
       k .inv .6,
-      ap (say (take (k .end) (k .out))) (turn-told t (c .if2 .left) (k .scratch)) ∙ k .inv .7,
-      turn-wiped t (c .if2 .left) (omega (arith, t .held-fits, t .size)) ∙ k .inv .8,
-      λ e. absurd (omega arith),
-      k .inv .10,
+      done-held (k .inv .7) t (k .inv .0) (omega (arith, t .held-fits, t .size)) (c .if2 .left),
+      k .inv .8,
     )
 
 same-length-4 : tie.Need-same-length-4 Inv-loop μ-loop
@@ -145,10 +135,10 @@ returns-2 : tie.Need-returns-2 Inv-loop μ-loop
 returns-2 c =
     let k = c .before .loop in
     record {
-      tells = k .inv .7;
-      wipes = k .inv .8;
-      stays = k .inv .10;
-      moves = λ m. omega arith;
+      done = k .inv .7;
+      fills = λ m. omega arith;
+      stays = k .inv .8;
+      goes-on = k .inv .0;
       next-fits = k .inv .1;
       held-fits = k .inv .2;
       end-fits = k .inv .3;
