@@ -8,3 +8,4 @@ pub mod Told
 pub mod Scratch
 pub mod Ends
 pub mod Cuts
+pub mod Sessions

@@ -6,3 +6,4 @@ pub mod Output
 pub mod Taking
 pub mod Examples
 pub mod Chunk
+pub mod Session

@@ -2,5 +2,6 @@
 pub mod chunk;
 mod line;
 mod reply;
+pub mod session;
 pub mod sizes;
 mod text;

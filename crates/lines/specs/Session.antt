@@ -1,0 +1,103 @@
+-- What the line tool does after each read and each write, case by case, and every byte of its buffers then. Assumes nothing.
+use mathlib.Core.Path.{_≡_}
+use mathlib.Core.Bool.{Bool, true, false}
+use mathlib.Core.List.{List, [], _∷_, _++_}
+use Prim.Native.Nat.{ℕ, zero, suc, min, _≤_}
+use lib.IntN.{ℤ, pos, negsuc}
+use lib.ListN.{length, take}
+use lib.Seq.{slice}
+use Rattle.pattern.specs.Bytes.{Bytes, over}
+use Rattle.lines.specs.Sizes.{held-limit, out-room}
+use Rattle.lines.specs.Reply.{Reply}
+use Rattle.lines.specs.Stores.{zeroed}
+use Rattle.lines.specs.Output.{answers, last-line, in-chunks}
+use Rattle.lines.specs.Chunk.{Answers}
+use Rattle.lines.specs.declared.chunk.Answered.{Answered}
+use Rattle.lines.specs.declared.session.Input.{Input}
+use Rattle.lines.specs.declared.session.Input.the-variants.{Failed, Ended, Chunk}
+use Rattle.lines.specs.declared.session.Pending.{Pending}
+use Rattle.lines.specs.declared.session.Next.{Next}
+use Rattle.lines.specs.declared.session.Next.the-variants.{Write, Read, Stop}
+
+-- what the number that a read answered means: it failed, the input has ended, or so many bytes were read
+unfoldable pub reading-of : (got : ℤ) (room : ℕ) → Input
+reading-of (negsuc k) room = Failed
+reading-of (pos zero) room = Ended
+reading-of (pos (suc k)) room = Chunk (min (suc k) room)
+
+-- after the first line was written, or was not
+unfoldable pub begun : (wrote : Bool) → Next
+begun true = Read 0
+begun false = Stop
+
+-- ---- after a read
+
+-- nothing is answered of what is held
+pub record Drops (held : ℕ) (line scratch out line′ scratch′ out′ : Bytes) (r : Next) : Type 0 where
+  pub next : r ≡ Stop
+  pub wipes : line′ ≡ zeroed held line
+  pub scratch-stays : scratch′ ≡ scratch
+  pub out-stays : out′ ≡ out
+
+-- what is held is the last line: its answer is to be written, and then nothing
+pub record Ends (last : Reply) (held : ℕ) (line scratch out line′ scratch′ out′ : Bytes) (r : Next) : Type 0 where
+  pub next : r ≡ Write (record { from = 0; to = 0; held = 0; end = length (last .text); last = true })
+  pub tells : out′ ≡ over (last .text) out
+  pub works : scratch′ ≡ last .scratch
+  pub wipes : line′ ≡ zeroed held line
+
+-- the chunk is answered from a place on; what is answered is to be written, and then the rest is answered
+pub record Continues (chunk : Bytes) (from : ℕ) (line : Bytes) (held : ℕ) (scratch out line′ scratch′ out′ : Bytes) (r : Next) : Type 0 where
+  pub part : Answered
+  pub next : r ≡ Write (record { from = part .next; to = length chunk; held = part .held; end = part .end; last = false })
+  pub answered : Answers chunk from line held scratch out line′ scratch′ out′ part
+
+unfoldable pub AfterRead : Input → (held : ℕ) (buf line scratch out line′ scratch′ out′ : Bytes) → Next → Type 0
+AfterRead Failed held buf line scratch out line′ scratch′ out′ r = Drops held line scratch out line′ scratch′ out′ r
+AfterRead Ended held buf line scratch out line′ scratch′ out′ r = Ends (answers (last-line (take held line)) scratch) held line scratch out line′ scratch′ out′ r
+AfterRead (Chunk n) held buf line scratch out line′ scratch′ out′ r = Continues (take n buf) 0 line held scratch out line′ scratch′ out′ r
+
+-- ---- after a write
+
+-- what is pending lies in the buffers
+pub record Fits (p : Pending) (buf line out : Bytes) : Type 0 where
+  pub from-fits : p .from ≤ p .to
+  pub to-fits : p .to ≤ length buf
+  pub held-fits : p .held ≤ held-limit
+  pub line-size : length line ≡ held-limit
+  pub end-fits : p .end ≤ length out
+  pub out-size : out-room ≤ length out
+
+-- it ends, and all that was used is zero
+pub record Stops (p : Pending) (buf line scratch out buf′ line′ scratch′ out′ : Bytes) (r : Next) : Type 0 where
+  pub next : r ≡ Stop
+  pub buf-wiped : buf′ ≡ zeroed (p .to) buf
+  pub line-wiped : line′ ≡ zeroed (p .held) line
+  pub scratch-stays : scratch′ ≡ scratch
+  pub out-wiped : out′ ≡ zeroed (p .end) out
+
+-- the rest of the chunk is answered; what was written is zero
+pub record Resumes (p : Pending) (buf line scratch out buf′ line′ scratch′ out′ : Bytes) (r : Next) : Type 0 where
+  pub continues : Continues (take (p .to) buf) (p .from) line (p .held) scratch (zeroed (p .end) out) line′ scratch′ out′ r
+  pub buf-stays : buf′ ≡ buf
+
+-- the chunk was answered whole: more is read; what was used of input and output is zero
+pub record Waits (p : Pending) (buf line scratch out buf′ line′ scratch′ out′ : Bytes) (r : Next) : Type 0 where
+  pub next : r ≡ Read (p .held)
+  pub buf-wiped : buf′ ≡ zeroed (p .to) buf
+  pub line-stays : line′ ≡ line
+  pub scratch-stays : scratch′ ≡ scratch
+  pub out-wiped : out′ ≡ zeroed (p .end) out
+
+-- goes-on: the write succeeded and wasn't the last; rest: some of the chunk isn't answered yet
+unfoldable pub AfterWrite : (goes-on rest : Bool) → Pending → (buf line scratch out buf′ line′ scratch′ out′ : Bytes) → Next → Type 0
+AfterWrite false rest p buf line scratch out buf′ line′ scratch′ out′ r = Stops p buf line scratch out buf′ line′ scratch′ out′ r
+AfterWrite true true p buf line scratch out buf′ line′ scratch′ out′ r = Resumes p buf line scratch out buf′ line′ scratch′ out′ r
+AfterWrite true false p buf line scratch out buf′ line′ scratch′ out′ r = Waits p buf line scratch out buf′ line′ scratch′ out′ r
+
+-- ---- what is still to be written, if the input goes on with these chunks and every read and write succeeds
+unfoldable pub owed : Next → (buf line scratch out : Bytes) → List Bytes → Bytes
+owed Stop buf line scratch out chunks = []
+owed (Read held) buf line scratch out chunks = in-chunks (take held line) chunks scratch
+owed (Write p) buf line scratch out chunks =
+    take (p .end) out ++ elim (p .last) [ true ↦ [] | false ↦ in-chunks (take (p .held) line) (slice (p .from) (p .to) buf ∷ chunks) scratch ]
