@@ -9,3 +9,5 @@ pub mod Scratch
 pub mod Ends
 pub mod Cuts
 pub mod Sessions
+pub mod Owed
+pub mod Tidying

@@ -16,7 +16,7 @@ use Rattle.lines.specs.Sizes.{line-limit, budget, unset, newline-byte}
 use Rattle.lines.specs.Text.{refused-text}
 use Rattle.lines.specs.Reply.{cut, Reply, match-reply, label-reply, table-reply, source-reply, cut-reply, reply}
 use Rattle.lines.specs.Stores.{Zero, zeroed}
-use Rattle.lines.specs.Output.{answer-to, hold, Told, say, told}
+use Rattle.lines.specs.Output.{answer-to, prefixed, answers, hold, Told, say, told}
 
 -- one of two, by a test
 either-zero : {A : Type 0} (f : A → Bytes) (b : Bool) (x y : A) → Zero (f x) → Zero (f y) → Zero (f (elim b [ true ↦ x | false ↦ y ]))
@@ -88,6 +88,11 @@ module _ (scratch : Bytes) (z : Zero scratch) where
   pub reply-zero : (line : Bytes) → Zero (reply line scratch .scratch)
   unfolding reply
   reply-zero line = either-zero (λ (r : Reply). r .scratch) (ltb line-limit (length line)) _ _ z (cut-zero (cut line))
+
+pub answers-zero : (lines : List Bytes) (scratch : Bytes) → Zero scratch → Zero (answers lines scratch .scratch)
+unfolding answers prefixed answer-to
+answers-zero [] scratch z = z
+answers-zero (line ∷ rest) scratch z = answers-zero rest (reply line scratch .scratch) (reply-zero scratch z line)
 
 pub told-zero : (held chunk scratch : Bytes) → Zero scratch → Zero (told held chunk scratch .scratch)
 unfolding told say answer-to

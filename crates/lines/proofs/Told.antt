@@ -118,8 +118,7 @@ told-append held (c ∷ s) t scratch = go (eqb c newline-byte) (told-append [] s
     go true x y = ap (say (answer-to held scratch .text)) x ∙ sym (say-say (answer-to held scratch .text) (told [] s (answer-to held scratch .scratch) .text) _)
     go false x y = y
 
--- what stood where the held bytes are does not matter
-hold-longer : (held : Bytes) (c : ℕ) → length held ≤ length (hold held c)
+pub hold-longer : (held : Bytes) (c : ℕ) → length held ≤ length (hold held c)
 unfolding hold
 hold-longer held c = go (ltb (length held) held-limit)
   where
@@ -127,6 +126,7 @@ hold-longer held c = go (ltb (length held) held-limit)
     go true = omega (arith, length-append held (c ∷ []))
     go false = omega arith
 
+-- what stood where the held bytes are does not matter
 wiped-same : (held s line other : Bytes) → drop (length held) line ≡ drop (length held) other → wiped held s line ≡ wiped held s other
 unfolding wiped over
 wiped-same held [] line other e = ap (λ v. held ++ v) e

@@ -4,12 +4,12 @@ use mathlib.Core.Bool.{Bool, true, false}
 use mathlib.Core.List.{List, [], _∷_, _++_}
 use Prim.Native.Nat.{ℕ, zero, suc, min, _≤_}
 use lib.IntN.{ℤ, pos, negsuc}
-use lib.ListN.{length, take}
+use lib.ListN.{length, take, drop}
 use lib.Seq.{slice}
 use Rattle.pattern.specs.Bytes.{Bytes, over}
 use Rattle.lines.specs.Sizes.{held-limit, out-room}
 use Rattle.lines.specs.Reply.{Reply}
-use Rattle.lines.specs.Stores.{zeroed}
+use Rattle.lines.specs.Stores.{zeroed, Zero}
 use Rattle.lines.specs.Output.{answers, last-line, in-chunks}
 use Rattle.lines.specs.Chunk.{Answers}
 use Rattle.lines.specs.declared.chunk.Answered.{Answered}
@@ -101,3 +101,20 @@ owed Stop buf line scratch out chunks = []
 owed (Read held) buf line scratch out chunks = in-chunks (take held line) chunks scratch
 owed (Write p) buf line scratch out chunks =
     take (p .end) out ++ elim (p .last) [ true ↦ [] | false ↦ in-chunks (take (p .held) line) (slice (p .from) (p .to) buf ∷ chunks) scratch ]
+
+-- ---- "patient data stays in no buffer": nothing but what is held of a line and what is to be written
+
+abbrev pub held-of : Next → ℕ
+held-of Stop = 0
+held-of (Read held) = held
+held-of (Write p) = p .held
+
+abbrev pub end-of : Next → ℕ
+end-of Stop = 0
+end-of (Read held) = 0
+end-of (Write p) = p .end
+
+pub record Tidy (next : Next) (line scratch out : Bytes) : Type 0 where
+  pub line-zero : Zero (drop (held-of next) line)
+  pub scratch-zero : Zero scratch
+  pub out-zero : Zero (drop (end-of next) out)

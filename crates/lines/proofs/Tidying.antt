@@ -1,0 +1,148 @@
+-- "Patient data stays in no buffer": what each step of the line tool leaves in its buffers. Assumes nothing.
+use mathlib.Core.Path.{_≡_, refl, sym, ap, _∙_, subst}
+use mathlib.Core.Bool.{Bool, true, false}
+use mathlib.Core.List.{[], _∷_, _++_}
+use Prim.Native.Nat.{ℕ, _+_, _-_, _≤_}
+use native.Mathlib.Omega.{arith}
+use lib.Dec.{eqb}
+use lib.ListN.{length, take, drop, replicate, length-append, replicate-append-replicate}
+use lib.Seq.{slice, drop-at, drop-drop, length-take-le}
+use Rattle.pattern.specs.Bytes.{Bytes, over}
+use Rattle.lines.specs.Sizes.{held-limit, newline-byte, out-room}
+use Rattle.lines.specs.Stores.{zeroed, Zero}
+use Rattle.lines.specs.Output.{answer-to, answers, last-line, hold, Told, say, told, wiped}
+use Rattle.lines.specs.Session.{Continues, AfterRead, Fits, AfterWrite, Tidy}
+use Rattle.lines.specs.declared.session.Input.{Input}
+use Rattle.lines.specs.declared.session.Input.the-variants.{Failed, Ended, Chunk}
+use Rattle.lines.specs.declared.session.Pending.{Pending}
+use Rattle.lines.specs.declared.session.Next.{Next}
+use Rattle.lines.specs.declared.session.Next.the-variants.{Write, Read, Stop}
+use Rattle.lines.proofs.Scratch.{blank-zero, drop-same, zeroed-zero, told-zero, answers-zero}
+use Rattle.lines.proofs.Told.{hold-longer}
+
+-- what the next step asks of the buffers
+unfoldable pub Ready : Next → (buf line out : Bytes) → Type 0
+Ready Stop buf line out = Unit {0}
+Ready (Read held) buf line out = held ≤ held-limit
+Ready (Write p) buf line out = Fits p buf line out
+
+abbrev held-after : Told → Bytes
+held-after t = t .held
+
+-- zeros further on
+pub drop-zero : (k : ℕ) (s : Bytes) → Zero s → Zero (drop k s)
+drop-zero k s z = let (m, e) = drop-same k (length s) 0 in blank-zero m (drop k s) (ap (drop k) z ∙ e)
+
+later-zero : (i j : ℕ) (s : Bytes) → i ≤ j → Zero (drop i s) → Zero (drop j s)
+later-zero i j s h z = let e : i + (j - i) ≡ j = omega arith in subst Zero (drop-drop (j - i) i s ∙ ap (λ k. drop k s) e) (drop-zero (j - i) (drop i s) z)
+
+-- zeros over what isn't zero yet
+pub rest-zeroed : (n : ℕ) (s : Bytes) → Zero (drop n s) → Zero (zeroed n s)
+rest-zeroed n s z = blank-zero (n + length (drop n s)) (zeroed n s) (ap (λ v. replicate n 0 ++ v) z ∙ replicate-append-replicate n (length (drop n s)) 0)
+
+-- past what is held of a line there are zeros, if there were
+wiped-zero : (held s line scratch : Bytes) → Zero (drop (length held) line) → Zero (drop (length (told held s scratch .held)) (wiped held s line))
+unfolding told wiped over say
+wiped-zero held [] line scratch z = subst Zero (sym (drop-at held (drop (length held) line) (length held) refl)) z
+wiped-zero held (c ∷ s) line scratch z =
+    go (eqb c newline-byte) (wiped-zero [] s (zeroed (length held) line) (answer-to held scratch .scratch) (rest-zeroed (length held) line z))
+    (wiped-zero (hold held c) s line scratch (later-zero (length held) (length (hold held c)) line (hold-longer held c) z))
+  where
+    go : (b : Bool) → Zero (drop (length (told [] s (answer-to held scratch .scratch) .held)) (wiped [] s (zeroed (length held) line))) → Zero (drop (length (told (hold held c) s scratch .held)) (wiped (hold held c) s line))
+        → Zero (drop (length (held-after (elim b [ true ↦ say (answer-to held scratch .text) (told [] s (answer-to held scratch .scratch)) | false ↦ told (hold held c) s scratch ])))
+        (elim b [ true ↦ wiped [] s (zeroed (length held) line) | false ↦ wiped (hold held c) s line ]))
+    go true p q = p
+    go false p q = q
+
+-- ---- from step to step
+
+module _ {chunk line scratch out line′ scratch′ out′ : Bytes} {from held : ℕ} {r : Next} (a : Continues chunk from line held scratch out line′ scratch′ out′ r) where
+  continues-tidy : held ≤ length line → length line′ ≡ held-limit → Zero (drop held line) → Zero scratch → Zero out → Tidy r line′ scratch′ out′
+  continues-tidy h k z w o =
+      let d = a .answered in
+      let kept : length (told (take held line) (slice from (a .part .next) chunk) scratch .held) ≡ a .part .held =
+      ap (λ (t : Told). length (t .held)) (d .done .tells) ∙ length-take-le (a .part .held) line′ (omega (arith, d .held-fits)) in
+      let begun : Zero (drop (length (take held line)) line) = subst (λ n. Zero (drop n line)) (sym (length-take-le held line h)) z in
+      subst (λ x. Tidy x line′ scratch′ out′) (sym (a .next))
+      (record {
+        line-zero =
+            subst (λ l. Zero (drop (a .part .held) l)) (d .done .wipes)
+            (subst (λ n. Zero (drop n (wiped (take held line) (slice from (a .part .next) chunk) line))) kept (wiped-zero (take held line) (slice from (a .part .next) chunk) line scratch begun));
+        scratch-zero = subst Zero (ap (λ (t : Told). t .scratch) (d .done .tells)) (told-zero (take held line) (slice from (a .part .next) chunk) scratch w);
+        out-zero = subst Zero (sym (d .stays)) (drop-zero (a .part .end) out o);
+      })
+
+  continues-ready : (buf : Bytes) → length chunk ≤ length buf → length line′ ≡ held-limit → out-room ≤ length out′ → Ready r buf line′ out′
+  continues-ready buf h k o =
+      let d = a .answered in
+      subst (λ x. Ready x buf line′ out′) (sym (a .next))
+      (unfold Ready in record { from-fits = d .next-fits; to-fits = h; held-fits = d .held-fits; line-size = k; end-fits = d .end-fits; out-size = o })
+
+module _ (i : Input) (held : ℕ) (buf line scratch out line′ scratch′ out′ : Bytes) (r : Next) (a : AfterRead i held buf line scratch out line′ scratch′ out′ r) (k : length line′ ≡ held-limit) where
+  pub read-tidy : held ≤ length line → Tidy (Read held) line scratch out → Tidy r line′ scratch′ out′
+  unfolding AfterRead over
+  read-tidy h t = go i a
+    where
+      wiped-line : line′ ≡ zeroed held line → Zero line′
+      wiped-line e = subst Zero (sym e) (rest-zeroed held line (t .line-zero))
+
+      go : (i : Input) → AfterRead i held buf line scratch out line′ scratch′ out′ r → Tidy r line′ scratch′ out′
+      go Failed a =
+          subst (λ x. Tidy x line′ scratch′ out′) (sym (a .next))
+          (record { line-zero = wiped-line (a .wipes); scratch-zero = subst Zero (sym (a .scratch-stays)) (t .scratch-zero); out-zero = subst Zero (sym (a .out-stays)) (t .out-zero) })
+      go Ended a =
+          let v = answers (last-line (take held line)) scratch .text in
+          subst (λ x. Tidy x line′ scratch′ out′) (sym (a .next))
+          (record {
+            line-zero = wiped-line (a .wipes);
+            scratch-zero = subst Zero (sym (a .works)) (answers-zero (last-line (take held line)) scratch (t .scratch-zero));
+            out-zero = subst (λ o. Zero (drop (length v) o)) (sym (a .tells)) (subst Zero (sym (drop-at v (drop (length v) out) (length v) refl)) (drop-zero (length v) out (t .out-zero)));
+          })
+      go (Chunk n) a = continues-tidy a h k (t .line-zero) (t .scratch-zero) (t .out-zero)
+
+  pub read-ready : ((n : ℕ) → i ≡ Chunk n → n ≤ length buf) → out-room ≤ length out → length out′ ≡ length out → Ready r buf line′ out′
+  unfolding AfterRead over Ready
+  read-ready f o e = go i a f
+    where
+      go : (i : Input) → AfterRead i held buf line scratch out line′ scratch′ out′ r → ((n : ℕ) → i ≡ Chunk n → n ≤ length buf) → Ready r buf line′ out′
+      go Failed a f = subst (λ x. Ready x buf line′ out′) (sym (a .next)) tt
+      go Ended a f =
+          let v = answers (last-line (take held line)) scratch .text in
+          subst (λ x. Ready x buf line′ out′) (sym (a .next))
+          (record { from-fits = omega arith; to-fits = omega arith; held-fits = omega arith; line-size = k; end-fits = omega (arith, ap length (a .tells), length-append v (drop (length v) out)); out-size = omega arith })
+      go (Chunk n) a f = continues-ready a buf (omega (arith, length-take-le n buf (f n refl), f n refl)) k (omega arith)
+
+module _ (goes-on rest : Bool) (p : Pending) (buf line scratch out buf′ line′ scratch′ out′ : Bytes) (r : Next) (a : AfterWrite goes-on rest p buf line scratch out buf′ line′ scratch′ out′ r) (f : Fits p buf line out)
+    (k : length line′ ≡ held-limit) where
+  pub write-tidy : Tidy (Write p) line scratch out → Tidy r line′ scratch′ out′
+  unfolding AfterWrite
+  write-tidy t = go goes-on rest a
+    where
+      blank-out : Zero (zeroed (p .end) out)
+      blank-out = rest-zeroed (p .end) out (t .out-zero)
+
+      go : (g b : Bool) → AfterWrite g b p buf line scratch out buf′ line′ scratch′ out′ r → Tidy r line′ scratch′ out′
+      go false b a =
+          subst (λ x. Tidy x line′ scratch′ out′) (sym (a .next))
+          (record {
+            line-zero = subst Zero (sym (a .line-wiped)) (rest-zeroed (p .held) line (t .line-zero));
+            scratch-zero = subst Zero (sym (a .scratch-stays)) (t .scratch-zero);
+            out-zero = subst Zero (sym (a .out-wiped)) blank-out;
+          })
+      go true true a = continues-tidy (a .continues) (omega (arith, f .held-fits, f .line-size)) k (t .line-zero) (t .scratch-zero) blank-out
+      go true false a =
+          subst (λ x. Tidy x line′ scratch′ out′) (sym (a .next))
+          (record {
+            line-zero = subst (λ l. Zero (drop (p .held) l)) (sym (a .line-stays)) (t .line-zero);
+            scratch-zero = subst Zero (sym (a .scratch-stays)) (t .scratch-zero);
+            out-zero = subst Zero (sym (a .out-wiped)) blank-out;
+          })
+
+  pub write-ready : length buf′ ≡ length buf → length out′ ≡ length out → Ready r buf′ line′ out′
+  unfolding AfterWrite Ready
+  write-ready e o = go goes-on rest a
+    where
+      go : (g b : Bool) → AfterWrite g b p buf line scratch out buf′ line′ scratch′ out′ r → Ready r buf′ line′ out′
+      go false b a = subst (λ x. Ready x buf′ line′ out′) (sym (a .next)) tt
+      go true true a = continues-ready (a .continues) buf′ (omega (arith, length-take-le (p .to) buf (f .to-fits), f .to-fits)) k (omega (arith, f .out-size))
+      go true false a = subst (λ x. Ready x buf′ line′ out′) (sym (a .next)) (f .held-fits)
