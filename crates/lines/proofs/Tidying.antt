@@ -5,13 +5,14 @@ use mathlib.Core.List.{[], _∷_, _++_}
 use Prim.Native.Nat.{ℕ, _+_, _-_, _≤_}
 use native.Mathlib.Omega.{arith}
 use lib.Dec.{eqb}
+use lib.IntN.{ℤ}
 use lib.ListN.{length, take, drop, replicate, length-append, replicate-append-replicate}
 use lib.Seq.{slice, drop-at, drop-drop, length-take-le}
 use Rattle.pattern.specs.Bytes.{Bytes, over}
 use Rattle.lines.specs.Sizes.{held-limit, newline-byte, out-room}
 use Rattle.lines.specs.Stores.{zeroed, Zero}
 use Rattle.lines.specs.Output.{answer-to, answers, last-line, hold, Told, say, told, wiped}
-use Rattle.lines.specs.Session.{Continues, AfterRead, Fits, AfterWrite, Tidy}
+use Rattle.lines.specs.Session.{reading-of, Continues, AfterRead, Fits, AfterWrite, Ready, Tidy, Sound}
 use Rattle.lines.specs.declared.session.Input.{Input}
 use Rattle.lines.specs.declared.session.Input.the-variants.{Failed, Ended, Chunk}
 use Rattle.lines.specs.declared.session.Pending.{Pending}
@@ -19,12 +20,7 @@ use Rattle.lines.specs.declared.session.Next.{Next}
 use Rattle.lines.specs.declared.session.Next.the-variants.{Write, Read, Stop}
 use Rattle.lines.proofs.Scratch.{blank-zero, drop-same, zeroed-zero, told-zero, answers-zero}
 use Rattle.lines.proofs.Told.{hold-longer}
-
--- what the next step asks of the buffers
-unfoldable pub Ready : Next → (buf line out : Bytes) → Type 0
-Ready Stop buf line out = Unit {0}
-Ready (Read held) buf line out = held ≤ held-limit
-Ready (Write p) buf line out = Fits p buf line out
+use Rattle.lines.proofs.Sessions.{chunk-fits}
 
 abbrev held-after : Told → Bytes
 held-after t = t .held
@@ -79,7 +75,7 @@ module _ {chunk line scratch out line′ scratch′ out′ : Bytes} {from held :
       (unfold Ready in record { from-fits = d .next-fits; to-fits = h; held-fits = d .held-fits; line-size = k; end-fits = d .end-fits; out-size = o })
 
 module _ (i : Input) (held : ℕ) (buf line scratch out line′ scratch′ out′ : Bytes) (r : Next) (a : AfterRead i held buf line scratch out line′ scratch′ out′ r) (k : length line′ ≡ held-limit) where
-  pub read-tidy : held ≤ length line → Tidy (Read held) line scratch out → Tidy r line′ scratch′ out′
+  read-tidy : held ≤ length line → Tidy (Read held) line scratch out → Tidy r line′ scratch′ out′
   unfolding AfterRead over
   read-tidy h t = go i a
     where
@@ -100,7 +96,7 @@ module _ (i : Input) (held : ℕ) (buf line scratch out line′ scratch′ out�
           })
       go (Chunk n) a = continues-tidy a h k (t .line-zero) (t .scratch-zero) (t .out-zero)
 
-  pub read-ready : ((n : ℕ) → i ≡ Chunk n → n ≤ length buf) → out-room ≤ length out → length out′ ≡ length out → Ready r buf line′ out′
+  read-ready : ((n : ℕ) → i ≡ Chunk n → n ≤ length buf) → out-room ≤ length out → length out′ ≡ length out → Ready r buf line′ out′
   unfolding AfterRead over Ready
   read-ready f o e = go i a f
     where
@@ -114,7 +110,7 @@ module _ (i : Input) (held : ℕ) (buf line scratch out line′ scratch′ out�
 
 module _ (goes-on rest : Bool) (p : Pending) (buf line scratch out buf′ line′ scratch′ out′ : Bytes) (r : Next) (a : AfterWrite goes-on rest p buf line scratch out buf′ line′ scratch′ out′ r) (f : Fits p buf line out)
     (k : length line′ ≡ held-limit) where
-  pub write-tidy : Tidy (Write p) line scratch out → Tidy r line′ scratch′ out′
+  write-tidy : Tidy (Write p) line scratch out → Tidy r line′ scratch′ out′
   unfolding AfterWrite
   write-tidy t = go goes-on rest a
     where
@@ -138,7 +134,7 @@ module _ (goes-on rest : Bool) (p : Pending) (buf line scratch out buf′ line�
             out-zero = subst Zero (sym (a .out-wiped)) blank-out;
           })
 
-  pub write-ready : length buf′ ≡ length buf → length out′ ≡ length out → Ready r buf′ line′ out′
+  write-ready : length buf′ ≡ length buf → length out′ ≡ length out → Ready r buf′ line′ out′
   unfolding AfterWrite Ready
   write-ready e o = go goes-on rest a
     where
@@ -146,3 +142,30 @@ module _ (goes-on rest : Bool) (p : Pending) (buf line scratch out buf′ line�
       go false b a = subst (λ x. Ready x buf′ line′ out′) (sym (a .next)) tt
       go true true a = continues-ready (a .continues) buf′ (omega (arith, length-take-le (p .to) buf (f .to-fits), f .to-fits)) k (omega (arith, f .out-size))
       go true false a = subst (λ x. Ready x buf′ line′ out′) (sym (a .next)) (f .held-fits)
+
+-- a read keeps it so
+pub read-sound : (got : ℤ) (held : ℕ) (buf line scratch out line′ scratch′ out′ : Bytes) (r : Next) → AfterRead (reading-of got (length buf)) held buf line scratch out line′ scratch′ out′ r
+    → Sound (Read held) buf line scratch out → length line′ ≡ length line → length out′ ≡ length out → Sound r buf line′ scratch′ out′
+unfolding Ready
+read-sound got held buf line scratch out line′ scratch′ out′ r a s e o =
+    let i = reading-of got (length buf) in
+    let k : length line′ ≡ held-limit = e ∙ s .line-size in
+    record {
+      ready = read-ready i held buf line scratch out line′ scratch′ out′ r a k (λ n f. chunk-fits (length buf) got n (sym f)) (s .out-size) o;
+      tidy = read-tidy i held buf line scratch out line′ scratch′ out′ r a k (omega (arith, s .ready, s .line-size)) (s .tidy);
+      line-size = k;
+      out-size = omega (arith, s .out-size);
+    }
+
+-- and a write
+pub write-sound : (goes-on rest : Bool) (p : Pending) (buf line scratch out buf′ line′ scratch′ out′ : Bytes) (r : Next) → AfterWrite goes-on rest p buf line scratch out buf′ line′ scratch′ out′ r
+    → Sound (Write p) buf line scratch out → length buf′ ≡ length buf → length line′ ≡ length line → length out′ ≡ length out → Sound r buf′ line′ scratch′ out′
+unfolding Ready
+write-sound g b p buf line scratch out buf′ line′ scratch′ out′ r a s u e o =
+    let k : length line′ ≡ held-limit = e ∙ s .line-size in
+    record {
+      ready = write-ready g b p buf line scratch out buf′ line′ scratch′ out′ r a (s .ready) k u o;
+      tidy = write-tidy g b p buf line scratch out buf′ line′ scratch′ out′ r a (s .ready) k (s .tidy);
+      line-size = k;
+      out-size = omega (arith, s .out-size);
+    }

@@ -102,7 +102,13 @@ owed (Read held) buf line scratch out chunks = in-chunks (take held line) chunks
 owed (Write p) buf line scratch out chunks =
     take (p .end) out ++ elim (p .last) [ true ↦ [] | false ↦ in-chunks (take (p .held) line) (slice (p .from) (p .to) buf ∷ chunks) scratch ]
 
--- ---- "patient data stays in no buffer": nothing but what is held of a line and what is to be written
+-- ---- what holds between steps
+
+-- what is held and pending lies in the buffers
+unfoldable pub Ready : Next → (buf line out : Bytes) → Type 0
+Ready Stop buf line out = Unit {0}
+Ready (Read held) buf line out = held ≤ held-limit
+Ready (Write p) buf line out = Fits p buf line out
 
 abbrev pub held-of : Next → ℕ
 held-of Stop = 0
@@ -114,7 +120,14 @@ end-of Stop = 0
 end-of (Read held) = 0
 end-of (Write p) = p .end
 
+-- "patient data stays in no buffer": all is zero but what is held of a line and what is to be written
 pub record Tidy (next : Next) (line scratch out : Bytes) : Type 0 where
   pub line-zero : Zero (drop (held-of next) line)
   pub scratch-zero : Zero scratch
   pub out-zero : Zero (drop (end-of next) out)
+
+pub record Sound (next : Next) (buf line scratch out : Bytes) : Type 0 where
+  pub ready : Ready next buf line out
+  pub tidy : Tidy next line scratch out
+  pub line-size : length line ≡ held-limit
+  pub out-size : out-room ≤ length out

@@ -1,113 +1,80 @@
-// The line tool: reads lines of a source, a tab and a label, and writes an answer for each.
-ghost use mathlib.Core.Path.{_≡_};
-ghost use Prim.Native.Nat.{_≤_};
-ghost use lib.ListN.{length};
-ghost use Rattle.lines.specs.Sizes.{held-limit, scratch-size, out-room};
-ghost use Rattle.lines.specs.Reply.{zeros};
-ghost use Rattle.mptline.specs.Held.{Holds, Reads, Ended};
+// The line tool: reads lines of a source, a tab and a label, and writes an answer for each. What it does with what it
+// reads, and what it writes when, is told by lines::session.
+ghost use Rattle.lines.specs.Session.{Sound};
+ghost use Rattle.lines.specs.declared.session.Next.the-variants.{Write, Read};
 use libc::STDIN_FILENO;
 use libc::STDOUT_FILENO;
 use lines::chunk;
+use lines::session;
+use lines::session::Next;
+use lines::session::Pending;
 use lines::sizes;
 
-// How many bytes of a line are held, and whether to go on.
-struct Progress {
-    held: usize,
-    more: bool,
-}
+// Bytes of input and of output that are taken at a time.
+const BUFFER_SIZE: usize = 65536;
 
-// Answers the lines of a chunk; a closed output ends it, with nothing held.
-fn answer_all(
-    chunk: &[u8],
-    line: &mut [u8],
-    held: usize,
-    scratch: &mut [u8],
-    out: &mut [u8],
-) -> Progress
-    requires { ⌜ (length (now line) ≡ held-limit) × (held ≤ held-limit) × (length (now scratch) ≡ scratch-size) × (out-room ≤ length (now out)) ⌝ }
-    ensures { λ r. ⌜ Holds (now (chunk .entry)) (now (line .entry)) held (now (scratch .entry)) (now (line .exit)) (now (scratch .exit)) r ⌝ }
-{
-    let mut from = 0;
-    let mut n = held;
-    while from < chunk.len() {
-        let a = chunk::answer_chunk(chunk, from, line, n, scratch, out);
-        let end = a.end;
-        if !io::write_all(STDOUT_FILENO, &out[..end]) {
-            return Progress {
-                held: 0,
-                more: false,
-            };
-        }
-        from = a.next;
-        n = a.held;
-    }
-    Progress {
-        held: n,
-        more: true,
-    }
-}
-
-// Reads once and answers. The input's end ends it; a read that fails does too, with nothing held, since what is held of a
-// line is not the whole of it.
-fn answer_some(
+// Writes what is to be written.
+fn write(
+    p: Pending,
     buf: &mut [u8],
     line: &mut [u8],
-    held: usize,
     scratch: &mut [u8],
     out: &mut [u8],
-) -> Progress
-    requires { ⌜ (length (now line) ≡ held-limit) × (held ≤ held-limit) × (length (now scratch) ≡ scratch-size) × (out-room ≤ length (now out)) ⌝ }
-    ensures { λ r. ⌜ Reads (now (buf .exit)) (now (line .entry)) held (now (scratch .entry)) (now (line .exit)) (now (scratch .exit)) r ⌝ }
+) -> Next
+    requires { ⌜ Sound (Write p) (now buf) (now line) (now scratch) (now out) ⌝ }
+    ensures { λ r. ⌜ Sound r (now (buf .exit)) (now (line .exit)) (now (scratch .exit)) (now (out .exit)) ⌝ }
 {
-    let got = libc::read(STDIN_FILENO, buf);
-    if got < 0 {
-        return Progress {
-            held: 0,
-            more: false,
-        };
-    }
-    if got == 0 {
-        return Progress { held, more: false };
-    }
-    let n = io::count(got, buf);
-    answer_all(&buf[..n], line, held, scratch, out)
+    let end = p.end;
+    let wrote = io::write_all(STDOUT_FILENO, &out[..end]);
+    session::after_write(p, wrote, buf, line, scratch, out)
 }
 
-// Answers the whole input. A proved loop has to end, so its turns are counted down from a number that no run uses up.
-fn answer_input(buf: &mut [u8], line: &mut [u8], scratch: &mut [u8], out: &mut [u8]) -> usize
-    requires { ⌜ (length (now line) ≡ held-limit) × (length (now scratch) ≡ scratch-size) × (out-room ≤ length (now out)) ⌝ }
-    ensures { λ r. ⌜ Ended r (now (scratch .entry)) (now (scratch .exit)) ⌝ }
+// Reads once.
+fn read(
+    held: usize,
+    buf: &mut [u8],
+    line: &mut [u8],
+    scratch: &mut [u8],
+    out: &mut [u8],
+) -> Next
+    requires { ⌜ Sound (Read held) (now buf) (now line) (now scratch) (now out) ⌝ }
+    ensures { λ r. ⌜ Sound r (now (buf .exit)) (now (line .exit)) (now (scratch .exit)) (now (out .exit)) ⌝ }
 {
-    let mut held = 0;
+    let got = libc::read(STDIN_FILENO, buf);
+    session::after_read(held, got, buf, line, scratch, out)
+}
+
+// Reads and writes until there is nothing left to do. A proved loop has to end, so its turns are counted down from a number
+// that no run uses up.
+fn run(first: Next, buf: &mut [u8], line: &mut [u8], scratch: &mut [u8], out: &mut [u8]) -> Next
+    requires { ⌜ Sound first (now buf) (now line) (now scratch) (now out) ⌝ }
+    ensures { λ r. ⌜ Sound r (now (buf .exit)) (now (line .exit)) (now (scratch .exit)) (now (out .exit)) ⌝ }
+{
+    let mut next = first;
     let mut turns = u64::MAX;
     while turns > 0 {
-        let p = answer_some(buf, line, held, scratch, out);
-        held = p.held;
-        if !p.more {
-            return held;
+        match next {
+            Next::Write(p) => {
+                next = write(p, buf, line, scratch, out);
+            }
+            Next::Read(held) => {
+                next = read(held, buf, line, scratch, out);
+            }
+            Next::Stop => {
+                return next;
+            }
         }
         turns -= 1;
     }
-    held
-}
-
-// All lines of the input, and then a last one without a newline.
-fn answer(buf: &mut [u8], line: &mut [u8], scratch: &mut [u8], out: &mut [u8])
-    requires { ⌜ (length (now line) ≡ held-limit) × (now scratch ≡ zeros) × (out-room ≤ length (now out)) ⌝ }
-    ensures { λ r. ⌜ now (scratch .exit) ≡ zeros ⌝ }
-{
-    let held = answer_input(buf, line, scratch, out);
-    let end = chunk::answer_last(&line[..held], scratch, out);
-    io::write_all(STDOUT_FILENO, &out[..end]);
+    next
 }
 
 fn main() {
+    let mut buf = [0u8; BUFFER_SIZE];
+    let mut line = [0u8; sizes::HELD_LIMIT];
+    let mut scratch = [0u8; sizes::SCRATCH_SIZE];
+    let mut out = [0u8; BUFFER_SIZE];
     let first = chunk::first_line();
-    if io::write_all(STDOUT_FILENO, &first) {
-        let mut buf = io::large_buffer();
-        let mut line = [0u8; sizes::HELD_LIMIT];
-        let mut scratch = [0u8; sizes::SCRATCH_SIZE];
-        let mut out = io::large_buffer();
-        answer(&mut buf, &mut line, &mut scratch, &mut out);
-    }
+    let wrote = io::write_all(STDOUT_FILENO, &first);
+    run(session::begin(wrote), &mut buf, &mut line, &mut scratch, &mut out);
 }
