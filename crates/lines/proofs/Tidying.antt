@@ -12,7 +12,7 @@ use Rattle.pattern.specs.Bytes.{Bytes, over}
 use Rattle.lines.specs.Sizes.{held-limit, newline-byte, out-room}
 use Rattle.lines.specs.Stores.{zeroed, Zero}
 use Rattle.lines.specs.Output.{answer-to, answers, last-line, hold, Told, say, told, wiped}
-use Rattle.lines.specs.Session.{reading-of, Continues, AfterRead, Fits, AfterWrite, Ready, Tidy, Sound}
+use Rattle.lines.specs.Session.{reading-of, begun, Continues, AfterRead, Fits, AfterWrite, Ready, Tidy, Sound}
 use Rattle.lines.specs.declared.session.Input.{Input}
 use Rattle.lines.specs.declared.session.Input.the-variants.{Failed, Ended, Chunk}
 use Rattle.lines.specs.declared.session.Pending.{Pending}
@@ -142,6 +142,23 @@ module _ (goes-on rest : Bool) (p : Pending) (buf line scratch out buf′ line�
       go false b a = subst (λ x. Ready x buf′ line′ out′) (sym (a .next)) tt
       go true true a = continues-ready (a .continues) buf′ (omega (arith, length-take-le (p .to) buf (f .to-fits), f .to-fits)) k (omega (arith, f .out-size))
       go true false a = subst (λ x. Ready x buf′ line′ out′) (sym (a .next)) (f .held-fits)
+
+pub sound-as : {m n : Next} {buf line scratch out : Bytes} → m ≡ n → Sound m buf line scratch out → Sound n buf line scratch out
+sound-as {m} {n} {buf} {line} {scratch} {out} e s = subst (λ x. Sound x buf line scratch out) e s
+
+-- at first
+pub begin-sound : (wrote : Bool) {next : Next} {buf line scratch out : Bytes} → next ≡ begun wrote → Zero line → Zero scratch → Zero out → length line ≡ held-limit → out-room ≤ length out
+    → Sound next buf line scratch out
+begin-sound wrote {next} {buf} {line} {scratch} {out} e l s o h k = sound-as (sym e) (go wrote)
+  where
+    go : (b : Bool) → Sound (begun b) buf line scratch out
+    go true = unfold begun Ready in record { ready = omega arith; tidy = record { line-zero = l; scratch-zero = s; out-zero = o }; line-size = h; out-size = k }
+    go false = unfold begun Ready in record { ready = tt; tidy = record { line-zero = l; scratch-zero = s; out-zero = o }; line-size = h; out-size = k }
+
+-- before a read it doesn't matter what the input's buffer has
+pub sound-read : {held : ℕ} {buf other line scratch out : Bytes} → Sound (Read held) buf line scratch out → Sound (Read held) other line scratch out
+unfolding Ready
+sound-read s = record { ready = s .ready; tidy = s .tidy; line-size = s .line-size; out-size = s .out-size }
 
 -- a read keeps it so
 pub read-sound : (got : ℤ) (held : ℕ) (buf line scratch out line′ scratch′ out′ : Bytes) (r : Next) → AfterRead (reading-of got (length buf)) held buf line scratch out line′ scratch′ out′ r

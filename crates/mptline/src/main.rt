@@ -14,13 +14,7 @@ use lines::sizes;
 const BUFFER_SIZE: usize = 65536;
 
 // Writes what is to be written.
-fn write(
-    p: Pending,
-    buf: &mut [u8],
-    line: &mut [u8],
-    scratch: &mut [u8],
-    out: &mut [u8],
-) -> Next
+fn write(p: Pending, buf: &mut [u8], line: &mut [u8], scratch: &mut [u8], out: &mut [u8]) -> Next
     requires { ⌜ Sound (Write p) (now buf) (now line) (now scratch) (now out) ⌝ }
     ensures { λ r. ⌜ Sound r (now (buf .exit)) (now (line .exit)) (now (scratch .exit)) (now (out .exit)) ⌝ }
 {
@@ -30,13 +24,7 @@ fn write(
 }
 
 // Reads once.
-fn read(
-    held: usize,
-    buf: &mut [u8],
-    line: &mut [u8],
-    scratch: &mut [u8],
-    out: &mut [u8],
-) -> Next
+fn read(held: usize, buf: &mut [u8], line: &mut [u8], scratch: &mut [u8], out: &mut [u8]) -> Next
     requires { ⌜ Sound (Read held) (now buf) (now line) (now scratch) (now out) ⌝ }
     ensures { λ r. ⌜ Sound r (now (buf .exit)) (now (line .exit)) (now (scratch .exit)) (now (out .exit)) ⌝ }
 {
@@ -76,5 +64,11 @@ fn main() {
     let mut out = [0u8; BUFFER_SIZE];
     let first = chunk::first_line();
     let wrote = io::write_all(STDOUT_FILENO, &first);
-    run(session::begin(wrote), &mut buf, &mut line, &mut scratch, &mut out);
+    run(
+        session::begin(wrote),
+        &mut buf,
+        &mut line,
+        &mut scratch,
+        &mut out,
+    );
 }

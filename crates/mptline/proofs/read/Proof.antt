@@ -1,0 +1,45 @@
+-- `read` meets its contract. Assumes nothing.
+use Rattle.lines.specs.Session.{Ready}
+use Rattle.lines.proofs.Tidying.{read-sound, sound-read}
+use borrow.Author.Needs.{needs}
+use Rattle.mptline.proofs.read.Statement.{statement}
+use Rattle.mptline.proofs.read.Tie as tie
+
+read-requires : tie.Need-read-requires
+read-requires c κs = search needs
+
+after-read-requires : tie.Need-after-read-requires
+after-read-requires c κs =
+    let s = c .before .before .before .before .before .before .before .before .before .before .before .before .pre in
+    unfold Ready in (s .line-size, s .ready, s .out-size)
+
+same-length : tie.Need-same-length
+same-length c = search needs
+
+same-length-2 : tie.Need-same-length-2
+same-length-2 c = search needs
+
+same-length-3 : tie.Need-same-length-3
+same-length-3 c = search needs
+
+same-length-4 : tie.Need-same-length-4
+same-length-4 c = search needs
+
+returns : tie.Need-returns
+returns c =
+    let after = c .before .before .before .before .before .before in
+    let start = after .before .before .before .before .before .before .before .before .before .before .before .before .before in
+    let a = after .after-read in
+    read-sound _ _ _ _ _ _ _ _ _ _ (a .ensures) (sound-read (start .pre)) (a .kept .1 .1 .1 .0) (a .kept .1 .1 .1 .1 .1 .0)
+
+pub read-spec : {M : Type 1} → statement M
+read-spec =
+    tie.close
+    (tie.spec
+    read-requires
+    after-read-requires
+    same-length
+    same-length-2
+    same-length-3
+    same-length-4
+    returns)

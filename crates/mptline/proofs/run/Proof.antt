@@ -1,0 +1,105 @@
+-- `run` meets its contract: what holds between steps holds after each. The turns fall. Assumes nothing.
+use mathlib.Core.Path.{_≡_, refl, _∙_}
+use mathlib.Core.Logic.{⊎-elim}
+use native.Mathlib.Omega.{arith}
+use lib.ListN.{length}
+use borrow.Author.Needs.{needs}
+use Rattle.lines.specs.Session.{Sound}
+use Rattle.lines.proofs.Tidying.{sound-as}
+use Rattle.mptline.proofs.run.Statement.{statement}
+use Rattle.mptline.proofs.run.Tie as tie
+
+abbrev Inv-loop : tie.InvT-loop
+Inv-loop buf₀ line₀ scratch₀ out₀ next₀ turns₀ buf line scratch out next turns =
+    (length buf ≡ length buf₀) × (length line ≡ length line₀) × (length scratch ≡ length scratch₀) × (length out ≡ length out₀) × Sound next buf line scratch out
+
+abbrev μ-loop : tie.MeasureT-loop
+μ-loop buf₀ line₀ scratch₀ out₀ next₀ turns₀ buf line scratch out next turns = turns
+
+loop-holds : tie.Need-loop-holds Inv-loop μ-loop
+loop-holds c = (refl, refl, refl, refl, c .before .before .before .before .pre)
+
+enum-known-next : tie.Need-enum-known-next Inv-loop μ-loop
+enum-known-next c = search needs
+
+write-requires : tie.Need-write-requires Inv-loop μ-loop
+write-requires c κs = sound-as (c .before .before .before .before .before .next .given .1) (c .before .before .before .before .before .before .before .before .loop .inv .4)
+
+enum-known-next-2 : tie.Need-enum-known-next-2 Inv-loop μ-loop
+enum-known-next-2 c = search needs
+
+read-requires : tie.Need-read-requires Inv-loop μ-loop
+read-requires c κs = sound-as (c .before .before .before .before .before .next2 .given .1) (c .before .before .before .before .before .before .before .before .loop .inv .4)
+
+enum-told : tie.Need-enum-told Inv-loop μ-loop
+enum-told c = search needs
+
+same-length : tie.Need-same-length Inv-loop μ-loop
+same-length c = c .before .before .before .loop .inv .0
+
+same-length-2 : tie.Need-same-length-2 Inv-loop μ-loop
+same-length-2 c = c .before .before .before .loop .inv .1
+
+same-length-3 : tie.Need-same-length-3 Inv-loop μ-loop
+same-length-3 c = c .before .before .before .loop .inv .2
+
+same-length-4 : tie.Need-same-length-4 Inv-loop μ-loop
+same-length-4 c = c .before .before .before .loop .inv .3
+
+returns : tie.Need-returns Inv-loop μ-loop
+returns c = c .before .before .before .loop .inv .4
+
+sub-turns : tie.Need-sub-turns Inv-loop μ-loop
+sub-turns c = omega arith
+
+loop-less : tie.Need-loop-less Inv-loop μ-loop
+loop-less c = omega arith
+
+loop-again : tie.Need-loop-again Inv-loop μ-loop
+loop-again c =
+    let k = c .before .before .loop in
+    ⊎-elim
+    (λ w. rw (w .16, w .17, w .18, w .19, w .20) (w .7 .kept .1 .0 ∙ k .inv .0, w .7 .kept .1 .1 .0 ∙ k .inv .1, w .7 .kept .1 .1 .1 .0 ∙ k .inv .2, w .7 .kept .1 .1 .1 .1 .0 ∙ k .inv .3, w .7 .ensures))
+    (λ w. rw (w .16, w .17, w .18, w .19, w .20) (w .7 .kept .1 .0 ∙ k .inv .0, w .7 .kept .1 .1 .0 ∙ k .inv .1, w .7 .kept .1 .1 .1 .0 ∙ k .inv .2, w .7 .kept .1 .1 .1 .1 .0 ∙ k .inv .3, w .7 .ensures))
+    (c .match .came)
+
+same-length-5 : tie.Need-same-length-5 Inv-loop μ-loop
+same-length-5 c = c .before .loop .inv .0
+
+same-length-6 : tie.Need-same-length-6 Inv-loop μ-loop
+same-length-6 c = c .before .loop .inv .1
+
+same-length-7 : tie.Need-same-length-7 Inv-loop μ-loop
+same-length-7 c = c .before .loop .inv .2
+
+same-length-8 : tie.Need-same-length-8 Inv-loop μ-loop
+same-length-8 c = c .before .loop .inv .3
+
+returns-2 : tie.Need-returns-2 Inv-loop μ-loop
+returns-2 c = c .before .loop .inv .4
+
+pub run-spec : {M : Type 1} → statement M
+run-spec =
+    tie.close
+    (tie.spec
+    Inv-loop
+    μ-loop
+    loop-holds
+    enum-known-next
+    write-requires
+    enum-known-next-2
+    read-requires
+    enum-told
+    same-length
+    same-length-2
+    same-length-3
+    same-length-4
+    returns
+    sub-turns
+    loop-less
+    loop-again
+    same-length-5
+    same-length-6
+    same-length-7
+    same-length-8
+    returns-2)
