@@ -122,7 +122,7 @@ read-atom-returns : (t : ℕ) → read-atom-lts.Need-returns (read-atom-claims t
 read-atom-returns t c =
     let after-class = c .before .before .before .before in
     let there = after-class .before in
-    atom-deep _ _ _ _ _ (read-atom-ready t there) _ _ (read-atom-counted t there) _ (after-class .class .ensures) _ (c .before .before .after2 .given .1) _ _ (c .if1 .taken)
+    atom-deep _ _ _ _ _ (read-atom-ready t there) _ _ (read-atom-counted t there) _ (after-class .class .ensures) _ (c .before .before .after2 .given .1) _ _ (omega (arith, c .if1 .taken))
 
 read-atom-add-read-group : (t : ℕ) → read-atom-lts.Need-add-read-group (read-atom-claims t) (read-atom-at t) read-atom.Post
 read-atom-add-read-group t c = let k = read-atom-counted t (c .before .before .before .before .before) in omega (arith, k .room)
