@@ -1,15 +1,15 @@
 -- How the answers of the readers fit together. Assumes nothing.
-use mathlib.Core.Path.{_≡_, refl, sym, ap, _∙_, subst}
+use mathlib.Core.Path.{_≡_, refl, sym, _∙_, subst}
 use mathlib.Core.List.{List, [], _∷_}
 use mathlib.Core.Option.{Option}
 use Prim.Native.Nat.{ℕ, suc, _+_, _-_, _*_, _<_, _≤_}
 use native.Mathlib.Omega.{arith}
 use native.Mathlib.Numerals.{add-one}
 use lib.ListN.{length}
-use Rattle.pattern.specs.Numbers.{atom-limit, depth-limit, opening-byte, comma-byte, group-kind, record-size, FORM, DEPTH}
-use Rattle.pattern.specs.Bytes.{Bytes, between}
+use Rattle.pattern.specs.Numbers.{atom-limit, depth-limit, comma-byte, group-kind, record-size, FORM, DEPTH}
+use Rattle.pattern.specs.Bytes.{Bytes}
 use Rattle.pattern.specs.Syntax.{pattern, atom, body, branches, Syntax, last, then, repeat, group, only, or, size}
-use Rattle.pattern.specs.Spelling.{quote, opening, starts, kind}
+use Rattle.pattern.specs.Spelling.{quote, opening, starts}
 use Rattle.pattern.specs.Reading.{counting, empty, Around, within, fork, next}
 use Rattle.pattern.specs.Scan.{low, high, depth}
 use Rattle.pattern.specs.Table.{pool, choices, flat}
@@ -28,7 +28,7 @@ use Rattle.compiler.specs.declared.reader.Parsed.{Parsed}
 use Rattle.compiler.specs.declared.reader.Parsed.the-variants as parsed
 use Rattle.compiler.specs.declared.reader.Grouped.{Grouped}
 use Rattle.compiler.specs.declared.reader.Grouped.the-variants as grouped
-use Rattle.scanner.specs.Places.{flag, kind-at, ByteIs, KindIs, ClassRead, SeparatorRead}
+use Rattle.scanner.specs.Places.{flag, ByteIs, KindIs, LetterIs, ClassRead, SeparatorRead}
 use Rattle.scanner.specs.Scans.{scanned}
 use Rattle.pattern.specs.Stores.{stored}
 use Rattle.compiler.specs.Records.{rec-of}
@@ -37,6 +37,7 @@ use Rattle.scanner.specs.Counts.{CountIs, CountRefused, CountRead}
 use Rattle.compiler.specs.Readers.{Ready, Settled, tail, LeafRead, CodedRead, WordedRead, Refused, AtomIs, AtomRead, PatternIs, PatternRead, GroupIs, GroupRefused, GroupRead}
 use Rattle.compiler.proofs.Leaves.{state}
 use Rattle.pattern.proofs.Stores.{stored-none}
+use Rattle.scanner.proofs.Places.{letter-place, class-letter}
 use Rattle.compiler.proofs.Descent.{codes-enter, literal-enter, group-enter, group-deep, body-form, atom-next, depth-next, flag-count, flag-one, closes, parts, branch-form}
 use Rattle.compiler.proofs.Written.{wrote-leaf, wrote-group, wrote-last, wrote-then, wrote-only, wrote-or}
 
@@ -51,6 +52,9 @@ reach s st = 3 * (length s - st .at .at)
 pub quote-is : (s : Bytes) (at : ℕ) (r : Class) (later : Cursor) → r ≡ class.Quote later → ClassRead s at r → KindIs s at (starts quote) later
 unfolding ClassRead
 quote-is s at r later e h = subst (λ r. ClassRead s at r) e h
+
+pub letter-before : (s : Bytes) (at b : ℕ) (later : Cursor) → LetterIs s at b later → LetterIs s (later .at - 1) b later
+letter-before s at b later x = rw (letter-place s at b later x) x
 
 -- an atom from its count and its body
 module _ (s : Bytes) (st : State) (d : ℕ) (recs text : Bytes) where
@@ -79,13 +83,12 @@ module _ (s : Bytes) (st : State) (d : ℕ) (recs text : Bytes) where
           settled = x .settled;
         }
 
-    pub atom-coded : (recs′ : Bytes) (a : Parsed) → r ≡ class.Letter → CodedRead s (at .at) (st .atoms) (st .pool) rep recs recs′ a → AtomRead s st d recs recs′ text text a
-    unfolding ClassRead
-    atom-coded recs′ a e x =
-        let (w, y) = subst (λ r. ClassRead s (at .at) r) e h in
+    pub atom-coded : (b : ℕ) (later : Cursor) (recs′ : Bytes) (a : Parsed) → r ≡ class.Letter b later → CodedRead s (later .at - 1) (st .atoms) (st .pool) rep recs recs′ a → AtomRead s st d recs recs′ text text a
+    atom-coded b later recs′ a e x =
+        let y = class-letter s (at .at) r b later e h in
         atom-leaf (in-codes 0) (λ v. v ≡ []) (at .at) recs′ text a (omega arith)
-        (λ k. codes-enter s (at .at) (suc (st .atoms)) k (c .run) (c .some-run) w y)
-        (λ v z. rw z (sym (stored-none text (st .pool)))) x
+        (λ k. codes-enter s (at .at) (suc (st .atoms)) k (c .run) (c .some-run) (y .kind .within) (y .kind .kind))
+        (λ v z. rw z (sym (stored-none text (st .pool)))) (rw (letter-place s (at .at) b later y) at x)
 
     pub atom-worded : (later : Cursor) (recs′ text′ : Bytes) (a : Parsed) → r ≡ class.Quote later → WordedRead s (later .at) (st .atoms) (st .pool) rep recs recs′ text text′ a → AtomRead s st d recs recs′ text text′ a
     atom-worded later recs′ text′ a e x =
@@ -101,21 +104,17 @@ module _ (s : Bytes) (st : State) (d : ℕ) (recs text : Bytes) where
 
     -- a group
     module _ (later : Cursor) (e : r ≡ class.Opening later) where
-      pub opening-is : ByteIs s (at .at) opening-byte later
+      pub opening-is : KindIs s (at .at) (starts opening) later
       unfolding ClassRead
       opening-is = subst (λ r. ClassRead s (at .at) r) e h
 
-      opening-kind : kind-at s (at .at) ≡ starts opening
-      unfolding kind between
-      opening-kind = ap kind (sym (opening-is .value))
-
       pub atom-deep : (recs′ text′ : Bytes) → depth-limit ≤ d → AtomRead s st d recs recs′ text text′ (parsed.Fault DEPTH (at .at))
       unfolding AtomRead
-      atom-deep recs′ text′ g = record { scan = λ k z. c .scan k ∙ group-deep s (at .at) (suc (st .atoms)) k (c .run) (c .some-run) (opening-is .within) opening-kind (rw z g) }
+      atom-deep recs′ text′ g = record { scan = λ k z. c .scan k ∙ group-deep s (at .at) (suc (st .atoms)) k (c .run) (c .some-run) (opening-is .within) (opening-is .kind) (rw z g) }
 
       module _ (shallow : d < depth-limit) where
         opened : (k : Around) → depth k ≡ d → scanned s (counting empty, k) (st .at .at) (st .atoms) ≡ scanned s (counting empty, within k (low (c .run)) (high (c .run)) [] []) (later .at) (st .atoms + 1)
-        opened k z = c .scan k ∙ group-enter s (at .at) (suc (st .atoms)) k (c .run) (c .some-run) (opening-is .within) opening-kind (rw z shallow) ∙ rw (opening-is .past, add-one)
+        opened k z = c .scan k ∙ group-enter s (at .at) (suc (st .atoms)) k (c .run) (c .some-run) (opening-is .within) (opening-is .kind) (rw z shallow) ∙ rw (opening-is .past, add-one)
 
         pub group-ready : Ready s (state later (st .atoms + 1) (st .pool)) (d + 1)
         group-ready = let o = opening-is in record { within = omega (arith, o .past, o .within); atoms = omega (arith, c .room); pool = omega (arith, ready .pool, c .onward .on, o .past); shallow = omega arith }

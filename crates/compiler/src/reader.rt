@@ -1,6 +1,7 @@
 // The readers of a pattern, an atom and a group call each other. Records and literal values go to lent buffers.
-ghost use Prim.Native.Nat.{_≤_};
+ghost use Prim.Native.Nat.{_-_, _≤_};
 ghost use lib.ListN.{length};
+ghost use Rattle.scanner.specs.Places.{LetterIs};
 ghost use Rattle.compiler.specs.Readers.{Ready, Room, LeafReady, CodedRead, WordedRead, PatternRead, AtomRead, GroupRead};
 use crate::copy::put_record;
 use pattern::kind;
@@ -16,6 +17,7 @@ use scanner::count::count;
 use scanner::cursor::Class;
 use scanner::cursor::Cursor;
 use scanner::cursor::Separator;
+use scanner::cursor::last;
 
 // How far a reader has come: the place in the source, the atoms so far, and the length of the pool.
 pub struct State {
@@ -36,14 +38,14 @@ pub enum Grouped {
     Fault(u32, usize),
 }
 
-// An atom of code letters, after its count.
-fn coded(s: &[u8], c: Cursor, rep: Repeat, n: usize, p: usize, recs: &mut [u8]) -> Parsed
-    requires { ⌜ LeafReady (now s) (c .at) n p (now recs) ⌝ }
-    ensures { λ r. ⌜ CodedRead (now (s .entry)) (c .at) n p rep (now (recs .entry)) (now (recs .exit)) r ⌝ }
+// An atom of code letters, after its count and its first letter.
+fn coded(s: &[u8], first: u8, c: Cursor, rep: Repeat, n: usize, p: usize, recs: &mut [u8]) -> Parsed
+    requires { ⌜ LetterIs (now s) (c .at - 1) first c × LeafReady (now s) (c .at - 1) n p (now recs) ⌝ }
+    ensures { λ r. ⌜ CodedRead (now (s .entry)) (c .at - 1) n p rep (now (recs .entry)) (now (recs .exit)) r ⌝ }
 {
-    match codes_from(s, c) {
+    match codes_from(s, first, c) {
         Letters::Set(set, next) => {
-            put_record(recs, n, kind::CODES, next.last(s), rep, set as u16, 0);
+            put_record(recs, n, kind::CODES, last(s, next), rep, set as u16, 0);
             Parsed::Done(State {
                 at: next,
                 atoms: n + 1,
@@ -73,7 +75,7 @@ fn worded(
                 recs,
                 n,
                 kind::LITERAL,
-                next.last(s),
+                last(s, next),
                 rep,
                 p as u16,
                 (end - p) as u16,
@@ -97,7 +99,7 @@ pub fn read_pattern(s: &[u8], st: State, depth: usize, recs: &mut [u8], pool: &m
         match read_atom(s, from, depth, recs, pool) {
             Parsed::Done(next) => {
                 let at = next.at;
-                if at.last(s) != 0 {
+                if last(s, at) != 0 {
                     return Parsed::Done(next);
                 }
                 from = next;
@@ -116,7 +118,7 @@ fn read_atom(s: &[u8], st: State, depth: usize, recs: &mut [u8], pool: &mut [u8]
     let p = st.pool;
     match count(s, at, n) {
         Counted::Repeat(rep, next) => match next.class(s) {
-            Class::Letter => coded(s, next, rep, n, p, recs),
+            Class::Letter(b, after) => coded(s, b, after, rep, n, p, recs),
             Class::Quote(after) => worded(s, after, rep, n, p, recs, pool),
             Class::Opening(after) => {
                 if limits::DEPTH_LIMIT <= depth {
@@ -134,7 +136,7 @@ fn read_atom(s: &[u8], st: State, depth: usize, recs: &mut [u8], pool: &mut [u8]
                             recs,
                             n,
                             kind::GROUP,
-                            stop.last(s),
+                            last(s, stop),
                             rep,
                             k as u16,
                             end.atoms as u16,

@@ -1,82 +1,77 @@
 -- The runs of letters and of a literal's bytes, one step after the other. Assumes nothing.
 use mathlib.Core.Path.{_≡_, refl, sym, ap, _∙_, subst}
+use mathlib.Core.Logic.{⊎-elim}
 use mathlib.Core.List.{[], _∷_, _++_}
-use Prim.Native.Nat.{ℕ, suc, _+_, _<_, _≤_}
+use Prim.Native.Nat.{ℕ, _+_, _-_, _<_, _≤_}
 use native.Mathlib.Omega.{arith}
-use lib.Bits.{bitOr, or-lt}
+use lib.Bits.{bitOr, or-lt, or-zero-l, or-add-and, and-le-l}
 use lib.ListN.{length, getD, set, length-append, length-set}
 use borrow.Author.Tests.{le-leb, lt-leb}
+use denote.Enum.Declared.{tagOf}
 use Rattle.pattern.specs.Numbers.{CODE, set-limit}
 use Rattle.pattern.specs.Bytes.{Bytes}
 use Rattle.pattern.specs.Codes.{bit}
 use Rattle.pattern.specs.Syntax.{codes}
-use Rattle.pattern.specs.Spelling.{letter, starts}
 use Rattle.pattern.specs.Reading.{after, move, step, extend}
 use Rattle.pattern.specs.Scan.{begins, begun, body-begins, fault, refuse}
 use Rattle.scanner.specs.declared.cursor.Cursor.{Cursor}
-use Rattle.scanner.specs.declared.cursor.Letter.{Letter}
-use Rattle.scanner.specs.declared.cursor.Letter.the-variants as letters
+use Rattle.scanner.specs.declared.cursor.Class.{Class}
+use Rattle.scanner.specs.declared.cursor.Class.the-variants as class
 use Rattle.scanner.specs.declared.cursor.Text.{Text}
 use Rattle.scanner.specs.declared.cursor.Text.the-variants as texts
 use Rattle.scanner.specs.declared.body.Letters.the-variants as sets
 use Rattle.scanner.specs.declared.body.Literal.the-variants as literals
-use Rattle.scanner.specs.Places.{Onward, kind-at, LetterRead}
+use Rattle.scanner.specs.Places.{Onward, LetterIs, ClassRead}
 use Rattle.pattern.specs.Stores.{stored}
 use Rattle.scanner.specs.Bodies.{Passes, Refuses, in-codes, in-literal, TextRead, CodesRead, LiteralRead}
+use Rattle.scanner.proofs.cursor.Class.{the-type}
+use Rattle.scanner.proofs.Places.{letter-place, class-letter, class-none}
 use Rattle.scanner.proofs.Steps.{onward, faulty}
+use Rattle.pattern.proofs.Tests.{le-or-lt}
 use Rattle.pattern.proofs.Stores.{stored-none, stored-more}
 
-module _ (s : Bytes) (i : ℕ) (w : i < length s) (e : kind-at s i ≡ starts letter) where
-  codes-next : (set : ℕ) → bit (getD s i 0) < set-limit → Passes s (in-codes set) i (in-codes (bitOr set (bit (getD s i 0)))) (suc i)
+-- a letter after those that gave a set
+module _ (s : Bytes) (at c : ℕ) (next : Cursor) (is : LetterIs s at c next) (set : ℕ) where
+  codes-next : bit c < set-limit → Passes s (in-codes set) at (in-codes (bitOr set (bit c))) (next .at)
   unfolding step move extend fault begins begun body-begins refuse
-  codes-next set h = record { scan = λ l v k n. onward s i n w (after l v (codes set), k) _ (rw e) (rw e (rw (lt-leb set-limit (bit (getD s i 0)) h))) (rw e) }
+  codes-next h = record { scan = λ l v k n. rw (is .kind .past, is .value) (onward s at n (is .kind .within) (after l v (codes set), k) _ (rw (is .kind .kind)) (rw (is .kind .kind) (rw (lt-leb set-limit (bit (getD s at 0)) (rw (is .value) at h)))) (rw (is .kind .kind))) }
 
-  codes-bad : (set : ℕ) → set-limit ≤ bit (getD s i 0) → Refuses s (in-codes set) i CODE i
+  codes-bad : set-limit ≤ bit c → Refuses s (in-codes set) at CODE at
   unfolding step move extend fault begins begun body-begins refuse
-  codes-bad set h = record { scan = λ l v k n. faulty s i n w (after l v (codes set), k) (after l v (codes (bitOr set (bit (getD s i 0)))), k) CODE (rw e) (rw e (rw (le-leb set-limit (bit (getD s i 0)) h))) }
+  codes-bad h = record { scan = λ l v k n. faulty s at n (is .kind .within) (after l v (codes set), k) (after l v (codes (bitOr set (bit (getD s at 0)))), k) CODE (rw (is .kind .kind)) (rw (is .kind .kind) (rw (le-leb set-limit (bit (getD s at 0)) (rw (is .value) at h)))) }
 
--- where the loop over letters stands
-pub record Coding (s : Bytes) (i at set : ℕ) : Type 0 where
-  pub small : set < set-limit
-  pub on : i ≤ at
-  pub within : at ≤ length s
-  pub scan : Passes s (in-codes 0) i (in-codes set) at
+-- where the loop over letters stands: each one was a code, or the last was none
+pub record Coding (s : Bytes) (i : ℕ) (at : Cursor) (set : ℕ) : Type 0 where
+  pub on : i < at .at
+  pub within : at .at ≤ length s
+  pub passes : set < set-limit → Passes s (in-codes 0) i (in-codes set) (at .at)
+  pub refuses : set-limit ≤ set → Refuses s (in-codes 0) i CODE (at .at - 1)
 
-pub coding-start : (s : Bytes) (i : ℕ) → i ≤ length s → Coding s i i 0
-coding-start s i h = record { small = omega arith; on = omega arith; within = h; scan = record { scan = λ l v k n. refl } }
+coding-next : (s : Bytes) (i at c : ℕ) (next : Cursor) → LetterIs s at c next → i ≤ at → (set : ℕ) → set < set-limit → Passes s (in-codes 0) i (in-codes set) at → Coding s i next (bitOr set (bit c))
+coding-next s i at c next is o set h p = record {
+  on = omega (arith, is .kind .past);
+  within = omega (arith, is .kind .past, is .kind .within);
+  passes = λ g. record { scan = λ l v k n. p .scan l v k n ∙ codes-next s at c next is set (omega (arith, or-add-and set (bit c), and-le-l set (bit c))) .scan l v k n };
+  refuses = λ g.
+      let f : set-limit ≤ bit c = ⊎-elim (λ x. x) (λ x. absurd (omega (arith, or-lt 7 set (bit c) h x))) (le-or-lt set-limit (bit c)) in
+      rw (letter-place s at c next is) (record { scan = λ l v k n. p .scan l v k n ∙ codes-bad s at c next is set f .scan l v k n });
+}
 
-module _ (s : Bytes) (i at set : ℕ) (c : Coding s i at set) (r : Letter) (read : LetterRead s at r) where
-  module _ (b x : ℕ) (next : Cursor) (e : r ≡ letters.Is b next) (is : x ≡ bit b) where
-    letter-read : LetterRead s at (letters.Is b next)
-    letter-read = subst (λ r. LetterRead s at r) e read
+pub coding-start : (s : Bytes) (i c x : ℕ) (next : Cursor) → LetterIs s i c next → x ≡ bit c → Coding s i next x
+coding-start s i c x next is e = rw (e, ← or-zero-l (bit c)) (coding-next s i i c next is (omega arith) 0 (omega arith) (record { scan = λ l v k n. refl }))
 
-    pub coding-past : (at < next .at) × (next .at ≤ length s)
-    unfolding LetterRead
-    coding-past = let (k, v) = letter-read in (omega (arith, k .past), omega (arith, k .past, k .within))
+module _ (s : Bytes) (i : ℕ) (at : Cursor) (set : ℕ) (c : Coding s i at set) where
+  pub coding-fault : set-limit ≤ set → CodesRead s i (sets.Fault (at .at - 1))
+  unfolding CodesRead
+  coding-fault h = c .refuses h
 
-    pub coding-more : x < set-limit → Coding s i (next .at) (bitOr set x)
-    unfolding LetterRead
-    coding-more h =
-        let (k, v) = letter-read in
-        let y : x ≡ bit (getD s at 0) = is ∙ ap bit v in
-        let (p, q) = coding-past in
-        record {
-          small = or-lt 7 set x (c .small) h;
-          on = omega (arith, c .on);
-          within = q;
-          scan = record { scan = λ l u a n. c .scan .scan l u a n ∙ rw (k .past, y) (codes-next s at (k .within) (k .kind) set (rw y at h) .scan l u a n) };
-        }
+  module _ (small : set < set-limit) (r : Class) (read : ClassRead s (at .at) r) where
+    pub coding-more : (b x : ℕ) (next : Cursor) → r ≡ class.Letter b next → x ≡ bit b → Coding s i next (bitOr set x)
+    coding-more b x next e f = rw f (coding-next s i (at .at) b next (class-letter s (at .at) r b next e read) (omega (arith, c .on)) set small (c .passes small))
 
-    pub coding-fault : set-limit ≤ x → CodesRead s i (sets.Fault at)
-    unfolding LetterRead CodesRead
-    coding-fault h =
-        let (k, v) = letter-read in
-        let y : x ≡ bit (getD s at 0) = is ∙ ap bit v in
-        record { scan = λ l u a n. c .scan .scan l u a n ∙ codes-bad s at (k .within) (k .kind) set (rw y at h) .scan l u a n }
-
-  pub coding-end : (next : Cursor) → next .at ≡ at → r ≡ letters.None → CodesRead s i (sets.Set set next)
-  unfolding LetterRead CodesRead
-  coding-end next f e = rw f (c .small, c .on, c .within, c .scan, subst (λ r. LetterRead s at r) e read)
+    pub coding-end : ¬ (tagOf the-type r ≡ 0) → CodesRead s i (sets.Set set at)
+    unfolding CodesRead
+    coding-end d = (small, omega (arith, c .on), c .within, c .passes small, class-none s (at .at) r d read)
 
 -- where the loop over a literal's bytes stands
 pub record Quoting (s : Bytes) (i p : ℕ) (pool pool′ : Bytes) (at end : ℕ) : Type 0 where

@@ -1,4 +1,4 @@
-mod Places
+pub mod Places
 mod Pass
 pub mod Steps
 mod Texts

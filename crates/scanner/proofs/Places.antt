@@ -1,11 +1,12 @@
 -- What the byte at a place says of it. Assumes nothing.
 use mathlib.Core.Path.{_≡_, refl, sym, ap, _∙_, subst}
 use mathlib.Core.Bool.{Bool, true, false, not, cond}
-use Prim.Native.Nat.{ℕ, _≤_, _<_}
+use Prim.Native.Nat.{ℕ, _-_, _≤_, _<_}
 use native.Mathlib.Omega.{arith}
 use lib.Dec.{leb, eqb}
 use lib.ListN.{length}
 use borrow.Author.Tests.{leb-true, lt-ltb, le-ltb}
+use denote.Enum.Declared.{tagOf}
 use Rattle.pattern.specs.Bytes.{Bytes, between}
 use Rattle.pattern.specs.Spelling.{letter, quote, opening, digit, point, Kind, counts, starts, ends, kind, text}
 use Rattle.pattern.proofs.Tests.{agree, agreed, all, all-at}
@@ -13,7 +14,10 @@ use Rattle.pattern.proofs.Notation.{Byte as Spelt, kind-byte}
 use Rattle.scanner.specs.declared.cursor.Cursor.{Cursor}
 use Rattle.scanner.specs.declared.cursor.Byte.{Byte}
 use Rattle.scanner.specs.declared.cursor.Byte.the-variants as byte
-use Rattle.scanner.specs.Places.{digit-kind, letter-kind, is-digit, is-letter, is-plain, count-flag, flag, ByteIs, KindIs, Kind-not, ByteRead}
+use Rattle.scanner.specs.declared.cursor.Class.{Class}
+use Rattle.scanner.specs.declared.cursor.Class.the-variants as class
+use Rattle.scanner.specs.Places.{digit-kind, letter-kind, is-digit, is-letter, is-plain, count-flag, flag, ByteIs, KindIs, LetterIs, Kind-not, ByteRead, ClassRead}
+use Rattle.scanner.proofs.cursor.Class.{the-type}
 
 -- the code's tests of a byte, each compared at all 256 of them
 pub digit-test : (b : ℕ) → b < 256 → cond (leb 48 b) (leb b 57) false ≡ is-digit b
@@ -95,8 +99,8 @@ module _ (s : Bytes) (at : ℕ) where
     not-kind x d = record { not = λ l. rw (is .value) at d }
 
     -- by the code's test for a letter
-    pub letter-here : (t : Bool) → t ≡ is-letter c → t ≡ true → KindIs s at (starts letter) next
-    letter-here t e f = of-kind (starts letter) (letter-is c (sym e ∙ f))
+    pub letter-here : (t : Bool) → t ≡ is-letter c → t ≡ true → LetterIs s at c next
+    letter-here t e f = record { kind = of-kind (starts letter) (letter-is c (sym e ∙ f)); value = is .value }
 
     pub no-letter : (t : Bool) → t ≡ is-letter c → t ≡ false → Kind-not s at (starts letter)
     no-letter t e f = not-kind (starts letter) (letter-not c (sym e ∙ f))
@@ -121,3 +125,19 @@ flag-other b e d = go (kind b) (digit-not b e) (only-at b 46 (counts point) (λ 
     go (counts point) u v = absurd (v refl)
     go (starts x) u v = refl
     go (ends x) u v = refl
+
+-- a letter stands before the cursor past it
+pub letter-place : (s : Bytes) (at c : ℕ) (next : Cursor) → LetterIs s at c next → next .at - 1 ≡ at
+letter-place s at c next is = omega (arith, is .kind .past)
+
+-- by the cases of what a body begins with: a letter, or none
+pub class-letter : (s : Bytes) (at : ℕ) (r : Class) (c : ℕ) (next : Cursor) → r ≡ class.Letter c next → ClassRead s at r → LetterIs s at c next
+unfolding ClassRead
+class-letter s at r c next e h = subst (λ r. ClassRead s at r) e h
+
+pub class-none : (s : Bytes) (at : ℕ) (r : Class) → ¬ (tagOf the-type r ≡ 0) → ClassRead s at r → Kind-not s at (starts letter)
+unfolding ClassRead
+class-none s at (class.Letter c next) d h = absurd (d refl)
+class-none s at (class.Quote next) d h = record { not = λ l e. let z = h .kind in let y : _≡_ {A = ℕ} 0 1 = cc in omega arith }
+class-none s at (class.Opening next) d h = record { not = λ l e. let z = h .kind in let y : _≡_ {A = ℕ} 0 1 = cc in omega arith }
+class-none s at class.Other d h = h .0

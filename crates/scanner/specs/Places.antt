@@ -1,10 +1,10 @@
--- What stands at a place of a source: the promises of the cursor's methods. Assumes nothing.
+-- What stands at a place of a source: the promises of the cursor's methods and of `last`. Assumes nothing.
 use mathlib.Core.Path.{_≡_}
 use mathlib.Core.Bool.{Bool, true, false, cond}
 use Prim.Native.Nat.{ℕ, suc, _-_, _≤_, _<_}
 use lib.Dec.{ltb}
 use lib.ListN.{length, getD}
-use Rattle.pattern.specs.Numbers.{opening-byte, closing-byte, comma-byte, zero-byte}
+use Rattle.pattern.specs.Numbers.{closing-byte, comma-byte, zero-byte}
 use Rattle.pattern.specs.Bytes.{Bytes}
 use Rattle.pattern.specs.Spelling.{letter, quote, opening, digit, point, Kind, counts, starts, ends, kind, Text, plain, quoting, barred, text}
 use Rattle.scanner.specs.declared.cursor.Cursor.{Cursor}
@@ -12,8 +12,6 @@ use Rattle.scanner.specs.declared.cursor.Byte.{Byte}
 use Rattle.scanner.specs.declared.cursor.Byte.the-variants as byte
 use Rattle.scanner.specs.declared.cursor.Digit.{Digit}
 use Rattle.scanner.specs.declared.cursor.Digit.the-variants as digits
-use Rattle.scanner.specs.declared.cursor.Letter.{Letter}
-use Rattle.scanner.specs.declared.cursor.Letter.the-variants as letters
 use Rattle.scanner.specs.declared.cursor.Point.{Point}
 use Rattle.scanner.specs.declared.cursor.Point.the-variants as points
 use Rattle.scanner.specs.declared.cursor.Class.{Class}
@@ -78,6 +76,11 @@ pub record KindIs (s : Bytes) (at : ℕ) (x : Kind) (next : Cursor) : Type 0 whe
   pub kind : kind-at s at ≡ x
   pub past : next .at ≡ suc at
 
+-- the byte at a place is the letter c, and this is the cursor past it
+pub record LetterIs (s : Bytes) (at c : ℕ) (next : Cursor) : Type 0 where
+  pub kind : KindIs s at (starts letter) next
+  pub value : c ≡ getD s at 0
+
 -- no byte of this kind stands at a place
 pub record Kind-not (s : Bytes) (at : ℕ) (x : Kind) : Type 0 where
   pub not : at < length s → ¬ (kind-at s at ≡ x)
@@ -90,18 +93,14 @@ unfoldable pub DigitRead : Bytes → ℕ → Digit → Type 0
 DigitRead s at (digits.Is d next) = KindIs s at (counts digit) next × (d ≡ getD s at 0 - zero-byte) × (d ≤ 9)
 DigitRead s at digits.None = Kind-not s at (counts digit)
 
-unfoldable pub LetterRead : Bytes → ℕ → Letter → Type 0
-LetterRead s at (letters.Is c next) = KindIs s at (starts letter) next × (c ≡ getD s at 0)
-LetterRead s at letters.None = Kind-not s at (starts letter)
-
 unfoldable pub PointRead : Bytes → ℕ → Point → Type 0
 PointRead s at (points.Is next) = KindIs s at (counts point) next
 PointRead s at points.None = Kind-not s at (counts point)
 
 unfoldable pub ClassRead : Bytes → ℕ → Class → Type 0
-ClassRead s at class.Letter = (at < length s) × (kind-at s at ≡ starts letter)
+ClassRead s at (class.Letter c next) = LetterIs s at c next
 ClassRead s at (class.Quote next) = KindIs s at (starts quote) next
-ClassRead s at (class.Opening next) = ByteIs s at opening-byte next
+ClassRead s at (class.Opening next) = KindIs s at (starts opening) next
 ClassRead s at class.Other = Kind-not s at (starts letter) × Kind-not s at (starts quote) × Kind-not s at (starts opening)
 
 unfoldable pub SeparatorRead : Bytes → ℕ → Separator → Type 0

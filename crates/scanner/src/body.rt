@@ -1,9 +1,10 @@
 // Code letters and literals.
-ghost use Prim.Native.Nat.{_≤_};
+ghost use Prim.Native.Nat.{_-_, _≤_};
 ghost use lib.ListN.{length};
+ghost use Rattle.scanner.specs.Places.{LetterIs};
 ghost use Rattle.scanner.specs.Bodies.{CodesRead, LiteralRead};
+use crate::cursor::Class;
 use crate::cursor::Cursor;
-use crate::cursor::Letter;
 use crate::cursor::Text;
 use pattern::limits::SET_LIMIT;
 
@@ -19,25 +20,21 @@ pub enum Literal {
     Fault(usize),
 }
 
-pub fn codes_from(s: &[u8], c: Cursor) -> Letters
-    requires { ⌜ c .at ≤ length (now s) ⌝ }
-    ensures { λ r. ⌜ CodesRead (now (s .entry)) (c .at) r ⌝ }
+// The run of letters that begins with the one before the cursor. One that is no code takes the set to its limit.
+pub fn codes_from(s: &[u8], first: u8, c: Cursor) -> Letters
+    requires { ⌜ LetterIs (now s) (c .at - 1) first c ⌝ }
+    ensures { λ r. ⌜ CodesRead (now (s .entry)) (c .at - 1) r ⌝ }
 {
     let mut at = c;
-    let mut set: u8 = 0;
-    loop {
-        match at.letter(s) {
-            Letter::Is(b, next) => {
-                let bit = codes::bit(b);
-                if SET_LIMIT <= bit {
-                    return Letters::Fault(at.at);
-                }
-                set |= bit;
-                at = next;
-            }
-            Letter::None => return Letters::Set(set, at),
-        }
+    let mut set = codes::bit(first);
+    while set < SET_LIMIT {
+        let Class::Letter(b, next) = at.class(s) else {
+            return Letters::Set(set, at);
+        };
+        set |= codes::bit(b);
+        at = next;
     }
+    Letters::Fault(at.at - 1)
 }
 
 // The rest of a literal after its first quote; its value goes to the pool from p on.

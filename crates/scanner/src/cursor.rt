@@ -1,7 +1,7 @@
-// A place in the source, by value: a method answers what it took there beside the advanced cursor.
-// `last`, and `class` at a letter, only look and take nothing.
+// A place in the source, by value. Each method answers the byte or digit read there beside the advanced cursor; a point, quote,
+// parenthesis or comma is a case of its own. A case in which nothing was read carries nothing.
 ghost use mathlib.Core.Path.{_≡_};
-ghost use Rattle.scanner.specs.Places.{is-digit, is-letter, is-plain, flag, ByteRead, DigitRead, PointRead, LetterRead, ClassRead, SeparatorRead};
+ghost use Rattle.scanner.specs.Places.{is-digit, is-letter, is-plain, flag, ByteRead, DigitRead, PointRead, ClassRead, SeparatorRead};
 ghost use Rattle.scanner.specs.Bodies.{TextRead};
 
 pub struct Cursor {
@@ -18,20 +18,15 @@ pub enum Digit {
     None,
 }
 
-pub enum Letter {
-    Is(u8, Cursor),
-    None,
-}
-
 // Whether the point of a count stands at a cursor.
 pub enum Point {
     Is(Cursor),
     None,
 }
 
-// With what a body begins; a letter stays to be read.
+// With what a body begins, or goes on if it is of letters.
 pub enum Class {
-    Letter,
+    Letter(u8, Cursor),
     Quote(Cursor),
     Opening(Cursor),
     Other,
@@ -124,46 +119,13 @@ impl Cursor {
         }
     }
 
-    pub fn letter(self, s: &[u8]) -> Letter
-        ensures { λ r. ⌜ LetterRead (now (s .entry)) (self .at) r ⌝ }
-    {
-        match self.byte(s) {
-            Byte::Is(b, next) => {
-                if is_letter(b) {
-                    Letter::Is(b, next)
-                } else {
-                    Letter::None
-                }
-            }
-            Byte::End => Letter::None,
-        }
-    }
-
-    // 0 where an atom begins at the cursor, else 1: then the atom before it is the last of its branch.
-    pub fn last(self, s: &[u8]) -> u8
-        ensures { λ r. ⌜ r ≡ flag (now (s .entry)) (self .at) ⌝ }
-    {
-        match self.byte(s) {
-            Byte::Is(b, _) => {
-                if is_digit(b) {
-                    0
-                } else if b == b'.' {
-                    0
-                } else {
-                    1
-                }
-            }
-            Byte::End => 1,
-        }
-    }
-
     pub fn class(self, s: &[u8]) -> Class
         ensures { λ r. ⌜ ClassRead (now (s .entry)) (self .at) r ⌝ }
     {
         match self.byte(s) {
             Byte::Is(b, next) => {
                 if is_letter(b) {
-                    Class::Letter
+                    Class::Letter(b, next)
                 } else if b == b'"' {
                     Class::Quote(next)
                 } else if b == b'(' {
@@ -217,5 +179,23 @@ impl Cursor {
             }
             Byte::End => Text::Broken,
         }
+    }
+}
+
+// 0 where an atom begins at the cursor, else 1: then the atom before it is the last of its branch.
+pub fn last(s: &[u8], at: Cursor) -> u8
+    ensures { λ r. ⌜ r ≡ flag (now (s .entry)) (at .at) ⌝ }
+{
+    match at.byte(s) {
+        Byte::Is(b, _) => {
+            if is_digit(b) {
+                0
+            } else if b == b'.' {
+                0
+            } else {
+                1
+            }
+        }
+        Byte::End => 1,
     }
 }

@@ -5,8 +5,9 @@ use Prim.Native.Nat.{_+_}
 use native.Mathlib.Omega.{arith}
 use borrow.Author.Needs.{needs}
 use Rattle.scanner.specs.Counts.{CountIs}
+use Rattle.scanner.proofs.Places.{class-letter}
 use Rattle.compiler.specs.Readers.{Ready, Room}
-use Rattle.compiler.proofs.Readers.{reach, count-is, quote-is, atom-fault, atom-coded, atom-worded, atom-other, opening-is, atom-deep, group-ready, atom-group-fault, atom-group, group-is, atom-is, pattern-is, Going, going-start, going-fault, going-last, going-more, comma-is, Branching, branching-start, branching-fault, branching-other, branching-close, branching-more, count-few}
+use Rattle.compiler.proofs.Readers.{reach, count-is, quote-is, letter-before, atom-fault, atom-coded, atom-worded, atom-other, opening-is, atom-deep, group-ready, atom-group-fault, atom-group, group-is, atom-is, pattern-is, Going, going-start, going-fault, going-last, going-more, comma-is, Branching, branching-start, branching-fault, branching-other, branching-close, branching-more, count-few}
 use Prim.Native.Nat.{ℕ, _<_}
 use borrow.Fn.Kinds.{In}
 use borrow.Fn.PlainCycle.{Measures, is, falls, and}
@@ -22,7 +23,7 @@ use Rattle.compiler.proofs.reader.+read_atom+read_group+read_pattern.Lt
 use Rattle.compiler.proofs.copy.put_record.Reads as put-record-reads
 use Rattle.scanner.proofs.count.count.Reads as count-reads
 use Rattle.scanner.proofs.cursor.Cursor.class.Reads as class-reads
-use Rattle.scanner.proofs.cursor.Cursor.last.Reads as last-reads
+use Rattle.scanner.proofs.cursor.last.Reads as last-reads
 use Rattle.scanner.proofs.cursor.Cursor.separator.Reads as separator-reads
 use Rattle.compiler.proofs.reader.coded.Reads as coded-reads
 use Rattle.compiler.proofs.reader.worded.Reads as worded-reads
@@ -94,13 +95,15 @@ read-atom-enum-known-rep t c = search needs
 read-atom-class-requires : (t : ℕ) → read-atom-lts.Need-class-requires (read-atom-claims t) (read-atom-at t) read-atom.Post
 read-atom-class-requires t c κs = search needs
 
-read-atom-enum-told : (t : ℕ) → read-atom-lts.Need-enum-told (read-atom-claims t) (read-atom-at t) read-atom.Post
-read-atom-enum-told t c = search needs
+read-atom-enum-known-b : (t : ℕ) → read-atom-lts.Need-enum-known-b (read-atom-claims t) (read-atom-at t) read-atom.Post
+read-atom-enum-known-b t c = search needs
 
 read-atom-coded-requires : (t : ℕ) → read-atom-lts.Need-coded-requires (read-atom-claims t) (read-atom-at t) read-atom.Post
 read-atom-coded-requires t c κs =
-    let there = c .before .before .before .before in
-    let k = read-atom-counted t there in let r = read-atom-ready t there in let m = read-atom-room t there in record { within = k .onward .within; atoms = k .room; pool = omega (arith, r .pool, k .onward .on); source = m .source; recs-fit = m .recs-fit }
+    let after-b = c .before .before in
+    let after-class = after-b .before .before in
+    let there = after-class .before in
+    let k = read-atom-counted t there in let r = read-atom-ready t there in let m = read-atom-room t there in let y = class-letter _ _ _ _ _ (after-b .b .given .1) (after-class .class .ensures) in (letter-before _ _ _ _ y, record { within = omega (arith, y .kind .within, y .kind .past); atoms = k .room; pool = omega (arith, r .pool, k .onward .on, y .kind .past); source = m .source; recs-fit = m .recs-fit })
 
 read-atom-enum-known-after : (t : ℕ) → read-atom-lts.Need-enum-known-after (read-atom-claims t) (read-atom-at t) read-atom.Post
 read-atom-enum-known-after t c = search needs
@@ -119,7 +122,7 @@ read-atom-returns : (t : ℕ) → read-atom-lts.Need-returns (read-atom-claims t
 read-atom-returns t c =
     let after-class = c .before .before .before .before in
     let there = after-class .before in
-    atom-deep _ _ _ _ _ (read-atom-ready t there) _ _ (read-atom-counted t there) _ (after-class .class .ensures) _ (c .before .before .after2 .given .1) _ _ (c .if1 .taken)
+    atom-deep _ _ _ _ _ (read-atom-ready t there) _ _ (read-atom-counted t there) _ (after-class .class .ensures) _ (c .before .before .after2 .given .1) _ _ (omega (arith, c .if1 .taken))
 
 read-atom-add-read-group : (t : ℕ) → read-atom-lts.Need-add-read-group (read-atom-claims t) (read-atom-at t) read-atom.Post
 read-atom-add-read-group t c = let k = read-atom-counted t (c .before .before .before .before .before) in omega (arith, k .room)
@@ -156,8 +159,8 @@ read-atom-put-record-requires t c κs =
 read-atom-enum-known-no : (t : ℕ) → read-atom-lts.Need-enum-known-no (read-atom-claims t) (read-atom-at t) read-atom.Post
 read-atom-enum-known-no t c = search needs
 
-read-atom-enum-told-2 : (t : ℕ) → read-atom-lts.Need-enum-told-2 (read-atom-claims t) (read-atom-at t) read-atom.Post
-read-atom-enum-told-2 t c = search needs
+read-atom-enum-told : (t : ℕ) → read-atom-lts.Need-enum-told (read-atom-claims t) (read-atom-at t) read-atom.Post
+read-atom-enum-told t c = search needs
 
 read-atom-enum-known-no-2 : (t : ℕ) → read-atom-lts.Need-enum-known-no-2 (read-atom-claims t) (read-atom-at t) read-atom.Post
 read-atom-enum-known-no-2 t c = search needs
@@ -167,10 +170,10 @@ read-atom-same-length t c = search needs
 
 read-atom-returns-2 : (t : ℕ) → read-atom-lts.Need-returns-2 (read-atom-claims t) (read-atom-at t) read-atom.Post
 read-atom-returns-2 t c =
-    let after-enum-told = c .before .before .before .before in
-    let after-class = after-enum-told .before .before in
+    let after-b = c .before .before .before .before .before in
+    let after-class = after-b .before .before in
     let there = after-class .before in
-    atom-coded _ _ _ _ _ (read-atom-ready t there) _ _ (read-atom-counted t there) _ (after-class .class .ensures) _ _ (after-enum-told .enum-told .given .1) (c .before .before .coded .ensures)
+    atom-coded _ _ _ _ _ (read-atom-ready t there) _ _ (read-atom-counted t there) _ (after-class .class .ensures) _ _ _ _ (after-b .b .given .1) (c .before .before .coded .ensures)
 
 read-atom-same-length-2 : (t : ℕ) → read-atom-lts.Need-same-length-2 (read-atom-claims t) (read-atom-at t) read-atom.Post
 read-atom-same-length-2 t c = search needs
@@ -219,7 +222,7 @@ read-atom-returns-5 t c =
     atom-group-fault _ _ _ _ _ (read-atom-ready t there) _ _ (read-atom-counted t there) _ (after-class .class .ensures) _ (after-after2 .after2 .given .1) (omega (arith, after-if1 .if1 .left)) _ _ _ _ _ (c .before .no .given .1) (after-read-group .read-group .ensures)
 
 read-atom-returns-6 : (t : ℕ) → read-atom-lts.Need-returns-6 (read-atom-claims t) (read-atom-at t) read-atom.Post
-read-atom-returns-6 t c = atom-other _ _ _ _ _ (read-atom-ready t (c .before .before .before)) _ _ (read-atom-counted t (c .before .before .before)) _ (c .before .before .class .ensures) _ _ (c .enum-told2 .given .1)
+read-atom-returns-6 t c = atom-other _ _ _ _ _ (read-atom-ready t (c .before .before .before)) _ _ (read-atom-counted t (c .before .before .before)) _ (c .before .before .class .ensures) _ _ (c .enum-told .given .1)
 
 read-atom-returns-7 : (t : ℕ) → read-atom-lts.Need-returns-7 (read-atom-claims t) (read-atom-at t) read-atom.Post
 read-atom-returns-7 t c = atom-fault _ _ _ _ _ _ _ _ _ _ (c .before .no2 .given .1) (c .before .before .before .count .ensures)
@@ -410,7 +413,7 @@ pub +read-atom+read-group+read-pattern-spec : {M : Type 1} → statement M
     (read-atom-count-requires t)
     (read-atom-enum-known-rep t)
     (read-atom-class-requires t)
-    (read-atom-enum-told t)
+    (read-atom-enum-known-b t)
     (read-atom-coded-requires t)
     (read-atom-enum-known-after t)
     (read-atom-worded-requires t)
@@ -425,7 +428,7 @@ pub +read-atom+read-group+read-pattern-spec : {M : Type 1} → statement M
     (read-atom-cast-put-record-2 t)
     (read-atom-put-record-requires t)
     (read-atom-enum-known-no t)
-    (read-atom-enum-told-2 t)
+    (read-atom-enum-told t)
     (read-atom-enum-known-no-2 t)
     (read-atom-same-length t)
     (read-atom-returns-2 t)

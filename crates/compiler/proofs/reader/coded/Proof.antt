@@ -19,8 +19,8 @@ cast-put-record c = search needs
 put-record-requires : tie.Need-put-record-requires
 put-record-requires c κs = search needs
 
-add-t17 : tie.Need-add-t17
-add-t17 c = search needs
+add-t18 : tie.Need-add-t18
+add-t18 c = search needs
 
 enum-known-pos : tie.Need-enum-known-pos
 enum-known-pos c = search needs
@@ -34,7 +34,7 @@ returns c =
     let after-set = after-last .before .before .before in
     let after-codes-from = after-set .before .before in
     let start = after-codes-from .before .before .before in
-    coded-done _ _ _ _ _ _ _ _ (after-codes-from .codes-from .ensures) _ _ _ (after-set .set .given .1) (after-last .last .ensures) (c .before .before .put-record .ensures) (start .pre .pool)
+    coded-done _ _ _ _ _ _ _ _ (after-codes-from .codes-from .ensures) _ _ _ (after-set .set .given .1) (after-last .last .ensures) (c .before .before .put-record .ensures) (start .pre .1 .pool)
 
 returns-2 : tie.Need-returns-2
 returns-2 c = coded-fault _ _ _ _ _ _ _ _ (c .before .before .before .codes-from .ensures) _ (c .before .pos .given .1)
@@ -48,7 +48,7 @@ coded-spec =
     last-requires
     cast-put-record
     put-record-requires
-    add-t17
+    add-t18
     enum-known-pos
     same-length
     returns

@@ -3,7 +3,7 @@ use mathlib.Core.Path.{ap}
 use Rattle.pattern.specs.Bytes.{between}
 use Rattle.pattern.specs.Spelling.{letter, quote, opening, starts, kind}
 use Rattle.scanner.specs.Places.{ClassRead}
-use Rattle.scanner.proofs.Places.{byte-is, end-not, of-kind, of-byte, letter-here, no-letter, not-only}
+use Rattle.scanner.proofs.Places.{byte-is, end-not, of-kind, letter-here, no-letter, not-only}
 use borrow.Author.Needs.{needs}
 use Rattle.scanner.proofs.cursor.Cursor.class.Statement.{statement}
 use Rattle.scanner.proofs.cursor.Cursor.class.Tie as tie
@@ -22,15 +22,15 @@ enum-told c = search needs
 
 returns : tie.Need-returns
 unfolding ClassRead
-returns c = let b = (byte-is _ _ _ _ _ (c .before .before .before .b .given .1) (c .before .before .before .before .before .byte .ensures)) in let k = letter-here _ _ _ _ b _ (c .before .is-letter .ensures) (c .if1 .taken) in (k .within, k .kind)
+returns c = letter-here _ _ _ _ (byte-is _ _ _ _ _ (c .before .before .before .b .given .1) (c .before .before .before .before .before .byte .ensures)) _ (c .before .is-letter .ensures) (c .if1 .taken)
 
 returns-2 : tie.Need-returns-2
 unfolding ClassRead kind between
 returns-2 c = of-kind _ _ _ _ (byte-is _ _ _ _ _ (c .before .before .before .before .b .given .1) (c .before .before .before .before .before .before .byte .ensures)) (starts quote) (ap kind (c .if2 .taken))
 
 returns-3 : tie.Need-returns-3
-unfolding ClassRead
-returns-3 c = of-byte _ _ _ _ _ (c .before .before .before .before .before .b .given .1) (c .before .before .before .before .before .before .before .byte .ensures) _ (c .if3 .taken)
+unfolding ClassRead kind between
+returns-3 c = of-kind _ _ _ _ (byte-is _ _ _ _ _ (c .before .before .before .before .before .b .given .1) (c .before .before .before .before .before .before .before .byte .ensures)) (starts opening) (ap kind (c .if3 .taken))
 
 returns-4 : tie.Need-returns-4
 unfolding ClassRead

@@ -1,12 +1,12 @@
--- `Cursor::last` meets its contract. Assumes nothing.
+-- `cursor::last` meets its contract. Assumes nothing.
 use mathlib.Core.Path.{sym, ap, _∙_}
 use Rattle.pattern.specs.Bytes.{between}
 use Rattle.pattern.specs.Spelling.{kind}
 use Rattle.scanner.specs.Places.{count-flag}
 use Rattle.scanner.proofs.Places.{byte-is, byte-end, digit-is, flag-is, flag-end, flag-other}
 use borrow.Author.Needs.{needs}
-use Rattle.scanner.proofs.cursor.Cursor.last.Statement.{statement}
-use Rattle.scanner.proofs.cursor.Cursor.last.Tie as tie
+use Rattle.scanner.proofs.cursor.last.Statement.{statement}
+use Rattle.scanner.proofs.cursor.last.Tie as tie
 
 byte-requires : tie.Need-byte-requires
 byte-requires c κs = search needs
