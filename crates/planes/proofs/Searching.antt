@@ -6,9 +6,9 @@ use native.Mathlib.Omega.{arith}
 use Rattle.pattern.specs.Decision.{any}
 use Rattle.pattern.specs.Trials.{tries}
 use Rattle.planes.specs.declared.join.Search.{Search}
-use Rattle.planes.specs.declared.join.Search.the-variants.{Found, Missing}
+use Rattle.planes.specs.declared.join.Search.the-variants.{Found, Missing, Stopped}
 
--- p is asked how far an end is from i: the trials still to be made and those made are those of the whole search
+-- the ends m down to i are still to be tried; p is asked how far an end is from i
 pub record SearchAt (p : ℕ → Bool) (i j budget trials spent m : ℕ) : Type 0 where
   pub from : i ≤ m
   pub to : m ≤ j
@@ -22,9 +22,11 @@ pub record Searched (p : ℕ → Bool) (i j budget trials spent : ℕ) (f : Bool
   pub count : spent ≡ trials + tries (suc j - i) p
   pub finds : any (suc j - i) p ≡ f
 
-abbrev pub is-found : Search → Bool
-is-found (Found m) = true
-is-found Missing = false
+-- what the search answers, after spent trials
+abbrev pub Says : (p : ℕ → Bool) (i j budget trials spent : ℕ) → Search → Type 0
+Says p i j budget trials spent (Found m) = Searched p i j budget trials spent true
+Says p i j budget trials spent Missing = Searched p i j budget trials spent false
+Says p i j budget trials spent Stopped = budget < trials + tries (suc j - i) p
 
 module _ (p : ℕ → Bool) where
   tries-none : tries 0 p ≡ 0
@@ -62,49 +64,48 @@ module _ (p : ℕ → Bool) where
       unfolding any
       any-miss = rw e
 
-module _ (p : ℕ → Bool) (i j budget trials : ℕ) where
-  pub search-start : i ≤ j → trials ≤ budget → SearchAt p i j budget trials trials j
-  search-start h l = record { from = h; to = omega arith; within = l; count = refl; same = refl }
+pub search-start : {p : ℕ → Bool} {i j budget trials : ℕ} → i ≤ j → trials ≤ budget → SearchAt p i j budget trials trials j
+search-start h l = record { from = h; to = omega arith; within = l; count = refl; same = refl }
 
-  module _ (spent m : ℕ) (inv : SearchAt p i j budget trials spent m) where
-    left : suc m - i ≡ suc (m - i)
-    left = omega (arith, inv .from)
+module _ {p : ℕ → Bool} {i j budget trials spent m : ℕ} (inv : SearchAt p i j budget trials spent m) where
+  left : suc m - i ≡ suc (m - i)
+  left = omega (arith, inv .from)
 
-    count : spent + tries (suc (m - i)) p ≡ trials + tries (suc j - i) p
-    count = rw left at (inv .count)
+  count : spent + tries (suc (m - i)) p ≡ trials + tries (suc j - i) p
+  count = rw left at (inv .count)
 
-    same : any (suc (m - i)) p ≡ any (suc j - i) p
-    same = rw left at (inv .same)
+  same : any (suc (m - i)) p ≡ any (suc j - i) p
+  same = rw left at (inv .same)
 
-    pub search-stop : spent ≡ budget → budget < trials + tries (suc j - i) p
-    search-stop e = omega (arith, count, tries-some p (m - i))
+  pub search-stop : spent ≡ budget → Says p i j budget trials spent Stopped
+  search-stop e = omega (arith, count, tries-some p (m - i))
 
-    module _ (n : spent ≡ budget → ⊥) where
-      pub search-hit : p (m - i) ≡ true → Searched p i j budget trials (spent + 1) true
-      search-hit e = record {
-        within = omega (arith, inv .within);
-        count = omega (arith, count, tries-hit p (m - i) e);
-        finds = sym same ∙ any-hit p (m - i) e;
-      }
+  module _ (n : spent ≡ budget → ⊥) where
+    pub search-hit : p (m - i) ≡ true → Says p i j budget trials (spent + 1) (Found m)
+    search-hit e = record {
+      within = omega (arith, inv .within);
+      count = omega (arith, count, tries-hit p (m - i) e);
+      finds = sym same ∙ any-hit p (m - i) e;
+    }
 
-      module _ (e : p (m - i) ≡ false) where
-        pub search-none : m ≡ i → Searched p i j budget trials (spent + 1) false
-        search-none z =
-            let o : m - i ≡ 0 = omega arith in
-            let none : tries (m - i) p ≡ 0 = rw o (tries-none p) in
-            record {
-              within = omega (arith, inv .within);
-              count = omega (arith, count, tries-miss p (m - i) e);
-              finds = sym same ∙ any-miss p (m - i) e ∙ rw o (any-none p);
-            }
+    module _ (e : p (m - i) ≡ false) where
+      pub search-none : m ≡ i → Says p i j budget trials (spent + 1) Missing
+      search-none z =
+          let o : m - i ≡ 0 = omega arith in
+          let none : tries (m - i) p ≡ 0 = rw o (tries-none p) in
+          record {
+            within = omega (arith, inv .within);
+            count = omega (arith, count, tries-miss p (m - i) e);
+            finds = sym same ∙ any-miss p (m - i) e ∙ rw o (any-none p);
+          }
 
-        pub search-next : (m ≡ i → ⊥) → SearchAt p i j budget trials (spent + 1) (m - 1)
-        search-next z =
-            let o : suc (m - 1) - i ≡ m - i = omega (arith, inv .from) in
-            record {
-              from = omega (arith, inv .from);
-              to = omega (arith, inv .to);
-              within = omega (arith, inv .within);
-              count = rw o (omega (arith, count, tries-miss p (m - i) e));
-              same = rw o (sym (any-miss p (m - i) e) ∙ same);
-            }
+      pub search-next : (m ≡ i → ⊥) → SearchAt p i j budget trials (spent + 1) (m - 1)
+      search-next z =
+          let o : suc (m - 1) - i ≡ m - i = omega (arith, inv .from) in
+          record {
+            from = omega (arith, inv .from);
+            to = omega (arith, inv .to);
+            within = omega (arith, inv .within);
+            count = rw o (omega (arith, count, tries-miss p (m - i) e));
+            same = rw o (sym (any-miss p (m - i) e) ∙ same);
+          }

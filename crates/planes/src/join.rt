@@ -6,10 +6,11 @@ use crate::cells::blank;
 use crate::cells::byte;
 use crate::cells::mark;
 
-// What a search over ends found: an end, or none.
+// What a search over ends found: the end, or none, or that the budget ran out.
 pub enum Search {
     Found(usize),
     Missing,
+    Stopped,
 }
 
 // The trials so far, and whether the budget ran out.
@@ -19,8 +20,8 @@ pub struct Tally {
 }
 
 // The join of left and right into out: it holds of i to j where some m has left on i to m and right on m to j. The ends m are
-// tried from j down, each trial counted against the budget. What right says of m to j stands in row j too, so both cells of
-// a trial are read along a row.
+// tried from j down to i, each trial counted against the budget. What right says of m to j stands in row j too, so both cells
+// of a trial are read along a row.
 pub fn join(
     scratch: &mut [u8],
     w: usize,
@@ -42,10 +43,7 @@ pub fn join(
             let mut m = j;
             let found = loop {
                 if spent == budget {
-                    return Tally {
-                        trials: spent,
-                        stopped: true,
-                    };
+                    break Search::Stopped;
                 }
                 spent += 1;
                 if byte(scratch, w, left, i, m) & byte(scratch, w, right, j, m) != 0 {
@@ -56,8 +54,13 @@ pub fn join(
                 }
                 m -= 1;
             };
-            if let Search::Found(_) = found {
-                mark(scratch, w, out, i, j, true);
+            match found {
+                Search::Found(_) => mark(scratch, w, out, i, j, true),
+                Search::Missing => {}
+                Search::Stopped => return Tally {
+                    trials: budget,
+                    stopped: true,
+                },
             }
             i += 1;
         }
