@@ -1,5 +1,4 @@
 // Joins of two planes into a third: every trial is made here, and counted against the budget.
-ghost use mathlib.Core.Path.{_≡_};
 ghost use Prim.Native.Nat.{_≤_};
 ghost use Rattle.planes.specs.Joined.{Ready, Joined};
 use crate::cells::blank;
@@ -7,7 +6,7 @@ use crate::cells::byte;
 use crate::cells::mark;
 
 // What a search over ends found: the end, or none, or that the budget ran out.
-pub enum Search {
+enum Search {
     Found(usize),
     Missing,
     Stopped,
