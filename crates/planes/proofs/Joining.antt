@@ -6,20 +6,20 @@ use mathlib.Core.Logic.{⊎-elim}
 use Prim.Native.Nat.{ℕ, suc, _+_, _-_, _≤_, _<_}
 use native.Mathlib.Nat.{eq-or-lt-of-le}
 use native.Mathlib.Omega.{arith}
+use lib.Bits.{bitAnd}
 use lib.ListN.{length}
 use Rattle.pattern.specs.Decision.{trial, join, any}
 use Rattle.pattern.specs.Trials.{tries}
-use Rattle.planes.specs.declared.join.Search.{Search}
-use Rattle.planes.specs.declared.join.Search.the-variants.{Found, Missing, Stopped}
+use Rattle.planes.specs.declared.join.Search.the-variants.{Found, Missing}
 use Rattle.planes.specs.declared.join.Tally.{Tally}
-use Rattle.planes.specs.Cells.{Tells, Plane, Kept, Others, on, bitOf, marked}
-use Rattle.planes.specs.Seek.{seek}
+use Rattle.planes.specs.Cells.{cell, Tells, Plane, Kept, Others, on, bitOf, marked}
+use Rattle.planes.specs.Budget.{Counted}
 use Rattle.planes.specs.Whole.{Blanked}
-use Rattle.planes.specs.Joined.{column-trials, join-trials, Ready, Vacant, Off, Columned, Joined}
-use Rattle.planes.proofs.Planes.{Same, Beside, mark-long, mark-tells, mark-kept, kept-all, kept-then, kept-less, tells-same, tells-kept, plane-same, on-kept, read-kept}
+use Rattle.planes.specs.Joined.{column-trials, join-trials, Ready, Joined}
+use Rattle.planes.proofs.Planes.{Same, Beside, mark-long, mark-tells, mark-kept, kept-all, kept-then, kept-less, tells-same, tells-kept, plane-same, on-kept, read-kept, trial-hit, trial-miss}
 use Rattle.planes.proofs.Relations.{tries-same, any-same, trial-same, join-same, join-trials-same, column-same}
 use Rattle.planes.proofs.Counting.{Counting, count-start, count-step, count-stop, count-end, counted-whole, counted-over}
-use Rattle.planes.proofs.Seeking.{Says, seek-says}
+use Rattle.planes.proofs.Searching.{SearchAt, Searched, Says, search-hit, search-none, search-next}
 
 -- a join that could be made still can
 ready-kept : {s s′ : List ℕ} {w left right out N : ℕ} → length s′ ≡ length s → Kept s s′ w N (Others out) → Ready s w left right out → Ready s′ w left right out
@@ -32,145 +32,159 @@ ready-kept e k h = record {
   not-right = h .not-right;
 }
 
+-- ---- the stretches that end at j
+
+-- the cells of plane p that speak of no stretch that ends at j, and those of the other planes
+abbrev Off : ℕ → ℕ → ℕ → ℕ → ℕ → Type 0
+Off p j q a b = q ≡ p → (a ≤ b → b ≡ j → ⊥) × (b ≤ a → a ≡ j → ⊥)
+
+-- those that begin before i are stored; s₀ is the list as it was before the first
 pub record ColumnAt (s₀ : List ℕ) (w left right out j budget trials : ℕ) (s : List ℕ) (spent i : ℕ) : Type 0 where
+  pub ready : Ready s₀ w left right out
+  pub inside : j < w
   pub counting : Counting (λ a. tries (suc j - a) (trial (on s₀ w left) (on s₀ w right) a j)) (suc j) budget trials spent i
   pub long : length s ≡ length s₀
   pub done : (a : ℕ) → a < i → Tells s w out a j (join (on s₀ w left) (on s₀ w right) a j)
   pub ahead : (a : ℕ) → i ≤ a → a ≤ j → Tells s w out a j false
   pub kept : Kept s₀ s w (out + 1) (Off out j)
 
-module _ (s₀ : List ℕ) (w left right out j budget trials : ℕ) where
-  pub column-start : trials ≤ budget → Vacant s₀ w out j → ColumnAt s₀ w left right out j budget trials s₀ trials 0
-  column-start h v = record {
-    counting = count-start _ (suc j) budget trials h;
-    long = refl;
-    done = λ a l. absurd (omega arith);
-    ahead = λ a l m. v .none a m;
-    kept = kept-all s₀ w (out + 1) (Off out j);
-  }
+module _ {s₀ : List ℕ} {w left right out j budget trials : ℕ} {s : List ℕ} {spent i : ℕ} (inv : ColumnAt s₀ w left right out j budget trials s spent i) where
+  others : Kept s₀ s w (out + 1) (Others out)
+  others = kept-less (out + 1) (out + 1) (omega arith) (inv .kept) (λ q a b n e. absurd (n e))
 
-  module _ (hj : j < w) (ok : Ready s₀ w left right out) (s : List ℕ) (spent i : ℕ) (inv : ColumnAt s₀ w left right out j budget trials s spent i) where
-    others : Kept s₀ s w (out + 1) (Others out)
-    others = kept-less (out + 1) (out + 1) (omega arith) (inv .kept) (λ q a b n e. absurd (n e))
+  pub column-ready : Ready s w left right out
+  column-ready = ready-kept (inv .long) others (inv .ready)
 
-    pub column-ready : Ready s w left right out
-    column-ready = ready-kept (inv .long) others ok
+  -- a trial at m is the test `&` of two cells
+  module _ {t m : ℕ} (at : SearchAt (trial (on s w left) (on s w right) i j) i j budget spent t m) (n : t ≡ budget → ⊥) where
+    pub trial-held : (bitAnd (cell s w left i m) (cell s w right j m) ≡ 0 → ⊥) → Says (trial (on s w left) (on s w right) i j) i j budget spent (t + 1) (Found m)
+    trial-held h = search-hit at n (trial-hit s w left right (column-ready .from-left .flags) (column-ready .from-right .flags) i m j (at .from) (at .to) (inv .inside) h)
 
-    pub column-end : j < i → Columned s₀ s w left right out j budget trials record { trials = spent; stopped = false }
+    module _ (h : bitAnd (cell s w left i m) (cell s w right j m) ≡ 0) where
+      missed : trial (on s w left) (on s w right) i j (m - i) ≡ false
+      missed = trial-miss s w left right (column-ready .from-left .flags) (column-ready .from-right .flags) i m j (at .from) (at .to) (inv .inside) h
+
+      pub trial-none : m ≡ i → Says (trial (on s w left) (on s w right) i j) i j budget spent (t + 1) Missing
+      trial-none = search-none at n missed
+
+      pub trial-next : (m ≡ i → ⊥) → SearchAt (trial (on s w left) (on s w right) i j) i j budget spent (t + 1) (m - 1)
+      trial-next = search-next at n missed
+
+  column-end : j < i → Counted budget (trials + column-trials (on s₀ w left) (on s₀ w right) j) spent false
+  unfolding column-trials
+  column-end h = count-end _ (suc j) budget trials spent i (inv .counting) (omega arith)
+
+  module _ (more : i ≤ j) where
+    same-trial : (d : ℕ) → d < suc j - i → trial (on s w left) (on s w right) i j d ≡ trial (on s₀ w left) (on s₀ w right) i j d
+    same-trial = trial-same w _ _ _ _ (on-kept others (λ a b. inv .ready .not-left)) (on-kept others (λ a b. inv .ready .not-right)) i j more (inv .inside)
+
+    tried : tries (suc j - i) (trial (on s w left) (on s w right) i j) ≡ tries (suc j - i) (trial (on s₀ w left) (on s₀ w right) i j)
+    tried = tries-same _ _ (suc j - i) same-trial
+
+    found : any (suc j - i) (trial (on s w left) (on s w right) i j) ≡ join (on s₀ w left) (on s₀ w right) i j
+    unfolding join
+    found = any-same _ _ (suc j - i) same-trial
+
+    column-stop : budget < spent + tries (suc j - i) (trial (on s w left) (on s w right) i j) → Counted budget (trials + column-trials (on s₀ w left) (on s₀ w right) j) budget true
     unfolding column-trials
-    column-end h = record {
-      counted = count-end _ (suc j) budget trials spent i (inv .counting) (omega arith);
-      whole = λ _ a l. inv .done a (omega arith);
-      kept = inv .kept;
-    }
+    column-stop over = count-stop _ (suc j) budget trials spent i (inv .counting) (omega arith) _ tried _ _ (counted-over over) refl
 
-    module _ (more : i ≤ j) (r : Search) (got : r ≡ seek (trial (on s w left) (on s w right) i j) i budget (suc j - i) spent) where
-      same-trial : (d : ℕ) → d < suc j - i → trial (on s w left) (on s w right) i j d ≡ trial (on s₀ w left) (on s₀ w right) i j d
-      same-trial = trial-same w _ _ _ _ (on-kept others (λ a b. ok .not-left)) (on-kept others (λ a b. ok .not-right)) i j more hj
-
-      tried : tries (suc j - i) (trial (on s w left) (on s w right) i j) ≡ tries (suc j - i) (trial (on s₀ w left) (on s₀ w right) i j)
-      tried = tries-same _ _ (suc j - i) same-trial
-
-      found : any (suc j - i) (trial (on s w left) (on s w right) i j) ≡ join (on s₀ w left) (on s₀ w right) i j
-      unfolding join
-      found = any-same _ _ (suc j - i) same-trial
-
-      says : Says budget (spent + tries (suc j - i) (trial (on s w left) (on s w right) i j)) (any (suc j - i) (trial (on s w left) (on s w right) i j)) r
-      says = rw got (seek-says (trial (on s w left) (on s w right) i j) i budget (suc j - i) spent (inv .counting .within))
-
-      pub column-stop : r ≡ Stopped → Columned s₀ s w left right out j budget trials record { trials = budget; stopped = true }
-      unfolding column-trials
-      column-stop e = record {
-        counted = count-stop _ (suc j) budget trials spent i (inv .counting) (omega arith) _ tried _ _ (counted-over (rw e at says)) refl;
-        whole = λ x. absurd (let z : _≡_ {A = Bool} true false = x in let y : _≡_ {A = ℕ} 0 1 = cc in omega arith);
-        kept = inv .kept;
-      }
-
-      -- the search came to an end with t trials; f says whether it found one
-      column-step : (t : ℕ) (f : Bool) → (t ≡ spent + tries (suc j - i) (trial (on s w left) (on s w right) i j)) × (spent + tries (suc j - i) (trial (on s w left) (on s w right) i j) ≤ budget) × (any (suc j - i) (trial (on s w left) (on s w right) i j) ≡ f)
-          → (s′ : List ℕ) → length s′ ≡ length s → Tells s′ w out i j f → Kept s s′ w (out + 1) (Beside out i j) → ColumnAt s₀ w left right out j budget trials s′ t (i + 1)
-      column-step t f (e, h, finds) s′ len here k =
+    -- the search is over with t trials; f says whether it found an end
+    module _ {t : ℕ} {f : Bool} (got : Searched (trial (on s w left) (on s w right) i j) i j budget spent t f) where
+      column-step : (s′ : List ℕ) → length s′ ≡ length s → Tells s′ w out i j f → Kept s s′ w (out + 1) (Beside out i j) → ColumnAt s₀ w left right out j budget trials s′ t (i + 1)
+      column-step s′ len here k =
           let other : (a : ℕ) → a ≤ j → (a ≡ i → ⊥) → (b : Bool) → Tells s w out a j b → Tells s′ w out a j b
-          = λ a l n b. tells-kept k l hj (λ _. (λ y _. n y, λ y z. omega arith), λ _. (λ y z. omega arith, λ _ z. n z)) in
+          = λ a l n b. tells-kept k l (inv .inside) (λ _. (λ y _. n y, λ y z. omega arith), λ _. (λ y z. omega arith, λ _ z. n z)) in
           record {
-            counting = count-step _ (suc j) budget trials spent i (inv .counting) (omega arith) _ tried t false (rw e (counted-whole h)) refl;
+            ready = inv .ready;
+            inside = inv .inside;
+            counting = count-step _ (suc j) budget trials spent i (inv .counting) (omega arith) _ tried t false (rw (← got .count) (counted-whole (got .within))) refl;
             long = len ∙ inv .long;
-            done = λ a l. ⊎-elim (λ z. rw z (tells-same here (sym finds ∙ found))) (λ z. other a (omega arith) (λ y. omega arith) _ (inv .done a z)) (eq-or-lt-of-le (let y : a ≤ i = omega arith in y));
+            done = λ a l. ⊎-elim (λ z. rw z (tells-same here (sym (got .finds) ∙ found))) (λ z. other a (omega arith) (λ y. omega arith) _ (inv .done a z)) (eq-or-lt-of-le (let y : a ≤ i = omega arith in y));
             ahead = λ a l m. other a m (λ y. omega arith) _ (inv .ahead a (omega arith) m);
             kept = kept-then (inv .kept) k (λ q a b n. n) (λ q a b n x. (λ y z. n x .0 (omega arith) z, λ y z. n x .1 (omega arith) y));
           }
 
-      pub column-found : (m t : ℕ) → r ≡ Found m t → ColumnAt s₀ w left right out j budget trials (marked s w out i j (bitOf true)) t (i + 1)
-      column-found m t e =
-          column-step t true (rw e at says) (marked s w out i j (bitOf true)) (mark-long w out i j s (bitOf true)) (mark-tells w out i j more hj s true (column-ready .into)) (mark-kept w out i j more hj s true)
+    pub column-found : {t : ℕ} → Searched (trial (on s w left) (on s w right) i j) i j budget spent t true → ColumnAt s₀ w left right out j budget trials (marked s w out i j (bitOf true)) t (i + 1)
+    column-found got =
+        column-step got (marked s w out i j (bitOf true)) (mark-long w out i j s (bitOf true)) (mark-tells w out i j more (inv .inside) s true (column-ready .into)) (mark-kept w out i j more (inv .inside) s true)
 
-      pub column-missing : (t : ℕ) → r ≡ Missing t → ColumnAt s₀ w left right out j budget trials s t (i + 1)
-      column-missing t e = column-step t false (rw e at says) s refl (inv .ahead i (omega arith) more) (kept-all _ _ _ _)
+    pub column-missing : {t : ℕ} → Searched (trial (on s w left) (on s w right) i j) i j budget spent t false → ColumnAt s₀ w left right out j budget trials s t (i + 1)
+    column-missing got = column-step got s refl (inv .ahead i (omega arith) more) (kept-all _ _ _ _)
 
 -- ---- all ends
 
+-- the stretches that end before j are stored; s₀ is the list as it was before the first
 pub record PlaneAt (s₀ : List ℕ) (w left right out budget trials : ℕ) (s : List ℕ) (spent j : ℕ) : Type 0 where
+  pub ready : Ready s₀ w left right out
   pub counting : Counting (column-trials (on s₀ w left) (on s₀ w right)) w budget trials spent j
   pub long : length s ≡ length s₀
   pub done : (a b : ℕ) → a ≤ b → b < j → Tells s w out a b (join (on s₀ w left) (on s₀ w right) a b)
   pub ahead : (a b : ℕ) → a ≤ b → j ≤ b → b < w → Tells s w out a b false
   pub kept : Kept s₀ s w (out + 1) (Others out)
 
-module _ (s₀ : List ℕ) (w left right out budget trials : ℕ) where
-  pub plane-start : trials ≤ budget → Plane s₀ w out (λ i j. false) → PlaneAt s₀ w left right out budget trials s₀ trials 0
-  plane-start h v = record {
-    counting = count-start _ w budget trials h;
-    long = refl;
-    done = λ a b l m. absurd (omega arith);
-    ahead = λ a b l m n. v .holds a b l n;
-    kept = kept-all s₀ w (out + 1) (Others out);
+pub plane-start : {s₀ : List ℕ} {w left right out budget trials : ℕ} → Ready s₀ w left right out → trials ≤ budget → Plane s₀ w out (λ i j. false) → PlaneAt s₀ w left right out budget trials s₀ trials 0
+plane-start ok h v = record {
+  ready = ok;
+  counting = count-start _ _ _ _ h;
+  long = refl;
+  done = λ a b l m. absurd (omega arith);
+  ahead = λ a b l m n. v .holds a b l n;
+  kept = kept-all _ _ _ _;
+}
+
+module _ {s₀ : List ℕ} {w left right out budget trials : ℕ} {s : List ℕ} {spent j : ℕ} (inv : PlaneAt s₀ w left right out budget trials s spent j) where
+  pub plane-end : w ≤ j → Joined s₀ s w left right out budget trials record { trials = spent; stopped = false }
+  unfolding join-trials
+  plane-end h = record {
+    counted = count-end _ w budget trials spent j (inv .counting) h;
+    whole = λ _. record { holds = λ a b l m. inv .done a b l (omega arith) };
+    kept = inv .kept;
   }
 
-  module _ (ok : Ready s₀ w left right out) (s : List ℕ) (spent j : ℕ) (inv : PlaneAt s₀ w left right out budget trials s spent j) where
-    pub plane-ready : Ready s w left right out
-    plane-ready = ready-kept (inv .long) (inv .kept) ok
-
-    pub plane-vacant : j < w → Vacant s w out j
-    plane-vacant more = record { none = λ a l. inv .ahead a j l (omega arith) more }
-
-    pub plane-end : w ≤ j → Joined s₀ s w left right out budget trials record { trials = spent; stopped = false }
-    unfolding join-trials
-    plane-end h = record {
-      counted = count-end _ w budget trials spent j (inv .counting) h;
-      whole = λ _. record { holds = λ a b l m. inv .done a b l (omega arith) };
-      kept = inv .kept;
+  module _ (more : j < w) where
+    pub column-start : ColumnAt s w left right out j budget spent s spent 0
+    column-start = record {
+      ready = ready-kept (inv .long) (inv .kept) (inv .ready);
+      inside = more;
+      counting = count-start _ (suc j) budget spent (inv .counting .within);
+      long = refl;
+      done = λ a l. absurd (omega arith);
+      ahead = λ a l m. inv .ahead a j m (omega arith) more;
+      kept = kept-all _ _ _ _;
     }
 
-    module _ (more : j < w) (s′ : List ℕ) (r : Tally) (got : Columned s s′ w left right out j budget spent r) where
-      left-same : Same w (on s w left) (on s₀ w left)
-      left-same = on-kept (inv .kept) (λ a b. ok .not-left)
+    left-same : Same w (on s w left) (on s₀ w left)
+    left-same = on-kept (inv .kept) (λ a b. inv .ready .not-left)
 
-      right-same : Same w (on s w right) (on s₀ w right)
-      right-same = on-kept (inv .kept) (λ a b. ok .not-right)
+    right-same : Same w (on s w right) (on s₀ w right)
+    right-same = on-kept (inv .kept) (λ a b. inv .ready .not-right)
 
-      columns-tried : column-trials (on s w left) (on s w right) j ≡ column-trials (on s₀ w left) (on s₀ w right) j
-      columns-tried = column-same w _ _ _ _ left-same right-same j more
+    columns-tried : column-trials (on s w left) (on s w right) j ≡ column-trials (on s₀ w left) (on s₀ w right) j
+    columns-tried = column-same w _ _ _ _ left-same right-same j more
 
+    module _ {s′ : List ℕ} {t i : ℕ} (column : ColumnAt s w left right out j budget spent s′ t i) where
       all-kept : Kept s₀ s′ w (out + 1) (Others out)
-      all-kept = kept-then (inv .kept) (got .kept) (λ q a b n. n) (λ q a b n x. absurd (n x))
+      all-kept = kept-then (inv .kept) (column .kept) (λ q a b n. n) (λ q a b n x. absurd (n x))
 
-      pub plane-stop : r .stopped ≡ true → Joined s₀ s′ w left right out budget trials r
+      pub plane-stop : i ≤ j → budget < t + tries (suc j - i) (trial (on s′ w left) (on s′ w right) i j) → Joined s₀ s′ w left right out budget trials record { trials = budget; stopped = true }
       unfolding join-trials
-      plane-stop e = record {
-        counted = count-stop _ w budget trials spent j (inv .counting) more _ columns-tried _ _ (got .counted) e;
-        whole = λ x. absurd (let z : _≡_ {A = ℕ} 0 1 = cc in omega arith);
+      plane-stop here over = record {
+        counted = count-stop _ w budget trials spent j (inv .counting) more _ columns-tried _ _ (column-stop column here over) refl;
+        whole = λ x. absurd (let z : _≡_ {A = Bool} true false = x in let y : _≡_ {A = ℕ} 0 1 = cc in omega arith);
         kept = all-kept;
       }
 
       other : (a b : ℕ) → a ≤ b → b < w → (b ≡ j → ⊥) → (x : Bool) → Tells s w out a b x → Tells s′ w out a b x
-      other a b l m n x = tells-kept (got .kept) l m (λ _. (λ _ y. n y, λ y z. omega arith), λ _. (λ y z. omega arith, λ _ y. n y))
+      other a b l m n x = tells-kept (column .kept) l m (λ _. (λ _ y. n y, λ y z. omega arith), λ _. (λ y z. omega arith, λ _ y. n y))
 
-      pub plane-step : length s′ ≡ length s → r .stopped ≡ false → PlaneAt s₀ w left right out budget trials s′ (r .trials) (j + 1)
-      plane-step len e = record {
-        counting = count-step _ w budget trials spent j (inv .counting) more _ columns-tried _ _ (got .counted) e;
-        long = len ∙ inv .long;
+      pub plane-step : j < i → PlaneAt s₀ w left right out budget trials s′ t (j + 1)
+      plane-step past = record {
+        ready = inv .ready;
+        counting = count-step _ w budget trials spent j (inv .counting) more _ columns-tried _ _ (column-end column past) refl;
+        long = column .long ∙ inv .long;
         done = λ a b l m. ⊎-elim
-            (λ z. let y : a ≤ j = omega arith in rw z (tells-same (got .whole e a y) (join-same w _ _ _ _ left-same right-same a j y more)))
+            (λ z. let y : a ≤ j = omega arith in rw z (tells-same (column .done a (omega arith)) (join-same w _ _ _ _ left-same right-same a j y more)))
             (λ z. other a b l (omega arith) (λ y. omega arith) _ (inv .done a b l z))
             (eq-or-lt-of-le (let y : b ≤ j = omega arith in y));
         ahead = λ a b l m n. other a b l n (λ y. omega arith) _ (inv .ahead a b l (omega arith) n);

@@ -2,7 +2,7 @@ pub mod Planes
 pub mod Passes
 pub mod Counting
 pub mod Relations
-pub mod Seeking
+pub mod Searching
 pub mod Joining
 pub mod Slices
 pub mod Filling

@@ -6,7 +6,7 @@ use Prim.Native.Nat.{ℕ, suc, _+_, _-_, _≤_}
 use Rattle.pattern.specs.Decision.{Rel, trial, join}
 use Rattle.pattern.specs.Trials.{tries, sum}
 use Rattle.planes.specs.declared.join.Tally.{Tally}
-use Rattle.planes.specs.Cells.{InRoom, Readable, Tells, Plane, Kept, Others, on}
+use Rattle.planes.specs.Cells.{InRoom, Readable, Plane, Kept, Others, on}
 use Rattle.planes.specs.Budget.{Counted}
 
 -- the trials of the stretches that end at j, and of all stretches below w: `joins n` is `join-trials (suc n)`
@@ -25,20 +25,7 @@ pub record Ready (s : List ℕ) (w left right out : ℕ) : Type 0 where
   pub not-left : left ≡ out → ⊥
   pub not-right : right ≡ out → ⊥
 
--- plane p has no stretch that ends at j
-pub record Vacant (s : List ℕ) (w p j : ℕ) : Type 0 where
-  pub none : (i : ℕ) → i ≤ j → Tells s w p i j false
-
--- the cells of plane p that speak of no stretch that ends at j, and those of the other planes
-abbrev pub Off : ℕ → ℕ → ℕ → ℕ → ℕ → Type 0
-Off p j q a b = q ≡ p → (a ≤ b → b ≡ j → ⊥) × (b ≤ a → a ≡ j → ⊥)
-
 -- s and s′ are the lists before and after
-pub record Columned (s s′ : List ℕ) (w left right out j budget trials : ℕ) (r : Tally) : Type 0 where
-  pub counted : Counted budget (trials + column-trials (on s w left) (on s w right) j) (r .trials) (r .stopped)
-  pub whole : r .stopped ≡ false → (i : ℕ) → i ≤ j → Tells s′ w out i j (join (on s w left) (on s w right) i j)
-  pub kept : Kept s s′ w (out + 1) (Off out j)
-
 pub record Joined (s s′ : List ℕ) (w left right out budget trials : ℕ) (r : Tally) : Type 0 where
   pub counted : Counted budget (trials + join-trials w (on s w left) (on s w right)) (r .trials) (r .stopped)
   pub whole : r .stopped ≡ false → Plane s′ w out (join (on s w left) (on s w right))

@@ -1,6 +1,5 @@
 pub mod Cells
 pub mod Budget
-pub mod Seek
 pub mod Joined
 pub mod Whole
 pub mod Filled

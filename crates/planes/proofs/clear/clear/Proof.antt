@@ -12,7 +12,7 @@ abbrev Inv-loop : tie.InvT-loop
 Inv-loop scratch₀ len k₀ scratch k = (k ≤ len) × (length scratch ≡ length scratch₀) × (scratch ≡ replicate k 0 ++ drop k scratch₀)
 
 abbrev μ-loop : tie.MeasureT-loop
-μ-loop scratch₀ len k₀ scratch k = len - k
+μ-loop scratch₀ len k₀ scratch k = length scratch₀ - k
 
 loop-holds : tie.Need-loop-holds Inv-loop μ-loop
 loop-holds c = (omega arith, refl, fill-none _ 0)

@@ -1,10 +1,28 @@
--- `planes::join::join` meets its contract. The invariant of its loop is `PlaneAt`, and the steps are laws of ``Joining``. Assumes nothing.
-use mathlib.Core.Path.{_∙_}
-use Prim.Native.Nat.{_-_}
+-- `planes::join::join` meets its contract. The invariants of its loops are `PlaneAt`, `ColumnAt` and `SearchAt`, and the steps are laws of ``Joining`` and ``Searching``. Assumes nothing.
+use mathlib.Core.Path.{_≡_, _∙_}
+use mathlib.Core.Logic.{⊎-elim}
+use Prim.Native.Nat.{suc, _-_}
 use native.Mathlib.Omega.{arith}
-use Rattle.planes.proofs.Joining.{PlaneAt, plane-start, plane-ready, plane-vacant, plane-end, plane-stop, plane-step, join-ready, join-blank}
+use borrow.Author.Needs.{needs}
+use lib.Bits.{bitAnd}
+use Rattle.pattern.specs.Decision.{trial}
+use Rattle.planes.specs.Cells.{on}
+use Rattle.planes.proofs.Searching.{SearchAt, Says, search-start, search-stop}
+use Rattle.planes.proofs.Joining.{PlaneAt, plane-start, plane-end, plane-stop, plane-step, ColumnAt, column-start, column-ready, trial-held, trial-none, trial-next, column-found, column-missing, join-ready, join-blank}
 use Rattle.planes.proofs.join.join.Statement.{statement}
 use Rattle.planes.proofs.join.join.Tie as tie
+
+abbrev Inv-loop3 : tie.InvT-loop3
+Inv-loop3 scratch w left right out budget trials spent₀ j i m₀ spent m = SearchAt (trial (on scratch w left) (on scratch w right) i j) i j budget spent₀ spent m
+
+abbrev μ-loop3 : tie.MeasureT-loop3
+μ-loop3 scratch w left right out budget trials spent₀ j i m₀ spent m = m
+
+abbrev Inv-loop2 : tie.InvT-loop2
+Inv-loop2 scratch₀ w left right out budget trials spent₀ j i₀ scratch spent i = ColumnAt scratch₀ w left right out j budget spent₀ scratch spent i
+
+abbrev μ-loop2 : tie.MeasureT-loop2
+μ-loop2 scratch₀ w left right out budget trials spent₀ j i₀ scratch spent i = suc j - i
 
 abbrev Inv-loop : tie.InvT-loop
 Inv-loop scratch₀ w left right out budget trials spent₀ j₀ scratch spent j = PlaneAt scratch₀ w left right out budget trials scratch spent j
@@ -12,62 +30,127 @@ Inv-loop scratch₀ w left right out budget trials spent₀ j₀ scratch spent j
 abbrev μ-loop : tie.MeasureT-loop
 μ-loop scratch₀ w left right out budget trials spent₀ j₀ scratch spent j = w - j
 
-blank-requires : tie.Need-blank-requires Inv-loop μ-loop
+blank-requires : tie.Need-blank-requires Inv-loop3 μ-loop3 Inv-loop2 μ-loop2 Inv-loop μ-loop
 blank-requires c κs = (c .before .before .pre .1 .wide, c .before .before .pre .1 .into)
 
-loop-holds : tie.Need-loop-holds Inv-loop μ-loop
-loop-holds c = plane-start _ _ _ _ _ _ _ (c .before .before .before .before .before .pre .0) (c .before .before .blank .ensures .plane)
+loop-holds : tie.Need-loop-holds Inv-loop3 μ-loop3 Inv-loop2 μ-loop2 Inv-loop μ-loop
+loop-holds c =
+    let b = c .before .before .blank in
+    let p = c .before .before .before .before .before .pre in
+    plane-start (join-ready (p .1) (b .ensures) (b .kept .0)) (p .0) (b .ensures .plane)
 
-join-column-requires : tie.Need-join-column-requires Inv-loop μ-loop
-join-column-requires c κs =
-    let after-blank = c .before .before .before .before .before in
-    let start = after-blank .before .before .before in
-    let ok = join-ready (start .pre .1) (after-blank .blank .ensures) (after-blank .blank .kept .0) in
-    let l = c .before .before .loop in
-    (c .before .loop-test .taken, (l .inv .counting .within, (plane-ready _ _ _ _ _ _ _ ok _ _ _ (l .inv), plane-vacant _ _ _ _ _ _ _ ok _ _ _ (l .inv) (c .before .loop-test .taken))))
+loop2-holds : tie.Need-loop2-holds Inv-loop3 μ-loop3 Inv-loop2 μ-loop2 Inv-loop μ-loop
+loop2-holds c = column-start (c .before .loop .inv) (c .loop-test .taken)
 
-same-length : tie.Need-same-length Inv-loop μ-loop
+loop3-holds : tie.Need-loop3-holds Inv-loop3 μ-loop3 Inv-loop2 μ-loop2 Inv-loop μ-loop
+loop3-holds c = search-start (c .loop2-test .taken) (c .before .loop2 .inv .counting .within)
+
+add-spent : tie.Need-add-spent Inv-loop3 μ-loop3 Inv-loop2 μ-loop2 Inv-loop μ-loop
+add-spent c = omega arith
+
+byte-requires : tie.Need-byte-requires Inv-loop3 μ-loop3 Inv-loop2 μ-loop2 Inv-loop μ-loop
+byte-requires c κs = (omega arith, (omega arith, column-ready (c .before .before .before .before .loop2 .inv) .from-left .room))
+
+byte-requires-2 : tie.Need-byte-requires-2 Inv-loop3 μ-loop3 Inv-loop2 μ-loop2 Inv-loop μ-loop
+byte-requires-2 c κs = (omega arith, (omega arith, column-ready (c .before .before .before .before .before .before .loop2 .inv) .from-right .room))
+
+sub-m : tie.Need-sub-m Inv-loop3 μ-loop3 Inv-loop2 μ-loop2 Inv-loop μ-loop
+sub-m c = omega arith
+
+loop3-less : tie.Need-loop3-less Inv-loop3 μ-loop3 Inv-loop2 μ-loop2 Inv-loop μ-loop
+loop3-less c = omega arith
+
+loop3-again : tie.Need-loop3-again Inv-loop3 μ-loop3 Inv-loop2 μ-loop2 Inv-loop μ-loop
+loop3-again c =
+    let search = c .before .before .before .before .before .before .before in
+    let second = c .before .before in
+    let first = second .before .before in
+    let h : bitAnd (first .byte .result) (second .byte2 .result) ≡ 0 = c .before .if2 .left in
+    trial-next (search .before .before .loop2 .inv) (search .loop3 .inv) (first .before .before .if1 .left) (rw (first .byte .ensures, second .byte2 .ensures) at h) (c .if3 .left)
+
+enum-told : tie.Need-enum-told Inv-loop3 μ-loop3 Inv-loop2 μ-loop2 Inv-loop μ-loop
+enum-told c = search needs
+
+mark-requires : tie.Need-mark-requires Inv-loop3 μ-loop3 Inv-loop2 μ-loop2 Inv-loop μ-loop
+mark-requires c κs =
+    let turn = c .before .before .before .before .before .before in
+    (omega arith, (omega arith, column-ready (turn .loop2 .inv) .into))
+
+enum-told-2 : tie.Need-enum-told-2 Inv-loop3 μ-loop3 Inv-loop2 μ-loop2 Inv-loop μ-loop
+enum-told-2 c = search needs
+
+enum-told-3 : tie.Need-enum-told-3 Inv-loop3 μ-loop3 Inv-loop2 μ-loop2 Inv-loop μ-loop
+enum-told-3 c = search needs
+
+-- what the search came to
+says : (c : tie.Joined1 Inv-loop3 μ-loop3 Inv-loop2 μ-loop2 Inv-loop μ-loop)
+    → let a = c .before .before .before .before .before .before .before .before .before .before .before .args in
+    let turn = c .before .before .before in
+    let s = turn .loop2 .scratch in
+    let j = turn .before .before .loop .j in
+    Says (trial (on s (a .w) (a .left)) (on s (a .w) (a .right)) (turn .loop2 .i) j) (turn .loop2 .i) j (a .budget) (turn .loop2 .spent) (c .if1 .spent) (c .if1 .found)
+says c =
+    let inv = c .before .loop3 .inv in
+    let column = c .before .before .before .loop2 .inv in
+    ⊎-elim
+    (λ w. rw (w .2) (search-stop inv (w .0 .taken)))
+    (⊎-elim
+    (λ w. let h : bitAnd (w .2 .result) (w .4 .result) ≡ 0 → ⊥ = w .5 .taken in rw (w .7, w .6) (trial-held column inv (w .0 .left) (rw (w .2 .ensures, w .4 .ensures) at h)))
+    (λ w. let h : bitAnd (w .2 .result) (w .4 .result) ≡ 0 = w .5 .left in rw (w .8, w .7) (trial-none column inv (w .0 .left) (rw (w .2 .ensures, w .4 .ensures) at h) (w .6 .taken))))
+    (c .if1 .came)
+
+same-length : tie.Need-same-length Inv-loop3 μ-loop3 Inv-loop2 μ-loop2 Inv-loop μ-loop
 same-length c =
-    let after-join-column = c .before .before .before in
-    let turn = after-join-column .before .before .before in
-    let after-blank = turn .before .before .before in
-    after-join-column .join-column .kept .0 ∙ turn .loop .inv .long ∙ after-blank .blank .kept .0
+    let turn = c .before .before .before .before .before in
+    let outer = turn .before .before in
+    turn .loop2 .inv .long ∙ outer .loop .inv .long ∙ outer .before .before .before .blank .kept .0
 
-returns : tie.Need-returns Inv-loop μ-loop
+returns : tie.Need-returns Inv-loop3 μ-loop3 Inv-loop2 μ-loop2 Inv-loop μ-loop
 returns c =
-    let after-join-column = c .before .before .before in
-    let after-loop-test = after-join-column .before .before in
-    let turn = after-loop-test .before in
-    let after-blank = turn .before .before .before in
-    let start = after-blank .before .before .before in
-    let ok = join-ready (start .pre .1) (after-blank .blank .ensures) (after-blank .blank .kept .0) in
-    join-blank (start .pre .1) (after-blank .blank .ensures) (plane-stop _ _ _ _ _ _ _ ok _ _ _ (turn .loop .inv) (after-loop-test .loop-test .taken) _ _ (after-join-column .join-column .ensures) (c .if1 .taken))
+    let ended = c .before .before in
+    let row = ended .before .before in
+    let turn = row .before in
+    let column = turn .before in
+    let outer = column .before in
+    let emptied = outer .before .before .before in
+    let got = says ended in
+    join-blank (emptied .before .before .before .pre .1) (emptied .blank .ensures)
+    (plane-stop (outer .loop .inv) (column .loop-test .taken) (turn .loop2 .inv) (row .loop2-test .taken) (rw (c .enum-told3 .given .1) at got))
 
-add-j : tie.Need-add-j Inv-loop μ-loop
+add-i : tie.Need-add-i Inv-loop3 μ-loop3 Inv-loop2 μ-loop2 Inv-loop μ-loop
+add-i c = omega arith
+
+loop2-less : tie.Need-loop2-less Inv-loop3 μ-loop3 Inv-loop2 μ-loop2 Inv-loop μ-loop
+loop2-less c = omega arith
+
+loop2-again : tie.Need-loop2-again Inv-loop3 μ-loop3 Inv-loop2 μ-loop2 Inv-loop μ-loop
+loop2-again c =
+    let row = c .before .before .before in
+    let turn = row .before in
+    let got = says (c .before) in
+    ⊎-elim
+    (λ w. rw (w .6, w .3 .ensures) (column-found (turn .loop2 .inv) (row .loop2-test .taken) (rw (w .1 .given .1) at got)))
+    (λ w. rw (w .2) (column-missing (turn .loop2 .inv) (row .loop2-test .taken) (rw (w .1 .given .1) at got)))
+    (c .match .came)
+
+add-j : tie.Need-add-j Inv-loop3 μ-loop3 Inv-loop2 μ-loop2 Inv-loop μ-loop
 add-j c = omega arith
 
-loop-less : tie.Need-loop-less Inv-loop μ-loop
+loop-less : tie.Need-loop-less Inv-loop3 μ-loop3 Inv-loop2 μ-loop2 Inv-loop μ-loop
 loop-less c = omega arith
 
-loop-again : tie.Need-loop-again Inv-loop μ-loop
-loop-again c =
-    let after-join-column = c .before .before .before in
-    let after-loop-test = after-join-column .before .before in
-    let turn = after-loop-test .before in
-    let after-blank = turn .before .before .before in
-    let start = after-blank .before .before .before in
-    let ok = join-ready (start .pre .1) (after-blank .blank .ensures) (after-blank .blank .kept .0) in
-    plane-step _ _ _ _ _ _ _ ok _ _ _ (turn .loop .inv) (after-loop-test .loop-test .taken) _ _ (after-join-column .join-column .ensures) (after-join-column .join-column .kept .0) (c .if1 .left)
+loop-again : tie.Need-loop-again Inv-loop3 μ-loop3 Inv-loop2 μ-loop2 Inv-loop μ-loop
+loop-again c = plane-step (c .before .before .before .loop .inv) (c .before .before .loop-test .taken) (c .before .loop2 .inv) (c .loop2-test .left)
 
-same-length-2 : tie.Need-same-length-2 Inv-loop μ-loop
+same-length-2 : tie.Need-same-length-2 Inv-loop3 μ-loop3 Inv-loop2 μ-loop2 Inv-loop μ-loop
 same-length-2 c = c .before .loop .inv .long ∙ c .before .before .before .before .blank .kept .0
 
-returns-2 : tie.Need-returns-2 Inv-loop μ-loop
+returns-2 : tie.Need-returns-2 Inv-loop3 μ-loop3 Inv-loop2 μ-loop2 Inv-loop μ-loop
 returns-2 c =
-    let after-blank = c .before .before .before .before in
-    let start = after-blank .before .before .before in
-    let ok = join-ready (start .pre .1) (after-blank .blank .ensures) (after-blank .blank .kept .0) in
-    join-blank (start .pre .1) (after-blank .blank .ensures) (plane-end _ _ _ _ _ _ _ ok _ _ _ (c .before .loop .inv) (c .loop-test .left))
+    let emptied = c .before .before .before .before in
+    join-blank (emptied .before .before .before .pre .1) (emptied .blank .ensures) (plane-end (c .before .loop .inv) (c .loop-test .left))
 
 pub join-spec : {M : Type 1} → statement M
-join-spec = tie.close (tie.spec Inv-loop μ-loop blank-requires loop-holds join-column-requires same-length returns add-j loop-less loop-again same-length-2 returns-2)
+join-spec =
+    tie.close
+    (tie.spec Inv-loop3 μ-loop3 Inv-loop2 μ-loop2 Inv-loop μ-loop blank-requires loop-holds loop2-holds loop3-holds add-spent byte-requires byte-requires-2 sub-m loop3-less loop3-again enum-told mark-requires enum-told-2 enum-told-3 same-length returns add-i loop2-less loop2-again add-j loop-less loop-again same-length-2 returns-2)
