@@ -5,11 +5,14 @@
  * bytes used as a verdict does.
  *
  * Each slice is lent with its true length; a length of 0 may come with a null pointer. Nothing that a call writes (table,
- * source, scratch, parts, answer) may share bytes with anything else lent to that call.
+ * source, scratch, parts, answer) may share bytes with anything else lent to that call. Nothing is allocated and the
+ * library has no data of its own: calls may run in any number of threads at once, each with its own slices to write.
  *
  * The answer area is MPT_ANSWER_SIZE bytes: four little-endian 64-bit numbers, position; table or source length, or verdict
  * (1 yes, 0 no); trials (with MPT_BUDGET the budget); 0. A shorter area gives MPT_ANSWER, looked at before all else, and
  * nothing is written; the bytes after the 32 stay as they were.
+ *
+ * docs/C.md has the order of refusals, what to do about each, and what is left in the lent slices.
  */
 #ifndef MPT_H
 #define MPT_H
@@ -46,10 +49,17 @@ enum {
     MPT_LABEL_MAX = 255    /* a label */
 };
 
-/* Scratch for a table of A atoms (its byte 5) and a label of n bytes. MPT_SCRATCH_MAX always suffices. */
+/* Scratch for a table of A atoms (its byte 5) and a label of n bytes, n at most MPT_LABEL_MAX: a longer label is refused
+ * before scratch is looked at. MPT_SCRATCH_MAX always suffices; it is 8,650,752 bytes, more than a usual stack. */
 #define MPT_SCRATCH_SIZE(A, n) ((2 * (size_t)(A) + 4) * ((size_t)(n) + 1) * ((size_t)(n) + 1))
 #define MPT_SCRATCH_MAX MPT_SCRATCH_SIZE(64, 255)
 
+/* A budget that is always enough for A atoms and n bytes, n at most MPT_LABEL_MAX: no match makes more trials. This macro and
+ * MPT_SCRATCH_SIZE use their arguments more than once. */
+#define MPT_BUDGET_ENOUGH(A, n) \
+    ((uint64_t)(A) * ((uint64_t)(n) + 1) * ((uint64_t)(n) + 1) * ((uint64_t)(n) + 2) * ((uint64_t)(n) + 3) / 6)
+
+/* The answer's value is the length of the table: lend the other calls that length, not the buffer's. */
 uint32_t mpt_compile(const uint8_t *source, size_t source_len, uint8_t *table, size_t table_len, uint8_t *answer,
                      size_t answer_len);
 
@@ -60,6 +70,55 @@ uint32_t mpt_write_back(const uint8_t *table, size_t table_len, uint8_t *source,
 uint32_t mpt_match(const uint8_t *table, size_t table_len, const uint8_t *label, size_t label_len, uint8_t *scratch,
                    size_t scratch_len, uint8_t *parts, size_t parts_len, uint64_t budget, uint8_t *answer,
                    size_t answer_len);
+
+/* Number k of the answer area, k from 0 to 3. After MPT_ANSWER the area has no answer. */
+static inline uint64_t mpt_answer_number(const uint8_t *answer, size_t k)
+{
+    uint64_t number = 0;
+    for (size_t byte = 8; byte > 0; byte--)
+        number = number << 8 | answer[8 * k + byte - 1];
+    return number;
+}
+
+/* Where the source is at fault, counted from 0; 0 for all else. */
+static inline uint64_t mpt_answer_position(const uint8_t *answer) { return mpt_answer_number(answer, 0); }
+
+/* The length of the table or source written; of a match 1 for yes, 0 for no. */
+static inline uint64_t mpt_answer_value(const uint8_t *answer) { return mpt_answer_number(answer, 1); }
+
+/* The trials of a match; with MPT_BUDGET the budget. */
+static inline uint64_t mpt_answer_trials(const uint8_t *answer) { return mpt_answer_number(answer, 2); }
+
+/* After yes, the stretch of top-level atom k, k from 0 on, is the label's bytes from begin up to, not including, end. */
+static inline size_t mpt_part_end(const uint8_t *parts, size_t k)
+{
+    return parts[2 * k] + (size_t)256 * parts[2 * k + 1];
+}
+
+static inline size_t mpt_part_begin(const uint8_t *parts, size_t k) { return k == 0 ? 0 : mpt_part_end(parts, k - 1); }
+
+/* The name of a refusal number, as MPT_LONG is LONG; NONE for 0, UNKNOWN for what is no refusal number. */
+static inline const char *mpt_refusal_name(uint32_t number)
+{
+    switch (number) {
+    case 0: return "NONE";
+    case MPT_LONG: return "LONG";
+    case MPT_FORM: return "FORM";
+    case MPT_CODE: return "CODE";
+    case MPT_NUMBER: return "NUMBER";
+    case MPT_RANGE: return "RANGE";
+    case MPT_ATOMS: return "ATOMS";
+    case MPT_DEPTH: return "DEPTH";
+    case MPT_ROOM: return "ROOM";
+    case MPT_ANSWER: return "ANSWER";
+    case MPT_TABLE: return "TABLE";
+    case MPT_LABEL: return "LABEL";
+    case MPT_WORK: return "WORK";
+    case MPT_PARTS: return "PARTS";
+    case MPT_BUDGET: return "BUDGET";
+    default: return "UNKNOWN";
+    }
+}
 
 #ifdef __cplusplus
 }

@@ -1,5 +1,7 @@
 /* A C client of libmpt.a: compiles, matches and writes back, and exits 1 on any surprise.
- * cc -std=c99 -pedantic -Wall -Wextra -Werror -I../../include client.c ../../target/staticlib/libmpt.a -o client */
+ * cc -std=c99 -pedantic -Wall -Wextra -Wconversion -Werror -I../../include client.c \
+ *    ../../target/staticlib/libmpt.a -o client
+ * A C++11 compiler takes it too. */
 
 #include <stdint.h>
 #include <stdio.h>
@@ -21,13 +23,13 @@ static void expect(int holds, const char *what)
     }
 }
 
-/* One of the four little-endian numbers of the answer area. */
-static uint64_t field(int at)
+/* The four numbers of the answer area; the fourth is always 0. */
+static void answered(uint64_t position, uint64_t value, uint64_t trials, const char *what)
 {
-    uint64_t value = 0;
-    for (int byte = 7; byte >= 0; byte--)
-        value = value << 8 | answer[8 * at + byte];
-    return value;
+    expect(mpt_answer_position(answer) == position, what);
+    expect(mpt_answer_value(answer) == value, what);
+    expect(mpt_answer_trials(answer) == trials, what);
+    expect(mpt_answer_number(answer, 3) == 0, what);
 }
 
 static int all_are(const uint8_t *bytes, size_t len, uint8_t value)
@@ -43,14 +45,13 @@ static size_t compile(const char *text, uint32_t number, uint64_t position)
 {
     memset(table, DIRT, sizeof table);
     uint32_t found = mpt_compile((const uint8_t *)text, strlen(text), table, sizeof table, answer, sizeof answer);
-    printf("compile %.60s: number %u, position %llu, length %llu\n", text, (unsigned)found,
-           (unsigned long long)field(0), (unsigned long long)field(1));
+    size_t len = mpt_answer_value(answer);
+    printf("compile %.60s: %s at %u, length %u\n", text, mpt_refusal_name(found), (unsigned)mpt_answer_position(answer),
+           (unsigned)len);
     expect(found == number, "number of a compile");
-    expect(field(0) == position, "position of a compile");
-    expect(field(2) == 0 && field(3) == 0, "other numbers of a compile");
-    expect(number == 0 || field(1) == 0, "length of a refused compile");
-    expect(all_are(table + field(1), sizeof table - field(1), DIRT), "bytes after the table");
-    return field(1);
+    answered(position, number == 0 ? len : 0, 0, "answer of a compile");
+    expect(all_are(table + len, sizeof table - len, DIRT), "bytes after the table");
+    return len;
 }
 
 static uint32_t match(size_t table_len, const char *label, size_t scratch_len, size_t parts_len, uint64_t budget)
@@ -59,10 +60,38 @@ static uint32_t match(size_t table_len, const char *label, size_t scratch_len, s
     memset(parts, DIRT, sizeof parts);
     uint32_t found = mpt_match(table, table_len, (const uint8_t *)label, strlen(label), scratch, scratch_len, parts,
                                parts_len, budget, answer, sizeof answer);
-    printf("match %.60s: number %u, verdict %llu, trials %llu\n", label, (unsigned)found,
-           (unsigned long long)field(1), (unsigned long long)field(2));
-    expect(field(0) == 0 && field(3) == 0, "position and fourth number of a match");
+    printf("match %.60s: %s, verdict %u, trials %llu\n", label, mpt_refusal_name(found),
+           (unsigned)mpt_answer_value(answer), (unsigned long long)mpt_answer_trials(answer));
+    answered(0, mpt_answer_value(answer), mpt_answer_trials(answer), "position and fourth number of a match");
     return found;
+}
+
+/* The header's readers, names and sizes on bytes that no call made. */
+static void reading(void)
+{
+    static const uint8_t area[MPT_ANSWER_SIZE] = {1, 2,   3, 4, 5, 6, 7, 8, 9,   10,  11,  12,  13,  14,  15,  255,
+                                                  0, 128, 0, 0, 0, 0, 0, 0, 255, 255, 255, 255, 255, 255, 255, 255};
+    expect(mpt_answer_position(area) == UINT64_C(0x0807060504030201), "a position");
+    expect(mpt_answer_value(area) == UINT64_C(0xFF0F0E0D0C0B0A09), "a value");
+    expect(mpt_answer_trials(area) == 32768, "trials");
+    expect(mpt_answer_number(area, 3) == UINT64_MAX, "the fourth number");
+    static const uint8_t three[6] = {6, 0, 255, 0, 0xCD, 0xAB};
+    expect(mpt_part_begin(three, 0) == 0 && mpt_part_end(three, 0) == 6, "the first part");
+    expect(mpt_part_begin(three, 1) == 6 && mpt_part_end(three, 1) == 255, "the second part");
+    expect(mpt_part_begin(three, 2) == 255 && mpt_part_end(three, 2) == 0xABCD, "a part of two bytes");
+
+    static const char *const names[17] = {"NONE",  "LONG",  "FORM",  "CODE",   "NUMBER",  "RANGE",
+                                          "ATOMS", "DEPTH", "ROOM",  "ANSWER", "UNKNOWN", "TABLE",
+                                          "LABEL", "WORK",  "PARTS", "BUDGET", "UNKNOWN"};
+    for (uint32_t number = 0; number < 17; number++)
+        expect(strcmp(mpt_refusal_name(number), names[number]) == 0, "the name of a refusal");
+    expect(strcmp(mpt_refusal_name(UINT32_MAX), "UNKNOWN") == 0, "the name of no refusal");
+
+    static const uint64_t enough[4] = {MPT_BUDGET_ENOUGH(1, 0), MPT_BUDGET_ENOUGH(2, 7), MPT_BUDGET_ENOUGH(64, 255),
+                                       MPT_BUDGET_ENOUGH(256, 255)};
+    expect(enough[0] == 1 && enough[1] == 1920, "small budgets");
+    expect(enough[2] == UINT64_C(46351253504) && enough[3] == UINT64_C(185405014016), "the largest budgets");
+    expect(MPT_SCRATCH_MAX == 8650752, "the largest scratch");
 }
 
 static void compiling(void)
@@ -92,29 +121,31 @@ static void compiling(void)
 
     memset(table, DIRT, sizeof table);
     expect(mpt_compile((const uint8_t *)"2N", 2, table, 17, answer, sizeof answer) == MPT_ROOM, "17 bytes of room");
-    expect(field(0) == 2 && field(1) == 0, "answer of no room");
+    answered(2, 0, 0, "answer of no room");
     expect(all_are(table, sizeof table, DIRT), "table written without room");
 }
 
 static void matching(void)
 {
     const size_t work = MPT_SCRATCH_SIZE(2, 7);
+    const uint64_t enough = MPT_BUDGET_ENOUGH(2, 7);
     size_t len = compile("1.6N1.2N", 0, 0);
-    expect(match(len, "1234567", work, 4, UINT64_MAX) == 0, "number of a match");
-    expect(field(1) == 1, "verdict");
-    printf("cut at %d and %d\n", parts[0] + 256 * parts[1], parts[2] + 256 * parts[3]);
+    expect(match(len, "1234567", work, 4, enough) == 0, "number of a match");
+    uint64_t trials = mpt_answer_trials(answer);
+    answered(0, 1, trials, "verdict");
+    printf("cut at %zu and %zu\n", mpt_part_end(parts, 0), mpt_part_end(parts, 1));
     expect(memcmp(parts, "\6\0\7\0", 4) == 0, "the cut");
     expect(all_are(parts + 4, sizeof parts - 4, DIRT), "bytes after the parts");
     expect(all_are(scratch, work, 0), "scratch not zero");
     expect(all_are(scratch + work, sizeof scratch - work, DIRT), "scratch after the bytes used");
 
-    uint64_t trials = field(2);
-    expect(match(len, "1234567", work, 4, trials) == 0 && field(2) == trials, "the exact budget");
+    expect(match(len, "1234567", work, 4, trials) == 0, "the exact budget");
+    answered(0, 1, trials, "answer of the exact budget");
     expect(match(len, "1234567", work, 4, trials - 1) == MPT_BUDGET, "a budget one short");
-    expect(field(1) == 0 && field(2) == trials - 1, "answer of a budget one short");
+    answered(0, 0, trials - 1, "answer of a budget one short");
     expect(all_are(scratch, work, 0) && all_are(parts, sizeof parts, DIRT), "bytes after a budget one short");
 
-    expect(match(len, "123456x", work, 4, UINT64_MAX) == 0 && field(1) == 0, "verdict no");
+    expect(match(len, "123456x", work, 4, enough) == 0 && mpt_answer_value(answer) == 0, "verdict no");
     expect(all_are(parts, sizeof parts, DIRT), "parts of no");
 
     expect(match(len, "1234567", work - 1, 4, trials) == MPT_WORK, "scratch one short");
@@ -122,11 +153,13 @@ static void matching(void)
     expect(match(len, "1234567", work, 3, trials) == MPT_PARTS, "parts one short");
     expect(all_are(scratch, sizeof scratch, DIRT), "scratch written by a refusal");
     expect(match(len - 1, "1234567", work, 4, trials) == MPT_TABLE, "a table cut short");
+    expect(match(sizeof table, "1234567", work, 4, trials) == MPT_TABLE, "the buffer's length for the table's");
 
     char label[MPT_LABEL_MAX + 2];
     memset(label, '1', sizeof label);
     label[MPT_LABEL_MAX + 1] = 0;
     expect(match(len, label, work, 4, trials) == MPT_LABEL, "a label of 256 bytes");
+    expect(match(len, label, 0, 0, 0) == MPT_LABEL, "a label of 256 bytes without scratch and parts");
 }
 
 /* 64 atoms in 512 bytes, a label of 255: the header's sizes suffice; source, scratch or parts a byte less don't. */
@@ -142,14 +175,15 @@ static void largest(void)
     expect(len == 8 + 64 * 10 + 383, "length of the table of 64 atoms");
     expect(mpt_write_back(table, len, source, sizeof source - 1, answer, sizeof answer) == MPT_ROOM, "room for 511");
     expect(mpt_write_back(table, len, source, sizeof source, answer, sizeof answer) == 0, "room for 512");
-    expect(field(1) == sizeof source && memcmp(source, text, sizeof source) == 0, "a source of 512 bytes");
+    answered(0, sizeof source, 0, "answer of a source of 512 bytes");
+    expect(memcmp(source, text, sizeof source) == 0, "a source of 512 bytes");
 
     memset(label, '1', sizeof label);
     label[MPT_LABEL_MAX] = 0;
     expect(match(len, label, sizeof scratch - 1, sizeof parts, 0) == MPT_WORK, "scratch one short of the largest");
     expect(match(len, label, sizeof scratch, sizeof parts - 1, 0) == MPT_PARTS, "parts one short of the largest");
     expect(match(len, label, sizeof scratch, sizeof parts, 0) == MPT_BUDGET, "the largest scratch and parts");
-    expect(field(1) == 0 && field(2) == 0, "answer of no budget");
+    answered(0, 0, 0, "answer of no budget");
     expect(all_are(scratch, sizeof scratch, 0) && all_are(parts, sizeof parts, DIRT), "bytes after no budget");
 }
 
@@ -157,18 +191,22 @@ static void writing_back(void)
 {
     size_t len = compile("01.6n1.02(1nN,1\"a\"\"\")", 0, 0);
     static const char shortest[] = "1.6N1.2(1N,1\"a\"\"\")";
+    const size_t found = sizeof shortest - 1;
     memset(source, DIRT, sizeof source);
     expect(mpt_write_back(table, len, source, sizeof source, answer, sizeof answer) == 0, "number of a write back");
-    printf("write back: %.*s\n", (int)field(1), (const char *)source);
-    expect(field(1) == strlen(shortest) && memcmp(source, shortest, strlen(shortest)) == 0, "the shortest source");
-    expect(all_are(source + field(1), sizeof source - field(1), DIRT), "bytes after the source");
+    answered(0, found, 0, "answer of a write back");
+    printf("write back: %.*s\n", (int)found, (const char *)source);
+    expect(memcmp(source, shortest, found) == 0, "the shortest source");
+    expect(all_are(source + found, sizeof source - found, DIRT), "bytes after the source");
 
     memset(source, DIRT, sizeof source);
-    expect(mpt_write_back(table, len, source, strlen(shortest) - 1, answer, sizeof answer) == MPT_ROOM, "no room");
-    expect(field(0) == 0 && field(1) == 0 && all_are(source, sizeof source, DIRT), "writing back without room");
+    expect(mpt_write_back(table, len, source, found - 1, answer, sizeof answer) == MPT_ROOM, "no room");
+    answered(0, 0, 0, "answer of no room to write back");
+    expect(all_are(source, sizeof source, DIRT), "writing back without room");
     table[0]++;
     expect(mpt_write_back(table, len, source, sizeof source, answer, sizeof answer) == MPT_TABLE, "a bad mark");
-    expect(field(0) == 0 && field(1) == 0 && all_are(source, sizeof source, DIRT), "writing back a bad table");
+    answered(0, 0, 0, "answer of a bad table");
+    expect(all_are(source, sizeof source, DIRT), "writing back a bad table");
 }
 
 static void short_answers(void)
@@ -191,7 +229,7 @@ static void long_answers(void)
     for (size_t len = MPT_ANSWER_SIZE; len <= sizeof area; len++) {
         memset(area, DIRT, sizeof area);
         expect(mpt_compile((const uint8_t *)"2N", 2, table, sizeof table, area, len) == 0, "a long answer area");
-        expect(area[8] == 18 && all_are(area + 9, MPT_ANSWER_SIZE - 9, 0), "the table length in a long answer area");
+        expect(mpt_answer_value(area) == 18 && all_are(area + 16, 16, 0), "the table length in a long answer area");
         expect(all_are(area + MPT_ANSWER_SIZE, sizeof area - MPT_ANSWER_SIZE, DIRT), "bytes after the answer");
     }
 }
@@ -199,7 +237,7 @@ static void long_answers(void)
 static void null_pointers(void)
 {
     expect(mpt_compile(NULL, 0, NULL, 0, answer, sizeof answer) == MPT_FORM, "no source");
-    expect(field(0) == 0, "position of no source");
+    answered(0, 0, 0, "answer of no source");
     expect(mpt_compile((const uint8_t *)"2N", 2, NULL, 0, answer, sizeof answer) == MPT_ROOM, "no table room");
     expect(mpt_write_back(NULL, 0, NULL, 0, answer, sizeof answer) == MPT_TABLE, "no table");
     expect(mpt_match(NULL, 0, NULL, 0, NULL, 0, NULL, 0, 0, answer, sizeof answer) == MPT_TABLE, "nothing to match");
@@ -208,7 +246,7 @@ static void null_pointers(void)
     expect(mpt_match(table, len, NULL, 0, NULL, 0, parts, 2, 0, answer, sizeof answer) == MPT_WORK, "no scratch");
     expect(mpt_match(table, len, NULL, 0, scratch, 6, NULL, 0, 0, answer, sizeof answer) == MPT_PARTS, "no parts");
     expect(mpt_match(table, len, NULL, 0, scratch, 6, parts, 2, 0, answer, sizeof answer) == 0, "an empty label");
-    expect(field(1) == 1 && field(2) == 0, "answer of an empty label");
+    answered(0, 1, 0, "answer of an empty label");
     expect(mpt_compile(NULL, 0, NULL, 0, NULL, 0) == MPT_ANSWER, "no answer area");
     expect(mpt_write_back(NULL, 0, NULL, 0, NULL, 0) == MPT_ANSWER, "no answer area");
     expect(mpt_match(NULL, 0, NULL, 0, NULL, 0, NULL, 0, 0, NULL, 0) == MPT_ANSWER, "no answer area");
@@ -216,6 +254,7 @@ static void null_pointers(void)
 
 int main(void)
 {
+    reading();
     compiling();
     matching();
     largest();
