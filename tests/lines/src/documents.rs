@@ -156,8 +156,9 @@ const OF_002: [Verdicts; 5] = [
     ),
 ];
 
-/// M10, what the base leaves aside, and a pattern written as M's string literal, its quotes doubled.
-const REFUSED: [Refused; 14] = [
+/// M10, what the base leaves aside, and a pattern as it stands in an M string, its quotes doubled. The replies are by 01's table.
+const REFUSED: [Refused; 15] = [
+    ("5.3", "1234", "R 5 0"),
     ("5.3N", "1234", "R 5 0"),
     (r#"1U.20A1","10.2A"#, "Smith,John", "R 5 10"),
     ("1YaY", "x", "R 3 1"),
