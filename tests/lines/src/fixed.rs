@@ -1,5 +1,7 @@
 //! The papers' lines, and each limit from both sides.
 
+use crate::join;
+
 /// A source and a label.
 type Pair = (&'static [u8], &'static [u8]);
 
@@ -57,10 +59,6 @@ const ODD: [&[u8]; 16] = [
     b"3N\t123",
 ];
 
-fn line(source: &[u8], label: &[u8]) -> Vec<u8> {
-    [source, b"\t", label].concat()
-}
-
 fn nested(depth: usize) -> Vec<u8> {
     [b"1(".repeat(depth), b"1N".to_vec(), b")".repeat(depth)].concat()
 }
@@ -73,43 +71,27 @@ fn literal(len: usize) -> Vec<u8> {
 fn at_limits() -> Vec<Vec<u8>> {
     let x = |len| vec![b'x'; len];
     let mut lines = vec![
-        line(&b"1N".repeat(65), b"x"),
-        line(&b"1N".repeat(64), &[b'1'; 64]),
-        line(&b".N".repeat(64), &[b'1'; 21]),
-        line(&nested(9), b"1"),
-        line(&nested(8), b"1"),
-        line(&b"1N".repeat(256), b"x"),
-        line(&b"1N".repeat(257), b"x"),
-        line(&literal(509), b"x"),
-        line(&literal(510), b"x"),
-        line(b".E.E.E", &x(80)),
-        line(b".(.(.(.E)))", &b"ab".repeat(40)),
-        line(b".(.(.N,.A),.E)", &b"ab".repeat(50)),
+        join(b"1N".repeat(65), b"x"),
+        join(b"1N".repeat(64), [b'1'; 64]),
+        join(b".N".repeat(64), [b'1'; 21]),
+        join(nested(9), b"1"),
+        join(nested(8), b"1"),
+        join(b"1N".repeat(256), b"x"),
+        join(b"1N".repeat(257), b"x"),
+        join(literal(509), b"x"),
+        join(literal(510), b"x"),
+        join(b".E.E.E", x(80)),
+        join(b".(.(.(.E)))", b"ab".repeat(40)),
+        join(b".(.(.N,.A),.E)", b"ab".repeat(50)),
     ];
-    lines.extend([255, 256, 1_021, 1_022].map(|len| line(b".E", &x(len))));
-    lines.extend([1_023, 1_024].map(|len| line(&x(len), b"")));
+    lines.extend([255, 256, 1_021, 1_022].map(|len| join(b".E", x(len))));
+    lines.extend([1_023, 1_024].map(|len| join(x(len), b"")));
     lines.extend([1_024, 1_025, 3_000, 70_000].map(x));
     lines
 }
 
-/// For a pattern the longest label whose trials are within the budget, and one byte more.
-fn at_budget() -> Vec<Vec<u8>> {
-    let mut lines = Vec::new();
-    for source in [".E", "1.N", ".N.N", ".(.N,.A)"] {
-        let digits = |len| line(source.as_bytes(), &vec![b'7'; len]);
-        let over = |len: &usize| second::line::answer(&digits(*len)) == "M 15";
-        let first = (40..104).find(over).unwrap();
-        lines.extend([digits(first - 1), digits(first)]);
-    }
-    lines
-}
-
 pub fn lines() -> Vec<Vec<u8>> {
-    let pairs = PAIRS.iter().map(|(source, label)| line(source, label));
+    let pairs = PAIRS.iter().map(|(source, label)| join(source, label));
     let odd = ODD.iter().map(|line| line.to_vec());
-    pairs
-        .chain(odd)
-        .chain(at_limits())
-        .chain(at_budget())
-        .collect()
+    pairs.chain(odd).chain(at_limits()).collect()
 }

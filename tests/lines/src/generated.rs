@@ -1,5 +1,6 @@
 //! Generated lines, mostly of a pattern and a label that is near to it.
 
+use crate::join;
 use generate::labels::{cheap_pattern, flatten, most_trials, sample};
 use generate::patterns::pattern;
 use generate::sources::{mutate, print, random_bytes, source};
@@ -7,10 +8,6 @@ use generate::{Atom, Random};
 
 /// The most trials of a match, so that all lines take about a second.
 const DEAREST: u64 = 100_000;
-
-fn join(source: &[u8], label: &[u8]) -> Vec<u8> {
-    [source, b"\t", label].concat()
-}
 
 fn label_near(random: &mut Random, tree: &[Atom]) -> Vec<u8> {
     let mut label = Vec::new();
@@ -29,14 +26,14 @@ fn label_near(random: &mut Random, tree: &[Atom]) -> Vec<u8> {
 fn matched(random: &mut Random) -> Vec<u8> {
     let tree = pattern(random);
     let label = label_near(random, &tree);
-    join(&print(random, &tree), &label)
+    join(print(random, &tree), &label)
 }
 
 /// A source of any kind, mostly refused.
 fn refused(random: &mut Random) -> Vec<u8> {
     let len = random.below(8);
     let label: Vec<u8> = (0..len).map(|_| random.pick(b"12aB-.")).collect();
-    join(&source(random), &label)
+    join(source(random), &label)
 }
 
 /// A label about as long as the scratch allows.
@@ -48,12 +45,12 @@ fn at_scratch(random: &mut Random) -> Vec<u8> {
     let mut label = Vec::new();
     sample(random, &tree, &mut label);
     label.resize(places - random.below(2), b'x');
-    join(&print(random, &tree), &label)
+    join(print(random, &tree), &label)
 }
 
 fn long_label(random: &mut Random) -> Vec<u8> {
     let len = random.between(250, 260);
-    join(&source(random), &vec![b'1'; len])
+    join(source(random), vec![b'1'; len])
 }
 
 /// About the greatest length of a line, the tab at any place or missing.

@@ -2,8 +2,10 @@
 //!
 //! lines FOLDER
 
+mod documents;
 mod fixed;
 mod generated;
+mod longest;
 
 use generate::Random;
 use second::line;
@@ -12,9 +14,14 @@ use std::path::Path;
 
 const GENERATED: u64 = 3_000;
 
+/// A line of a source and a label.
+fn join(source: impl AsRef<[u8]>, label: impl AsRef<[u8]>) -> Vec<u8> {
+    [source.as_ref(), b"\t", label.as_ref()].concat()
+}
+
 /// The last line has no newline.
 fn input() -> Vec<u8> {
-    let mut lines = fixed::lines();
+    let mut lines = [fixed::lines(), longest::lines(), documents::lines()].concat();
     lines.extend((0..GENERATED).map(|index| generated::line(&mut Random::new(index << 2))));
     lines.push(b"1U\tA".to_vec());
     lines.join(&b'\n')
