@@ -11,9 +11,9 @@ use lib.Seq.{take-all, take-append-le, length-take-le}
 use borrow.Author.Tests.{lt-ltb, le-ltb}
 use Rattle.pattern.specs.Bytes.{Bytes, bytes}
 use Rattle.pattern.proofs.Tests.{if-true, if-false, le-or-lt}
-use Rattle.lines.specs.Sizes.{line-limit, held-limit, newline-byte}
-use Rattle.lines.specs.Reply.{Reply, reply, zeros}
-use Rattle.lines.specs.Output.{answer-to, prefixed, answers, last-line, lines-after, split, first-line, output, hold, Told, say, told, in-chunks, joined}
+use Rattle.replies.specs.Sizes.{line-limit, held-limit, newline-byte}
+use Rattle.replies.specs.Reply.{Reply, reply, answer-to, zeros}
+use Rattle.lines.specs.Output.{prefixed, answers, last-line, lines-after, split, first-line, output, hold, Told, say, told, in-chunks, joined}
 use Rattle.lines.proofs.Told.{told-append}
 
 -- what is held of a line

@@ -1,13 +1,6 @@
-pub mod Decimals
 pub mod Lines
-pub mod Digits
-pub mod Parts
-pub mod Chunks
-pub mod Replies
 pub mod Told
-pub mod Scratch
-pub mod Ends
-pub mod Cuts
+pub mod Chunks
 pub mod Sessions
 pub mod Owed
 pub mod Tidying

@@ -1,4 +1,4 @@
--- Laws of the first place of a byte and of lines taken out of chunks. Assumes nothing.
+-- Laws of lines taken out of chunks. Assumes nothing.
 use mathlib.Core.Path.{_≡_, sym, ap, _∙_}
 use mathlib.Core.Bool.{Bool, true, false}
 use mathlib.Core.List.{[], _∷_, _++_}
@@ -12,26 +12,8 @@ use lib.Seq.{slice, slice-empty, slice-cons, drop-cons, drop-append-le, take-tak
 use borrow.Author.Tests.{eq-eqb, ne-eqb, lt-ltb, le-ltb}
 use Rattle.pattern.specs.Bytes.{Bytes}
 use Rattle.pattern.proofs.Tests.{if-true, if-false}
-use Rattle.lines.specs.Sizes.{held-limit, newline-byte}
-use Rattle.lines.specs.Reply.{first}
+use Rattle.replies.specs.Sizes.{held-limit, newline-byte}
 use Rattle.lines.specs.Output.{hold, taken}
-
--- a list from a place on: a byte and then others, or nothing
-pub drop-one : (s : Bytes) (i : ℕ) → i < length s → drop i s ≡ getD s i 0 ∷ drop (i + 1) s
-drop-one s i h = rw (add-one, drop-cons s i 0)
-
-module _ (b : ℕ) (s : Bytes) (i : ℕ) where
-  pub first-here : i < length s → getD s i 0 ≡ b → first b (drop i s) ≡ 0
-  unfolding first
-  first-here h e = ap (first b) (drop-one s i h) ∙ if-true _ _ _ (eq-eqb _ _ e)
-
-  pub first-later : i < length s → ¬ (getD s i 0 ≡ b) → first b (drop i s) ≡ first b (drop (i + 1) s) + 1
-  unfolding first
-  first-later h e = ap (first b) (drop-one s i h) ∙ if-false _ _ _ (ne-eqb _ _ e) ∙ sym (add-one _)
-
-  pub first-none : length s ≤ i → first b (drop i s) ≡ 0
-  unfolding first
-  first-none h = ap (first b) (drop-of-length-le s h)
 
 -- a byte more is taken where no newline was
 abbrev taken-with : (line : Bytes) (c : ℕ) → Bytes × Option Bytes

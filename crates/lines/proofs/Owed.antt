@@ -9,7 +9,7 @@ use lib.ListN.{length, take, drop, drop-of-length-le}
 use lib.Seq.{slice, take-all, take-at, take-take, length-take-le}
 use borrow.Author.Tests.{ltb-false}
 use Rattle.pattern.specs.Bytes.{Bytes, over}
-use Rattle.lines.specs.Reply.{zeros}
+use Rattle.replies.specs.Reply.{zeros}
 use Rattle.lines.specs.Output.{answers, last-line, first-line, output, Told, say, told, in-chunks, joined}
 use Rattle.lines.specs.Session.{begun, Ends, Continues, AfterRead, Fits, AfterWrite, owed}
 use Rattle.lines.specs.declared.session.Input.the-variants.{Ended, Chunk}

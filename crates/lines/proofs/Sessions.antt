@@ -11,7 +11,7 @@ use lib.Seq.{length-take-le}
 use lib.Signed.{ltZ, nonNeg}
 use borrow.Author.Tests.{ltb-true}
 use Rattle.pattern.specs.Bytes.{Bytes, over}
-use Rattle.lines.specs.Stores.{zeroed}
+use Rattle.replies.specs.Stores.{zeroed}
 use Rattle.lines.specs.Output.{answers, last-line}
 use Rattle.lines.specs.Chunk.{Finishes}
 use Rattle.lines.specs.Session.{reading-of, Continues, Ends, AfterRead}

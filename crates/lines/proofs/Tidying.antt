@@ -1,7 +1,7 @@
 -- "Patient data stays in no buffer": what each step of the line tool leaves in its buffers. Assumes nothing.
 use mathlib.Core.Path.{_≡_, refl, sym, ap, _∙_, subst}
 use mathlib.Core.Bool.{Bool, true, false}
-use mathlib.Core.List.{[], _∷_, _++_}
+use mathlib.Core.List.{List, [], _∷_, _++_}
 use Prim.Native.Nat.{ℕ, _+_, _-_, _≤_}
 use native.Mathlib.Omega.{arith}
 use lib.Dec.{eqb}
@@ -9,21 +9,36 @@ use lib.IntN.{ℤ}
 use lib.ListN.{length, take, drop, replicate, length-append, replicate-append-replicate}
 use lib.Seq.{slice, drop-at, drop-drop, length-take-le}
 use Rattle.pattern.specs.Bytes.{Bytes, over}
-use Rattle.lines.specs.Sizes.{held-limit, newline-byte, out-room}
-use Rattle.lines.specs.Stores.{zeroed, Zero}
-use Rattle.lines.specs.Output.{answer-to, answers, last-line, hold, Told, say, told, wiped}
+use Rattle.replies.specs.Sizes.{held-limit, newline-byte, out-room}
+use Rattle.replies.specs.Reply.{reply, answer-to}
+use Rattle.replies.specs.Stores.{zeroed, Zero}
+use Rattle.lines.specs.Output.{prefixed, answers, last-line, hold, Told, say, told, wiped}
 use Rattle.lines.specs.Session.{reading-of, begun, Continues, AfterRead, Fits, AfterWrite, Ready, Tidy, Sound}
 use Rattle.lines.specs.declared.session.Input.{Input}
 use Rattle.lines.specs.declared.session.Input.the-variants.{Failed, Ended, Chunk}
 use Rattle.lines.specs.declared.session.Pending.{Pending}
 use Rattle.lines.specs.declared.session.Next.{Next}
 use Rattle.lines.specs.declared.session.Next.the-variants.{Write, Read, Stop}
-use Rattle.lines.proofs.Scratch.{blank-zero, drop-same, zeroed-zero, told-zero, answers-zero}
+use Rattle.replies.proofs.Zeros.{either-zero, blank-zero, drop-same, reply-zero}
 use Rattle.lines.proofs.Told.{hold-longer}
 use Rattle.lines.proofs.Sessions.{chunk-fits}
 
 abbrev held-after : Told → Bytes
 held-after t = t .held
+
+-- ---- scratch
+
+pub answers-zero : (lines : List Bytes) (scratch : Bytes) → Zero scratch → Zero (answers lines scratch .scratch)
+unfolding answers prefixed answer-to
+answers-zero [] scratch z = z
+answers-zero (line ∷ rest) scratch z = answers-zero rest (reply line scratch .scratch) (reply-zero scratch z line)
+
+pub told-zero : (held chunk scratch : Bytes) → Zero scratch → Zero (told held chunk scratch .scratch)
+unfolding told say answer-to
+told-zero held [] scratch z = z
+told-zero held (c ∷ s) scratch z = either-zero (λ (t : Told). t .scratch) (eqb c newline-byte) _ _ (told-zero [] s (reply held scratch .scratch) (reply-zero scratch z held)) (told-zero (hold held c) s scratch z)
+
+-- ---- what is held, and what is written
 
 -- zeros further on
 pub drop-zero : (k : ℕ) (s : Bytes) → Zero s → Zero (drop k s)

@@ -9,11 +9,11 @@ use lib.Dec.{eqb, ltb}
 use lib.ListN.{length, take, drop, replicate, length-append, take-append-drop}
 use lib.Seq.{slice, slice-empty, sets-eq, take-at, drop-at, drop-drop, length-take-le}
 use Rattle.pattern.specs.Bytes.{Bytes, over}
-use Rattle.lines.specs.Sizes.{held-limit, newline-byte}
-use Rattle.lines.specs.Reply.{reply}
-use Rattle.lines.specs.Output.{answer-to, prefixed, answers, last-line, hold, taken, Told, say, told, wiped}
+use Rattle.replies.specs.Sizes.{held-limit, newline-byte}
+use Rattle.replies.specs.Reply.{reply, answer-to}
+use Rattle.lines.specs.Output.{prefixed, answers, last-line, hold, taken, Told, say, told, wiped}
 use Rattle.pattern.specs.Stores.{stored, Puts}
-use Rattle.lines.specs.Stores.{zeroed, Replied}
+use Rattle.replies.specs.Stores.{zeroed, Replied}
 use Rattle.lines.specs.Taking.{newline-if, Took}
 use Rattle.lines.specs.Chunk.{Done}
 use Rattle.lines.specs.declared.chunk.Answered.{Answered}

@@ -4,7 +4,7 @@ use Prim.Native.Nat.{ℕ, _+_, _≤_, _<_}
 use lib.ListN.{length, take, drop}
 use lib.Seq.{slice}
 use Rattle.pattern.specs.Bytes.{Bytes}
-use Rattle.lines.specs.Sizes.{held-limit, out-room}
+use Rattle.replies.specs.Sizes.{held-limit, out-room}
 use Rattle.lines.specs.Output.{answers, last-line, told, wiped}
 use Rattle.lines.specs.declared.chunk.Answered.{Answered}
 

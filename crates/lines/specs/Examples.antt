@@ -14,10 +14,10 @@ use Rattle.pattern.specs.Print.{decimal-of, decimal, print-low, print-count, pr
 use Rattle.pattern.specs.Table.{pool, choices, kind-field, a-field, b-field, records, flat, header, encode}
 use Rattle.pattern.specs.Decode.{high-of, pattern-at, tree-of, compiled-to, decode}
 use Rattle.pattern.specs.Answers.{put-if, put, compiled, compileOf, cleared, part-bytes, lent-fault, judged, tried-if, tried, tried-unless, matched, matchOf}
-use Rattle.lines.specs.Sizes.{tab-byte, newline-byte}
-use Rattle.lines.specs.Text.{decimal as number-text, coded-text, refused-text, unmatched-text, ends-in, listed, matched-text}
-use Rattle.lines.specs.Reply.{first, cut-at, cut, verdict-text, match-text, match-reply, zeros, label-reply, table-reply, source-reply, cut-reply, reply}
-use Rattle.lines.specs.Output.{answer-to, prefixed, answers, last-line, lines-after, split, first-line, output}
+use Rattle.replies.specs.Sizes.{tab-byte, newline-byte}
+use Rattle.replies.specs.Text.{decimal as number-text, coded-text, refused-text, unmatched-text, ends-in, listed, matched-text}
+use Rattle.replies.specs.Reply.{first, cut-at, cut, verdict-text, match-text, match-reply, zeros, label-reply, table-reply, source-reply, cut-reply, reply, answer-to}
+use Rattle.lines.specs.Output.{prefixed, answers, last-line, lines-after, split, first-line, output}
 
 -- a line of a source, a tab, a label and a newline
 abbrev line : Bytes → Bytes → Bytes

@@ -6,13 +6,9 @@ use Prim.Native.Nat.{ℕ}
 use lib.Dec.{ltb, eqb}
 use lib.ListN.{length}
 use Rattle.pattern.specs.Bytes.{Bytes, bytes, over}
-use Rattle.lines.specs.Sizes.{held-limit, newline-byte}
-use Rattle.lines.specs.Reply.{Reply, reply, zeros}
-use Rattle.lines.specs.Stores.{zeroed}
-
--- "each line it writes ends with a newline"
-unfoldable pub answer-to : (line scratch : Bytes) → Reply
-answer-to line scratch = record { text = reply line scratch .text ++ newline-byte ∷ []; scratch = reply line scratch .scratch }
+use Rattle.replies.specs.Sizes.{held-limit, newline-byte}
+use Rattle.replies.specs.Reply.{Reply, answer-to, zeros}
+use Rattle.replies.specs.Stores.{zeroed}
 
 -- a text before that of a reply
 unfoldable pub prefixed : Bytes → Reply → Reply

@@ -7,9 +7,9 @@ use lib.IntN.{ℤ, pos, negsuc}
 use lib.ListN.{length, take, drop}
 use lib.Seq.{slice}
 use Rattle.pattern.specs.Bytes.{Bytes, over}
-use Rattle.lines.specs.Sizes.{held-limit, out-room}
-use Rattle.lines.specs.Reply.{Reply}
-use Rattle.lines.specs.Stores.{zeroed, Zero}
+use Rattle.replies.specs.Sizes.{held-limit, out-room}
+use Rattle.replies.specs.Reply.{Reply}
+use Rattle.replies.specs.Stores.{zeroed, Zero}
 use Rattle.lines.specs.Output.{answers, last-line, in-chunks}
 use Rattle.lines.specs.Chunk.{Answers}
 use Rattle.lines.specs.declared.chunk.Answered.{Answered}

@@ -7,7 +7,7 @@ use Prim.Native.Nat.{ℕ, _≤_, _<_}
 use lib.ListN.{length, take, drop}
 use lib.Seq.{slice}
 use Rattle.pattern.specs.Bytes.{Bytes}
-use Rattle.lines.specs.Sizes.{held-limit}
+use Rattle.replies.specs.Sizes.{held-limit}
 use Rattle.lines.specs.Output.{taken}
 use Rattle.lines.specs.declared.line.Taken.{Taken}
 

@@ -2,13 +2,13 @@
 ghost use mathlib.Core.Path.{_≡_};
 ghost use Prim.Native.Nat.{_≤_};
 ghost use lib.ListN.{length};
-ghost use Rattle.lines.specs.Sizes.{held-limit, out-room};
+ghost use Rattle.replies.specs.Sizes.{held-limit, out-room};
 ghost use Rattle.lines.specs.Output.{first-line};
 ghost use Rattle.lines.specs.Chunk.{Answers, Finishes};
 use crate::line::take_line;
-use crate::reply::answer_line;
-use crate::sizes::OUT_ROOM;
 use planes::clear::clear;
+use replies::reply::answer_line;
+use replies::sizes::OUT_ROOM;
 
 // Where to go on in the chunk, how many bytes of a line are held, and how many were written.
 pub struct Answered {

@@ -1,7 +1,4 @@
-// What the line tool answers to a line, and how it takes lines out of chunks of input.
+// How the line tool takes lines out of chunks of input, and what it does between reads and writes.
 pub mod chunk;
 mod line;
-mod reply;
 pub mod session;
-pub mod sizes;
-mod text;

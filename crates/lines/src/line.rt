@@ -1,33 +1,17 @@
-// Lines: where the first tab stands, and how a line is taken out of a chunk of input.
+// How a line is taken out of a chunk of input.
 ghost use mathlib.Core.Path.{_≡_};
 ghost use Prim.Native.Nat.{_≤_};
 ghost use lib.ListN.{length};
-ghost use Rattle.lines.specs.Sizes.{held-limit, tab-byte};
-ghost use Rattle.lines.specs.Reply.{first};
+ghost use Rattle.replies.specs.Sizes.{held-limit};
 ghost use Rattle.lines.specs.Taking.{Took};
-use crate::sizes::HELD_LIMIT;
-use crate::sizes::NEWLINE;
-use crate::sizes::TAB;
+use replies::sizes::HELD_LIMIT;
+use replies::sizes::NEWLINE;
 
 // How many bytes of a line are held, where to go on in the chunk, and whether the line ended.
 pub struct Taken {
     pub held: usize,
     pub next: usize,
     pub ended: bool,
-}
-
-// Where the first tab stands, the length if there is none.
-pub fn tab_at(line: &[u8]) -> usize
-    ensures { λ r. ⌜ r ≡ first tab-byte (now (line .entry)) ⌝ }
-{
-    let mut i = 0;
-    while i < line.len() {
-        if line[i] == TAB {
-            return i;
-        }
-        i += 1;
-    }
-    i
 }
 
 // The bytes of a chunk up to a newline, put after the held ones of a line.

@@ -5,7 +5,7 @@ ghost use mathlib.Core.Bool.{not, _&&_};
 ghost use Prim.Native.Nat.{_≤_};
 ghost use lib.ListN.{length};
 ghost use lib.Dec.{ltb};
-ghost use Rattle.lines.specs.Sizes.{held-limit, out-room};
+ghost use Rattle.replies.specs.Sizes.{held-limit, out-room};
 ghost use Rattle.lines.specs.Session.{reading-of, begun, Continues, AfterRead, Fits, AfterWrite};
 use crate::chunk::answer_chunk;
 use crate::chunk::answer_last;

@@ -8,7 +8,7 @@ use lines::chunk;
 use lines::session;
 use lines::session::Next;
 use lines::session::Pending;
-use lines::sizes;
+use replies::sizes;
 
 // Bytes of input and of output that are taken at a time.
 const BUFFER_SIZE: usize = 65536;

@@ -1,8 +1,8 @@
 -- `main` meets its contract: the buffers are zeros at first. Assumes nothing.
 use mathlib.Core.Path.{refl}
 use native.Mathlib.Omega.{arith}
-use Rattle.lines.specs.Sizes.{held-limit, scratch-size}
-use Rattle.lines.proofs.Scratch.{blank-zero}
+use Rattle.replies.specs.Sizes.{held-limit, scratch-size}
+use Rattle.replies.proofs.Zeros.{blank-zero}
 use Rattle.lines.proofs.Tidying.{begin-sound}
 use borrow.Author.Needs.{needs}
 use Rattle.mptline.proofs.main.Statement.{statement}

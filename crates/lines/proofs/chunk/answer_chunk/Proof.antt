@@ -4,7 +4,7 @@ use Prim.Native.Nat.{_≤_, _-_}
 use native.Mathlib.Omega.{arith}
 use lib.ListN.{length, drop}
 use lib.Seq.{length-take-le}
-use Rattle.lines.specs.Sizes.{held-limit}
+use Rattle.replies.specs.Sizes.{held-limit}
 use Rattle.lines.specs.Chunk.{Done}
 use Rattle.pattern.proofs.Stores.{puts-length}
 use Rattle.lines.proofs.Told.{done-none, done-held, done-ended, drop-stored, same-after}

@@ -3,7 +3,7 @@ use mathlib.Core.Path.{refl, sym, ap, _∙_}
 use native.Mathlib.Omega.{arith}
 use Rattle.pattern.proofs.Stores.{puts-length}
 use Rattle.lines.proofs.Told.{take-stored, drop-stored, last-answered, last-none}
-use Rattle.lines.specs.Reply.{Reply}
+use Rattle.replies.specs.Reply.{Reply}
 use borrow.Author.Needs.{needs}
 use Rattle.lines.proofs.chunk.answer_last.Statement.{statement}
 use Rattle.lines.proofs.chunk.answer_last.Tie as tie

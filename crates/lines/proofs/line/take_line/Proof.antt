@@ -6,7 +6,7 @@ use Prim.Native.Nat.{suc, _≤_, _+_, _-_}
 use native.Mathlib.Omega.{arith}
 use lib.ListN.{length, take, drop, length-set}
 use lib.Seq.{slice, drop-set-lt}
-use Rattle.lines.specs.Sizes.{held-limit}
+use Rattle.replies.specs.Sizes.{held-limit}
 use Rattle.lines.specs.Output.{taken}
 use Rattle.lines.specs.Taking.{newline-if}
 use Rattle.lines.proofs.Told.{same-after}

@@ -1,0 +1,8 @@
+pub mod Decimals
+pub mod Digits
+pub mod Firsts
+pub mod Parts
+pub mod Replies
+pub mod Zeros
+pub mod Ends
+pub mod Cuts

@@ -1,0 +1,80 @@
+-- `reply::put_cut` meets its contract. Assumes nothing.
+use mathlib.Core.Path.{sym}
+use mathlib.Core.List.{[]}
+use lib.Seq.{length-take-le}
+use native.Mathlib.Omega.{arith}
+use Rattle.replies.specs.Sizes.{reply-room}
+use Rattle.replies.proofs.Replies.{replied-same, replied, stored-within, refused-short, table-fits, table-reply-is, refused-reply-is}
+use borrow.Author.Needs.{needs}
+use Rattle.replies.proofs.reply.put_cut.Statement.{statement}
+use Rattle.replies.proofs.reply.put_cut.Tie as tie
+
+slice-aggregate-compile : tie.Need-slice-aggregate-compile
+slice-aggregate-compile c = search needs
+
+compile-requires : tie.Need-compile-requires
+compile-requires c κs = search needs
+
+enum-known-n : tie.Need-enum-known-n
+enum-known-n c = search needs
+
+array-share-prefix-table : tie.Need-array-share-prefix-table
+array-share-prefix-table c = table-fits _ [] [] _ _ (c .before .before .before .before .compile .ensures) _ (c .before .n .given .1)
+
+slice-aggregate-put-label : tie.Need-slice-aggregate-put-label
+slice-aggregate-put-label c = sym (length-take-le _ _ (table-fits _ [] [] _ _ (c .before .before .before .before .before .compile .ensures) _ (c .before .before .n .given .1)))
+
+put-label-requires : tie.Need-put-label-requires
+put-label-requires c κs = search needs
+
+enum-known-number : tie.Need-enum-known-number
+enum-known-number c = search needs
+
+cast-put-refused : tie.Need-cast-put-refused
+cast-put-refused c = search needs
+
+put-refused-requires : tie.Need-put-refused-requires
+put-refused-requires c κs = search needs
+
+same-length : tie.Need-same-length
+same-length c = search needs
+
+same-length-2 : tie.Need-same-length-2
+same-length-2 c = search needs
+
+returns : tie.Need-returns
+returns c =
+    let after-put-label = c .before .before .before .before in
+    let after-n = after-put-label .before .before .before .before .before in
+    let after-compile = after-n .before .before .before in
+    let r = after-put-label .put-label .ensures in
+    replied-same (table-reply-is _ _ _ _ _ (after-compile .compile .ensures) _ (after-n .n .given .1)) r
+
+same-length-3 : tie.Need-same-length-3
+same-length-3 c = search needs
+
+returns-2 : tie.Need-returns-2
+returns-2 c =
+    let after-known-told2 = c .before .before .before .before in
+    let after-number = after-known-told2 .before in
+    let after-compile = after-number .before .before .before in
+    replied-same (refused-reply-is _ _ _ _ _ (after-compile .compile .ensures) _ _ (after-number .number .given .1)) (replied (stored-within reply-room (omega (arith, refused-short (after-number .number .given .0 .0) (after-number .number .given .0 .1 .0) (omega (arith, after-known-told2 .known-told2 .given)) (omega (arith, after-known-told2 .known-told2 .given)))) (c .before .before .put-refused .ensures)))
+
+pub put-cut-spec : {M : Type 1} → statement M
+put-cut-spec =
+    tie.close
+    (tie.spec
+    slice-aggregate-compile
+    compile-requires
+    enum-known-n
+    array-share-prefix-table
+    slice-aggregate-put-label
+    put-label-requires
+    enum-known-number
+    cast-put-refused
+    put-refused-requires
+    same-length
+    same-length-2
+    returns
+    same-length-3
+    returns-2)

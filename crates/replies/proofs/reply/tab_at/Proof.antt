@@ -1,0 +1,57 @@
+-- `line::tab_at` meets its contract: the first tab is i further than that of what is left. What is left falls. Assumes nothing.
+use mathlib.Core.Path.{_≡_}
+use Prim.Native.Nat.{_≤_, _-_, _+_}
+use native.Mathlib.Omega.{arith}
+use lib.ListN.{length, drop}
+use Rattle.replies.specs.Sizes.{tab-byte}
+use Rattle.replies.specs.Reply.{first}
+use Rattle.replies.proofs.Firsts.{first-here, first-later, first-none}
+use Rattle.replies.proofs.reply.tab_at.Statement.{statement}
+use Rattle.replies.proofs.reply.tab_at.Tie as tie
+
+abbrev Inv-loop : tie.InvT-loop
+Inv-loop line i₀ i = (i ≤ length line) × (first tab-byte line ≡ i + first tab-byte (drop i line))
+
+abbrev μ-loop : tie.MeasureT-loop
+μ-loop line i₀ i = length line - i
+
+loop-holds : tie.Need-loop-holds Inv-loop μ-loop
+loop-holds c = (omega arith, omega arith)
+
+shared-slice-read-if1 : tie.Need-shared-slice-read-if1 Inv-loop μ-loop
+shared-slice-read-if1 c = omega arith
+
+returns : tie.Need-returns Inv-loop μ-loop
+returns c =
+    let k = c .before .before .before in
+    omega (arith, first-here tab-byte (k .before .args .line .now) (k .loop .i) (c .before .before .loop-test .taken) (c .if1 .taken))
+
+add-i : tie.Need-add-i Inv-loop μ-loop
+add-i c = omega arith
+
+loop-less : tie.Need-loop-less Inv-loop μ-loop
+loop-less c = omega arith
+
+loop-again : tie.Need-loop-again Inv-loop μ-loop
+loop-again c =
+    let k = c .before .before .before in
+    (omega arith, omega (arith, first-later tab-byte (k .before .args .line .now) (k .loop .i) (c .before .before .loop-test .taken) (c .if1 .left)))
+
+returns-2 : tie.Need-returns-2 Inv-loop μ-loop
+returns-2 c =
+    let k = c .before in
+    omega (arith, first-none tab-byte (k .before .args .line .now) (k .loop .i) (c .loop-test .left))
+
+pub tab-at-spec : {M : Type 1} → statement M
+tab-at-spec =
+    tie.close
+    (tie.spec
+    Inv-loop
+    μ-loop
+    loop-holds
+    shared-slice-read-if1
+    returns
+    add-i
+    loop-less
+    loop-again
+    returns-2)

@@ -1,0 +1,33 @@
+-- `text::digits` meets its contract: n digits are counted besides those of what is left. What is left falls. Assumes nothing.
+use mathlib.Core.Path.{_≡_, ap}
+use Prim.Native.Nat.{_≤_, _+_}
+use native.Mathlib.Omega.{arith}
+use lib.ListN.{length}
+use Rattle.replies.specs.Text.{decimal}
+use Rattle.replies.proofs.Decimals.{decimal-one, decimal-longer}
+use Rattle.replies.proofs.text.digits.Statement.{statement}
+use Rattle.replies.proofs.text.digits.Tie as tie
+
+abbrev Inv-loop : tie.InvT-loop
+Inv-loop x left₀ n₀ left n = (n + left ≤ x + 1) × (n + length (decimal left) ≡ length (decimal x) + 1)
+
+abbrev μ-loop : tie.MeasureT-loop
+μ-loop x left₀ n₀ left n = left
+
+loop-holds : tie.Need-loop-holds Inv-loop μ-loop
+loop-holds c = (omega arith, omega arith)
+
+add-n : tie.Need-add-n Inv-loop μ-loop
+add-n c = omega arith
+
+loop-less : tie.Need-loop-less Inv-loop μ-loop
+loop-less c = omega arith
+
+loop-again : tie.Need-loop-again Inv-loop μ-loop
+loop-again c = (omega arith, omega (arith, decimal-longer (c .before .loop .left) (c .loop-test .taken)))
+
+returns : tie.Need-returns Inv-loop μ-loop
+returns c = omega (arith, ap length (decimal-one (c .before .loop .left) (c .loop-test .left)))
+
+pub digits-spec : {M : Type 1} → statement M
+digits-spec = tie.close (tie.spec Inv-loop μ-loop loop-holds add-n loop-less loop-again returns)

@@ -1,0 +1,4 @@
+pub mod Sizes
+pub mod Text
+pub mod Reply
+pub mod Stores

@@ -1,0 +1,83 @@
+// The reply to one line: it is cut at its first tab, the source compiled and the label matched.
+ghost use mathlib.Core.Path.{_≡_};
+ghost use Prim.Native.Nat.{_+_, _≤_};
+ghost use lib.ListN.{length};
+ghost use Rattle.replies.specs.Sizes.{tab-byte, reply-room};
+ghost use Rattle.replies.specs.Reply.{first, label-reply, source-reply, reply, answer-to};
+ghost use Rattle.replies.specs.Stores.{Replied};
+use crate::sizes::BUDGET;
+use crate::sizes::LINE_LIMIT;
+use crate::sizes::NEWLINE;
+use crate::sizes::PARTS_ROOM;
+use crate::sizes::TAB;
+use crate::sizes::TABLE_ROOM;
+use crate::sizes::UNSET;
+use crate::text;
+use compiler::Compiled;
+
+// Where the first tab stands, the length if there is none.
+fn tab_at(line: &[u8]) -> usize
+    ensures { λ r. ⌜ r ≡ first tab-byte (now (line .entry)) ⌝ }
+{
+    let mut i = 0;
+    while i < line.len() {
+        if line[i] == TAB {
+            return i;
+        }
+        i += 1;
+    }
+    i
+}
+
+// A label under a table.
+fn put_label(table: &[u8], label: &[u8], scratch: &mut [u8], out: &mut [u8], at: usize) -> usize
+    requires { ⌜ at + reply-room ≤ length (now out) ⌝ }
+    ensures { λ r. ⌜ Replied reply-room (label-reply (now (table .entry)) (now (label .entry)) (now (scratch .entry))) (now (out .entry)) at (now (scratch .exit)) (now (out .exit)) r ⌝ }
+{
+    let mut parts = [UNSET; PARTS_ROOM];
+    let a = matcher::match_label(table, label, scratch, &mut parts, BUDGET).numbers(BUDGET);
+    if a.number > 0 {
+        return text::put_unmatched(a.number as u64, out, at);
+    }
+    if a.value == 0 {
+        return text::put_byte(b'0', out, at);
+    }
+    text::put_matched(&parts, out, at)
+}
+
+// A source and a label.
+fn put_cut(source: &[u8], label: &[u8], scratch: &mut [u8], out: &mut [u8], at: usize) -> usize
+    requires { ⌜ at + reply-room ≤ length (now out) ⌝ }
+    ensures { λ r. ⌜ Replied reply-room (source-reply (now (source .entry)) (now (label .entry)) (now (scratch .entry))) (now (out .entry)) at (now (scratch .exit)) (now (out .exit)) r ⌝ }
+{
+    let mut table = [0u8; TABLE_ROOM];
+    match compiler::compile(source, &mut table) {
+        Compiled::Table(n) => put_label(&table[..n], label, scratch, out, at),
+        Compiled::Refused(number, position) => {
+            text::put_refused(number as u64, position as u64, out, at)
+        }
+    }
+}
+
+fn put_reply(line: &[u8], scratch: &mut [u8], out: &mut [u8], at: usize) -> usize
+    requires { ⌜ at + reply-room ≤ length (now out) ⌝ }
+    ensures { λ r. ⌜ Replied reply-room (reply (now (line .entry)) (now (scratch .entry))) (now (out .entry)) at (now (scratch .exit)) (now (out .exit)) r ⌝ }
+{
+    if LINE_LIMIT < line.len() {
+        return text::put_byte(b'L', out, at);
+    }
+    let tab = tab_at(line);
+    if line.len() <= tab {
+        return text::put_byte(b'T', out, at);
+    }
+    put_cut(&line[..tab], &line[tab + 1..], scratch, out, at)
+}
+
+// The reply and its newline.
+pub fn answer_line(line: &[u8], scratch: &mut [u8], out: &mut [u8], at: usize) -> usize
+    requires { ⌜ at + reply-room + 1 ≤ length (now out) ⌝ }
+    ensures { λ r. ⌜ Replied (reply-room + 1) (answer-to (now (line .entry)) (now (scratch .entry))) (now (out .entry)) at (now (scratch .exit)) (now (out .exit)) r ⌝ }
+{
+    let end = put_reply(line, scratch, out, at);
+    text::put_byte(NEWLINE, out, end)
+}
