@@ -1,6 +1,6 @@
 -- A table's rule, by one test over the whole table; and the codes after the first k of them. Assumes nothing.
 use mathlib.Core.Path.{_≡_, refl, _∙_}
-use mathlib.Core.Bool.{Bool, true, false, _&&_, _||_, cond}
+use mathlib.Core.Bool.{Bool, true, false, _&&_, _||_, cond, or-assoc, or-false}
 use mathlib.Core.List.{List, [], _∷_, _++_, map}
 use Prim.Native.Nat.{ℕ, zero, suc, _+_, _*_, _/_, _%_, _^_, _<_, _≤_}
 use native.Mathlib.Nat.{add-zero}
@@ -9,7 +9,7 @@ use lib.Dec.{T, leb, leb→le, eqb}
 use borrow.Author.Tests.{eq-eqb, ne-eqb}
 use lib.ListN.{length, getD, take, drop}
 use Rattle.pattern.specs.Bytes.{Bytes, between}
-use Rattle.pattern.specs.Codes.{Code, all-codes, ranged, coded, bit-among}
+use Rattle.pattern.specs.Codes.{Code, all-codes, ranged, coded, in-set, bit-among}
 use Rattle.codes.specs.declared.Code.{Code as Row}
 use Rattle.codes.specs.Rows.{letter-at, ranges-at, in-four}
 use Rattle.pattern.proofs.Tests.{and-both, agree, agreed, all, all-at}
@@ -58,13 +58,6 @@ bit-step [] k b c h = absurd (omega arith)
 bit-step (l ∷ ls) zero b c h = refl
 bit-step (l ∷ ls) (suc k) b c h = bit-step ls k b c (omega arith)
 
-coded-step : (ls : List Code) (k set b : ℕ) → k < length ls
-    → coded (drop k ls) set b ≡ eqb (set % 2) 1 && ranged (getD (map (λ (x : Code). x .ranges) ls) k []) b || coded (drop (suc k) ls) (set / 2) b
-unfolding coded
-coded-step [] k set b h = absurd (omega arith)
-coded-step (l ∷ ls) zero set b h = refl
-coded-step (l ∷ ls) (suc k) set b h = coded-step ls k set b (omega arith)
-
 or-true : (b : Bool) → b || true ≡ true
 or-true true = refl
 or-true false = refl
@@ -96,23 +89,21 @@ module _ (k : ℕ) (h : k < 7) where
   unfolding all
   power-small = leb→le _ _ (all-at 7 (λ k. leb (2 ^ k) 64) tt k h)
 
-  -- the byte is of the code with bit k, or the later codes decide
-  pub coded-here : (set b : ℕ) → set % 2 ≡ 1 → ranged (ranges-at k) b ≡ true → coded (drop k all-codes) set b ≡ true
-  unfolding ranges-at
-  coded-here set b e f = coded-step all-codes k set b fits ∙ rw (eq-eqb _ _ e, f)
-
-  pub coded-without : (set b : ℕ) → ¬ (set % 2 ≡ 1) → coded (drop k all-codes) set b ≡ coded (drop (suc k) all-codes) (set / 2) b
-  coded-without set b e = coded-step all-codes k set b fits ∙ rw (ne-eqb _ _ e)
-
-  pub coded-other : (set b : ℕ) → set % 2 ≡ 1 → ranged (ranges-at k) b ≡ false → coded (drop k all-codes) set b ≡ coded (drop (suc k) all-codes) (set / 2) b
-  unfolding ranges-at
-  coded-other set b e f = coded-step all-codes k set b fits ∙ rw (eq-eqb _ _ e, f)
-
--- after the last code
+-- after the last one
 pub bit-end : (k b c : ℕ) → k ≡ 7 → bit-among (drop k all-codes) b c ≡ b
 unfolding bit-among all-codes
 bit-end k b c e = rw e
 
-pub coded-end : (k set b : ℕ) → k ≡ 7 → coded (drop k all-codes) set b ≡ false
-unfolding coded all-codes
-coded-end k set b e = rw e
+-- ---- a byte is of one of the codes of a set
+
+regrouped : (a c e l n p u : Bool) → (a || c || e || l || n || p || u) ≡ (a || (c || (e || (l || (n || (p || (u || false)))))))
+regrouped a c e l n p u = simp (or-assoc, or-false)
+
+abbrev asked : (left k b : ℕ) → Bool
+asked left k b = eqb (left % 2) 1 && ranged (ranges-at k) b
+
+-- the seven in turn
+pub in-turn : (set b : ℕ) {a c e l n p u : Bool} → a ≡ asked set 0 b → c ≡ asked (set / 2) 1 b → e ≡ asked (set / 2 / 2) 2 b → l ≡ asked (set / 2 / 2 / 2) 3 b → n ≡ asked (set / 2 / 2 / 2 / 2) 4 b
+    → p ≡ asked (set / 2 / 2 / 2 / 2 / 2) 5 b → u ≡ asked (set / 2 / 2 / 2 / 2 / 2 / 2) 6 b → (a || c || e || l || n || p || u) ≡ in-set set b
+unfolding in-set coded all-codes ranges-at
+in-turn set b {a} {c} {e} {l} {n} {p} {u} x0 x1 x2 x3 x4 x5 x6 = regrouped a c e l n p u ∙ cc

@@ -1,52 +1,43 @@
--- `codes::in_set` meets its contract: the byte is of no code passed, so the later ones decide. Assumes nothing.
-use mathlib.Core.Path.{_≡_, refl, sym, _∙_}
-use mathlib.Core.Logic.{⊎-elim}
-use Prim.Native.Nat.{_-_, _≤_}
-use native.Mathlib.Numerals.{add-one}
-use native.Mathlib.Omega.{arith}
-use lib.ListN.{drop}
-use Rattle.pattern.specs.Codes.{all-codes, coded, in-set}
-use Rattle.codes.proofs.CodeRows.{coded-here, coded-without, coded-other, coded-end}
+-- `codes::in_set` meets its contract: the definition asks the codes in the same order. Assumes nothing.
+use Rattle.codes.proofs.CodeRows.{in-turn}
+use borrow.Author.Needs.{needs}
 use Rattle.codes.proofs.in_set.Statement.{statement}
 use Rattle.codes.proofs.in_set.Tie as tie
 
-abbrev Inv-loop : tie.InvT-loop
-Inv-loop set b k₀ left₀ k left = (k ≤ 7) × (coded (drop k all-codes) left b ≡ in-set set b)
+has-requires : tie.Need-has-requires
+has-requires c κs = search needs
 
-abbrev μ-loop : tie.MeasureT-loop
-μ-loop set b k₀ left₀ k left = 7 - k
+has-requires-2 : tie.Need-has-requires-2
+has-requires-2 c κs = search needs
 
-loop-holds : tie.Need-loop-holds Inv-loop μ-loop
-unfolding in-set
-loop-holds c = (omega arith, refl)
+has-requires-3 : tie.Need-has-requires-3
+has-requires-3 c κs = search needs
 
-in-code-requires : tie.Need-in-code-requires Inv-loop μ-loop
-in-code-requires c κs = omega arith
+has-requires-4 : tie.Need-has-requires-4
+has-requires-4 c κs = search needs
 
-returns : tie.Need-returns Inv-loop μ-loop
+has-requires-5 : tie.Need-has-requires-5
+has-requires-5 c κs = search needs
+
+has-requires-6 : tie.Need-has-requires-6
+has-requires-6 c κs = search needs
+
+has-requires-7 : tie.Need-has-requires-7
+has-requires-7 c κs = search needs
+
+returns : tie.Need-returns
 returns c =
-    let l = c .before .before .before .before .loop in
-    sym (coded-here (l .k) (c .before .before .before .loop-test .taken) (l .left) _ (c .before .before .if1 .taken) (sym (c .before .in-code .ensures) ∙ c .if2 .taken)) ∙ l .inv .1
-
-add-k : tie.Need-add-k Inv-loop μ-loop
-add-k c = omega arith
-
-loop-less : tie.Need-loop-less Inv-loop μ-loop
-loop-less c = omega arith
-
-loop-again : tie.Need-loop-again Inv-loop μ-loop
-loop-again c =
-    let l = c .before .before .loop in
-    let k = c .before .loop-test .taken in (
-      omega arith,
-      rw add-one (⊎-elim
-          (λ (w, f, e). sym (coded-other (l .k) k (l .left) _ (w .taken) (sym (f .ensures) ∙ e .left)) ∙ l .inv .1)
-          (λ w. sym (coded-without (l .k) k (l .left) _ (w .left)) ∙ l .inv .1)
-          (c .if1 .came)),
-    )
-
-returns-2 : tie.Need-returns-2 Inv-loop μ-loop
-returns-2 c = sym (coded-end (c .before .loop .k) _ _ (omega arith)) ∙ c .before .loop .inv .1
+    in-turn _ _ (c .before .before .before .before .before .before .has .ensures) (c .before .before .before .before .before .has2 .ensures) (c .before .before .before .before .has3 .ensures) (c .before .before .before .has4 .ensures) (c .before .before .has5 .ensures) (c .before .has6 .ensures) (c .has7 .ensures)
 
 pub in-set-spec : {M : Type 1} → statement M
-in-set-spec = tie.close (tie.spec Inv-loop μ-loop loop-holds in-code-requires returns add-k loop-less loop-again returns-2)
+in-set-spec =
+    tie.close
+    (tie.spec
+    has-requires
+    has-requires-2
+    has-requires-3
+    has-requires-4
+    has-requires-5
+    has-requires-6
+    has-requires-7
+    returns)
