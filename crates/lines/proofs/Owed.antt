@@ -1,17 +1,17 @@
 -- What is written and what is still owed come to the output, from each read and each write to the next. Assumes nothing.
-use mathlib.Core.Path.{_≡_, refl, sym, ap, ap₂, _∙_, subst}
+use mathlib.Core.Path.{_≡_, refl, sym, ap, ap₂, _∙_}
 use mathlib.Core.Bool.{Bool, true, false, not, _&&_}
 use mathlib.Core.List.{List, [], _∷_, _++_, append-assoc, append-nil}
 use Prim.Native.Nat.{ℕ, _≤_}
 use native.Mathlib.Omega.{arith}
 use lib.Dec.{ltb}
 use lib.ListN.{length, take, drop, drop-of-length-le}
-use lib.Seq.{slice, take-all, take-at, take-take, length-take-le}
+use lib.Seq.{slice, take-all, take-at, length-take-le}
 use borrow.Author.Tests.{ltb-false}
 use Rattle.pattern.specs.Bytes.{Bytes, over}
 use Rattle.replies.specs.Reply.{zeros}
 use Rattle.lines.specs.Output.{answers, last-line, first-line, output, Told, say, told, in-chunks, joined}
-use Rattle.lines.specs.Session.{begun, Ends, Continues, AfterRead, Fits, AfterWrite, owed}
+use Rattle.lines.specs.Session.{begun, Continues, AfterRead, Fits, AfterWrite, owed}
 use Rattle.lines.specs.declared.session.Input.the-variants.{Ended, Chunk}
 use Rattle.lines.specs.declared.session.Pending.{Pending}
 use Rattle.lines.specs.declared.session.Next.{Next}

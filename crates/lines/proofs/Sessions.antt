@@ -1,7 +1,7 @@
 -- What a read's answer means, and what lent bytes are after a session's steps. Assumes nothing.
 use mathlib.Core.Path.{_≡_, refl, sym, ap, ap₂, _∙_, subst}
 use mathlib.Core.List.{_++_}
-use mathlib.Core.Bool.{Bool, true, false, cond}
+use mathlib.Core.Bool.{true, false, cond}
 use Prim.Native.Nat.{ℕ, zero, suc, min, _≤_}
 use native.Mathlib.Omega.{arith}
 use lib.Dec.{T}
@@ -69,7 +69,7 @@ continues-in {chunk} {line} {scratch} {o} {o′} {line′} {scratch′} {out′}
 
 -- the answer to the last line is over the output
 pub ended-by : {held end : ℕ} {line scratch out scratch′ out′ line′ : Bytes} → Finishes (take held line) scratch out scratch′ out′ end → line′ ≡ zeroed held line
-    → Ends (answers (last-line (take held line)) scratch) held line scratch out line′ scratch′ out′ (Write (record { from = 0; to = 0; held = 0; end = end; last = true }))
+    → Ends (answers (last-line (take held line)) scratch) held line out line′ scratch′ out′ (Write (record { from = 0; to = 0; held = 0; end = end; last = true }))
 unfolding over
 ended-by {held} {end} {line} {scratch} {out} {scratch′} {out′} {line′} f w =
     let e : end ≡ length (answers (last-line (take held line)) scratch .text) = sym (length-take-le end out′ (f .end-fits)) ∙ ap length (f .tells) in

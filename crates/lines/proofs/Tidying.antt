@@ -1,12 +1,12 @@
 -- "Patient data stays in no buffer": what each step of the line tool leaves in its buffers. Assumes nothing.
 use mathlib.Core.Path.{_≡_, refl, sym, ap, _∙_, subst}
 use mathlib.Core.Bool.{Bool, true, false}
-use mathlib.Core.List.{List, [], _∷_, _++_}
+use mathlib.Core.List.{List, [], _∷_}
 use Prim.Native.Nat.{ℕ, _+_, _-_, _≤_}
 use native.Mathlib.Omega.{arith}
 use lib.Dec.{eqb}
 use lib.IntN.{ℤ}
-use lib.ListN.{length, take, drop, replicate, length-append, replicate-append-replicate}
+use lib.ListN.{length, take, drop, length-append}
 use lib.Seq.{slice, drop-at, drop-drop, length-take-le}
 use Rattle.pattern.specs.Bytes.{Bytes, over}
 use Rattle.replies.specs.Sizes.{held-limit, newline-byte, out-room}
@@ -18,22 +18,19 @@ use Rattle.lines.specs.declared.session.Input.{Input}
 use Rattle.lines.specs.declared.session.Input.the-variants.{Failed, Ended, Chunk}
 use Rattle.lines.specs.declared.session.Pending.{Pending}
 use Rattle.lines.specs.declared.session.Next.{Next}
-use Rattle.lines.specs.declared.session.Next.the-variants.{Write, Read, Stop}
-use Rattle.replies.proofs.Zeros.{either-zero, blank-zero, drop-same, reply-zero}
-use Rattle.lines.proofs.Told.{hold-longer}
+use Rattle.lines.specs.declared.session.Next.the-variants.{Write, Read}
+use Rattle.replies.proofs.Zeros.{either-zero, drop-zero, rest-zeroed, reply-zero}
+use Rattle.lines.proofs.Told.{hold-longer, held-after}
 use Rattle.lines.proofs.Sessions.{chunk-fits}
-
-abbrev held-after : Told → Bytes
-held-after t = t .held
 
 -- ---- scratch
 
-pub answers-zero : (lines : List Bytes) (scratch : Bytes) → Zero scratch → Zero (answers lines scratch .scratch)
+answers-zero : (lines : List Bytes) (scratch : Bytes) → Zero scratch → Zero (answers lines scratch .scratch)
 unfolding answers prefixed answer-to
 answers-zero [] scratch z = z
 answers-zero (line ∷ rest) scratch z = answers-zero rest (reply line scratch .scratch) (reply-zero scratch z line)
 
-pub told-zero : (held chunk scratch : Bytes) → Zero scratch → Zero (told held chunk scratch .scratch)
+told-zero : (held chunk scratch : Bytes) → Zero scratch → Zero (told held chunk scratch .scratch)
 unfolding told say answer-to
 told-zero held [] scratch z = z
 told-zero held (c ∷ s) scratch z = either-zero (λ (t : Told). t .scratch) (eqb c newline-byte) _ _ (told-zero [] s (reply held scratch .scratch) (reply-zero scratch z held)) (told-zero (hold held c) s scratch z)
@@ -41,15 +38,8 @@ told-zero held (c ∷ s) scratch z = either-zero (λ (t : Told). t .scratch) (eq
 -- ---- what is held, and what is written
 
 -- zeros further on
-pub drop-zero : (k : ℕ) (s : Bytes) → Zero s → Zero (drop k s)
-drop-zero k s z = let (m, e) = drop-same k (length s) 0 in blank-zero m (drop k s) (ap (drop k) z ∙ e)
-
 later-zero : (i j : ℕ) (s : Bytes) → i ≤ j → Zero (drop i s) → Zero (drop j s)
 later-zero i j s h z = let e : i + (j - i) ≡ j = omega arith in subst Zero (drop-drop (j - i) i s ∙ ap (λ k. drop k s) e) (drop-zero (j - i) (drop i s) z)
-
--- zeros over what isn't zero yet
-pub rest-zeroed : (n : ℕ) (s : Bytes) → Zero (drop n s) → Zero (zeroed n s)
-rest-zeroed n s z = blank-zero (n + length (drop n s)) (zeroed n s) (ap (λ v. replicate n 0 ++ v) z ∙ replicate-append-replicate n (length (drop n s)) 0)
 
 -- past what is held of a line there are zeros, if there were
 wiped-zero : (held s line scratch : Bytes) → Zero (drop (length held) line) → Zero (drop (length (told held s scratch .held)) (wiped held s line))

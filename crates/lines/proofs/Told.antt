@@ -94,11 +94,7 @@ last-none (c ∷ s) scratch e = absurd (omega arith)
 
 -- ---- turns over a chunk
 
--- no text, and a text before another
-pub say-none : (t : Told) → say [] t ≡ t
-unfolding say
-say-none t = refl
-
+-- a text before another
 pub say-say : (v w : Bytes) (t : Told) → say (v ++ w) t ≡ say v (say w t)
 unfolding say
 say-say v w t = ap (λ x. record { text = x; held = t .held; scratch = t .scratch }) (append-assoc v w (t .text))
@@ -138,8 +134,8 @@ wiped-same held (c ∷ s) line other e =
     go true x = ap (λ v. wiped [] s (replicate (length held) 0 ++ v)) e
     go false x = x
 
-abbrev held-of : Told → Bytes
-held-of t = t .held
+abbrev pub held-after : Told → Bytes
+held-after t = t .held
 
 wiped-append : (held s t line scratch : Bytes) → wiped held (s ++ t) line ≡ wiped (told held s scratch .held) t (wiped held s line)
 unfolding wiped told say over
@@ -149,7 +145,7 @@ wiped-append held (c ∷ s) t line scratch = go (eqb c newline-byte) (wiped-appe
     go : (b : Bool) → wiped [] (s ++ t) (zeroed (length held) line) ≡ wiped (told [] s (answer-to held scratch .scratch) .held) t (wiped [] s (zeroed (length held) line))
         → wiped (hold held c) (s ++ t) line ≡ wiped (told (hold held c) s scratch .held) t (wiped (hold held c) s line)
         → _≡_ {A = Bytes} (elim b [ true ↦ wiped [] (s ++ t) (zeroed (length held) line) | false ↦ wiped (hold held c) (s ++ t) line ])
-        (wiped (held-of (elim b [ true ↦ say (answer-to held scratch .text) (told [] s (answer-to held scratch .scratch)) | false ↦ told (hold held c) s scratch ])) t
+        (wiped (held-after (elim b [ true ↦ say (answer-to held scratch .text) (told [] s (answer-to held scratch .scratch)) | false ↦ told (hold held c) s scratch ])) t
         (elim b [ true ↦ wiped [] s (zeroed (length held) line) | false ↦ wiped (hold held c) s line ]))
     go true x y = x
     go false x y = y

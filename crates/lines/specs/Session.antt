@@ -40,7 +40,7 @@ pub record Drops (held : ℕ) (line scratch out line′ scratch′ out′ : Byte
   pub out-stays : out′ ≡ out
 
 -- what is held is the last line: its answer is to be written, and then nothing
-pub record Ends (last : Reply) (held : ℕ) (line scratch out line′ scratch′ out′ : Bytes) (r : Next) : Type 0 where
+pub record Ends (last : Reply) (held : ℕ) (line out line′ scratch′ out′ : Bytes) (r : Next) : Type 0 where
   pub next : r ≡ Write (record { from = 0; to = 0; held = 0; end = length (last .text); last = true })
   pub tells : out′ ≡ over (last .text) out
   pub works : scratch′ ≡ last .scratch
@@ -54,7 +54,7 @@ pub record Continues (chunk : Bytes) (from : ℕ) (line : Bytes) (held : ℕ) (s
 
 unfoldable pub AfterRead : Input → (held : ℕ) (buf line scratch out line′ scratch′ out′ : Bytes) → Next → Type 0
 AfterRead Failed held buf line scratch out line′ scratch′ out′ r = Drops held line scratch out line′ scratch′ out′ r
-AfterRead Ended held buf line scratch out line′ scratch′ out′ r = Ends (answers (last-line (take held line)) scratch) held line scratch out line′ scratch′ out′ r
+AfterRead Ended held buf line scratch out line′ scratch′ out′ r = Ends (answers (last-line (take held line)) scratch) held line out line′ scratch′ out′ r
 AfterRead (Chunk n) held buf line scratch out line′ scratch′ out′ r = Continues (take n buf) 0 line held scratch out line′ scratch′ out′ r
 
 -- ---- after a write

@@ -1,7 +1,7 @@
 -- Bytes that are zero stay so: lent bytes with zeros over them, and scratch after a match and after a line. Assumes nothing.
 use mathlib.Core.Path.{_≡_, refl, sym, ap, _∙_}
 use mathlib.Core.Bool.{Bool, true, false}
-use mathlib.Core.List.{List, [], _∷_, _++_}
+use mathlib.Core.List.{List, _++_}
 use mathlib.Core.Option.{Option, none, some}
 use Prim.Native.Nat.{ℕ, zero, suc, _+_}
 use lib.Dec.{eqb, ltb}
@@ -11,9 +11,8 @@ use Rattle.pattern.specs.Bytes.{Bytes, bytes, over}
 use Rattle.pattern.specs.Syntax.{pattern, Syntax}
 use Rattle.pattern.specs.Parts.{verdict}
 use Rattle.pattern.specs.Decode.{decode}
-use Rattle.pattern.specs.Answers.{work, cleared, lent-fault, judged, tried-if, tried, tried-unless, matched, matchOf, Output, compileOf}
-use Rattle.replies.specs.Sizes.{line-limit, budget, unset, newline-byte}
-use Rattle.replies.specs.Text.{refused-text}
+use Rattle.pattern.specs.Answers.{work, cleared, lent-fault, judged, tried-if, tried, tried-unless, matched, matchOf, compileOf}
+use Rattle.replies.specs.Sizes.{line-limit, budget, unset}
 use Rattle.replies.specs.Reply.{cut, Reply, match-reply, label-reply, table-reply, source-reply, cut-reply, reply}
 use Rattle.replies.specs.Stores.{Zero, zeroed}
 
@@ -34,15 +33,16 @@ drop-same (suc k) (suc n) a = drop-same k n a
 pub blank-zero : (n : ℕ) (s : Bytes) → s ≡ blank n → Zero s
 blank-zero n s e = e ∙ ap blank (sym (length-replicate {A = ℕ} n 0) ∙ sym (ap length e))
 
--- zeros over the first of them
-pub zeroed-zero : (k : ℕ) (s : Bytes) → Zero s → Zero (zeroed k s)
-zeroed-zero k s z =
-    let (m, e) = drop-same k (length s) 0 in
-    blank-zero (k + m) (zeroed k s) (ap (λ v. blank k ++ drop k v) z ∙ ap (λ v. blank k ++ v) e ∙ replicate-append-replicate k m 0)
+-- zeros further on, and over what isn't zero yet
+pub drop-zero : (k : ℕ) (s : Bytes) → Zero s → Zero (drop k s)
+drop-zero k s z = let (m, e) = drop-same k (length s) 0 in blank-zero m (drop k s) (ap (drop k) z ∙ e)
+
+pub rest-zeroed : (n : ℕ) (s : Bytes) → Zero (drop n s) → Zero (zeroed n s)
+rest-zeroed n s z = blank-zero (n + length (drop n s)) (zeroed n s) (ap (λ v. blank n ++ v) z ∙ replicate-append-replicate n (length (drop n s)) 0)
 
 over-zero : (k : ℕ) (s : Bytes) → Zero s → Zero (over (blank k) s)
 unfolding over
-over-zero k s z = let h : length (blank k) ≡ k = length-replicate {A = ℕ} k 0 in rw h (zeroed-zero k s z)
+over-zero k s z = let h : length (blank k) ≡ k = length-replicate {A = ℕ} k 0 in rw h (rest-zeroed k s (drop-zero k s z))
 
 -- scratch after a match is what it was, or has zeros over its first bytes
 module _ (P : Bytes → Type 0) (label scratch parts : Bytes) (budget : ℕ) (same : P scratch) (clear : (k : ℕ) → P (over (blank k) scratch)) where
