@@ -11,7 +11,7 @@ use borrow.Author.Tests.{ltb-false}
 use Rattle.pattern.specs.Bytes.{Bytes, over}
 use Rattle.replies.specs.Reply.{zeros}
 use Rattle.lines.specs.Output.{answers, last-line, first-line, output, Told, say, told, in-chunks, joined}
-use Rattle.lines.specs.Session.{begun, Continues, AfterRead, Fits, AfterWrite, owed}
+use Rattle.lines.specs.Session.{started, Continues, AfterRead, PendingIn, AfterWrite, owed}
 use Rattle.lines.specs.declared.session.Input.the-variants.{Ended, Chunk}
 use Rattle.lines.specs.declared.session.Pending.{Pending}
 use Rattle.lines.specs.declared.session.Next.{Next}
@@ -21,9 +21,9 @@ use Rattle.lines.proofs.Told.{told-append}
 use Rattle.lines.proofs.Chunks.{chunks-hold}
 
 -- after the first line: all the rest
-pub begin-owed : (buf line out : Bytes) (chunks : List Bytes) → first-line ++ owed (begun true) buf line zeros out chunks ≡ output (joined chunks)
-unfolding begun owed
-begin-owed buf line out chunks = chunks-hold chunks
+pub start-owed : (buf line out : Bytes) (chunks : List Bytes) → first-line ++ owed (started true) buf line zeros out chunks ≡ output (joined chunks)
+unfolding started owed
+start-owed buf line out chunks = chunks-hold chunks
 
 -- a chunk in two parts
 in-parts : (held s t scratch : Bytes) (chunks : List Bytes) {d : Told} → told held s scratch ≡ d → in-chunks held ((s ++ t) ∷ chunks) scratch ≡ d .text ++ in-chunks (d .held) (t ∷ chunks) (d .scratch)
@@ -38,15 +38,15 @@ module _ {chunk line scratch out line′ scratch′ out′ : Bytes} {from held :
   unfolding owed
   continues-owed chunks =
       let p = a .part in
-      let d = a .answered in
+      let d = a .answered .done in
       ap (λ x. owed x buf line′ scratch′ out′ chunks) (a .next)
       ∙ ap (λ s. take (p .end) out′ ++ in-chunks (take (p .held) line′) (drop (p .next) s ∷ chunks) scratch′) e
-      ∙ sym (in-parts (take held line) (slice from (p .next) chunk) (drop (p .next) chunk) scratch chunks (d .done .tells))
+      ∙ sym (in-parts (take held line) (slice from (p .next) chunk) (drop (p .next) chunk) scratch chunks (d .tells))
       ∙ ap (λ s. in-chunks (take held line) (s ∷ chunks) scratch) (sym parts)
     where
       parts : drop from chunk ≡ slice from (a .part .next) chunk ++ drop (a .part .next) chunk
       parts =
-          ap (drop from) (sym (take-all (length chunk) chunk (omega arith))) ∙ slice-join chunk from (a .part .next) (length chunk) (a .answered .goes-on) (a .answered .next-fits) (omega arith)
+          ap (drop from) (sym (take-all (length chunk) chunk (omega arith))) ∙ slice-join chunk from (a .part .next) (length chunk) (a .answered .done .goes-on) (a .answered .done .next-fits) (omega arith)
           ∙ ap (λ s. slice from (a .part .next) chunk ++ drop (a .part .next) s) (take-all (length chunk) chunk (omega arith))
 
 -- ---- after a read
@@ -66,7 +66,7 @@ module _ (held : ℕ) (buf line scratch out line′ scratch′ out′ : Bytes) (
       ap (λ x. owed x buf line′ scratch′ out′ chunks) (a .next) ∙ append-nil _ ∙ ap (take (length text)) (a .tells) ∙ take-at text (drop (length text) out) (length text) refl
 
 -- ---- after a write that succeeded: what was written, and what is owed then, is what was owed
-module _ (p : Pending) (buf line scratch out buf′ line′ scratch′ out′ : Bytes) (r : Next) (f : Fits p buf line out) (chunks : List Bytes) where
+module _ (p : Pending) (buf line scratch out buf′ line′ scratch′ out′ : Bytes) (r : Next) (f : PendingIn p buf line out) (chunks : List Bytes) where
   abbrev Paid : Type 0
   Paid = take (p .end) out ++ owed r buf′ line′ scratch′ out′ chunks ≡ owed (Write p) buf line scratch out chunks
 

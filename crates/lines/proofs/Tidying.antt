@@ -13,7 +13,7 @@ use Rattle.replies.specs.Sizes.{held-limit, newline-byte, out-room}
 use Rattle.replies.specs.Reply.{reply, answer-to}
 use Rattle.replies.specs.Stores.{zeroed, Zero}
 use Rattle.lines.specs.Output.{prefixed, answers, last-line, hold, Told, say, told, wiped}
-use Rattle.lines.specs.Session.{reading-of, begun, Continues, AfterRead, Fits, AfterWrite, Ready, Tidy, Sound}
+use Rattle.lines.specs.Session.{reading-of, started, Continues, AfterRead, PendingIn, AfterWrite, NextIn, Tidy, Sound}
 use Rattle.lines.specs.declared.session.Input.{Input}
 use Rattle.lines.specs.declared.session.Input.the-variants.{Failed, Ended, Chunk}
 use Rattle.lines.specs.declared.session.Pending.{Pending}
@@ -60,24 +60,24 @@ wiped-zero held (c ∷ s) line scratch z =
 module _ {chunk line scratch out line′ scratch′ out′ : Bytes} {from held : ℕ} {r : Next} (a : Continues chunk from line held scratch out line′ scratch′ out′ r) where
   continues-tidy : held ≤ length line → length line′ ≡ held-limit → Zero (drop held line) → Zero scratch → Zero out → Tidy r line′ scratch′ out′
   continues-tidy h k z w o =
-      let d = a .answered in
+      let d = a .answered .done in
       let kept : length (told (take held line) (slice from (a .part .next) chunk) scratch .held) ≡ a .part .held =
-      ap (λ (t : Told). length (t .held)) (d .done .tells) ∙ length-take-le (a .part .held) line′ (omega (arith, d .held-fits)) in
+      ap (λ (t : Told). length (t .held)) (d .tells) ∙ length-take-le (a .part .held) line′ (omega (arith, d .held-fits)) in
       let begun : Zero (drop (length (take held line)) line) = subst (λ n. Zero (drop n line)) (sym (length-take-le held line h)) z in
       subst (λ x. Tidy x line′ scratch′ out′) (sym (a .next))
       (record {
         line-zero =
-            subst (λ l. Zero (drop (a .part .held) l)) (d .done .wipes)
+            subst (λ l. Zero (drop (a .part .held) l)) (d .wipes)
             (subst (λ n. Zero (drop n (wiped (take held line) (slice from (a .part .next) chunk) line))) kept (wiped-zero (take held line) (slice from (a .part .next) chunk) line scratch begun));
-        scratch-zero = subst Zero (ap (λ (t : Told). t .scratch) (d .done .tells)) (told-zero (take held line) (slice from (a .part .next) chunk) scratch w);
+        scratch-zero = subst Zero (ap (λ (t : Told). t .scratch) (d .tells)) (told-zero (take held line) (slice from (a .part .next) chunk) scratch w);
         out-zero = subst Zero (sym (d .stays)) (drop-zero (a .part .end) out o);
       })
 
-  continues-ready : (buf : Bytes) → length chunk ≤ length buf → length line′ ≡ held-limit → out-room ≤ length out′ → Ready r buf line′ out′
+  continues-ready : (buf : Bytes) → length chunk ≤ length buf → length line′ ≡ held-limit → out-room ≤ length out′ → NextIn r buf line′ out′
   continues-ready buf h k o =
-      let d = a .answered in
-      subst (λ x. Ready x buf line′ out′) (sym (a .next))
-      (unfold Ready in record { from-fits = d .next-fits; to-fits = h; held-fits = d .held-fits; line-size = k; end-fits = d .end-fits; out-size = o })
+      let d = a .answered .done in
+      subst (λ x. NextIn x buf line′ out′) (sym (a .next))
+      (unfold NextIn in record { from-fits = d .next-fits; to-fits = h; held-fits = d .held-fits; line-size = k; end-fits = d .end-fits; out-size = o })
 
 module _ (i : Input) (held : ℕ) (buf line scratch out line′ scratch′ out′ : Bytes) (r : Next) (a : AfterRead i held buf line scratch out line′ scratch′ out′ r) (k : length line′ ≡ held-limit) where
   read-tidy : held ≤ length line → Tidy (Read held) line scratch out → Tidy r line′ scratch′ out′
@@ -101,19 +101,19 @@ module _ (i : Input) (held : ℕ) (buf line scratch out line′ scratch′ out�
           })
       go (Chunk n) a = continues-tidy a h k (t .line-zero) (t .scratch-zero) (t .out-zero)
 
-  read-ready : ((n : ℕ) → i ≡ Chunk n → n ≤ length buf) → out-room ≤ length out → length out′ ≡ length out → Ready r buf line′ out′
-  unfolding AfterRead over Ready
+  read-ready : ((n : ℕ) → i ≡ Chunk n → n ≤ length buf) → out-room ≤ length out → length out′ ≡ length out → NextIn r buf line′ out′
+  unfolding AfterRead over NextIn
   read-ready f o e = go i a f
     where
-      go : (i : Input) → AfterRead i held buf line scratch out line′ scratch′ out′ r → ((n : ℕ) → i ≡ Chunk n → n ≤ length buf) → Ready r buf line′ out′
-      go Failed a f = subst (λ x. Ready x buf line′ out′) (sym (a .next)) tt
+      go : (i : Input) → AfterRead i held buf line scratch out line′ scratch′ out′ r → ((n : ℕ) → i ≡ Chunk n → n ≤ length buf) → NextIn r buf line′ out′
+      go Failed a f = subst (λ x. NextIn x buf line′ out′) (sym (a .next)) tt
       go Ended a f =
           let v = answers (last-line (take held line)) scratch .text in
-          subst (λ x. Ready x buf line′ out′) (sym (a .next))
+          subst (λ x. NextIn x buf line′ out′) (sym (a .next))
           (record { from-fits = omega arith; to-fits = omega arith; held-fits = omega arith; line-size = k; end-fits = omega (arith, ap length (a .tells), length-append v (drop (length v) out)); out-size = omega arith })
       go (Chunk n) a f = continues-ready a buf (omega (arith, length-take-le n buf (f n refl), f n refl)) k (omega arith)
 
-module _ (goes-on rest : Bool) (p : Pending) (buf line scratch out buf′ line′ scratch′ out′ : Bytes) (r : Next) (a : AfterWrite goes-on rest p buf line scratch out buf′ line′ scratch′ out′ r) (f : Fits p buf line out)
+module _ (goes-on rest : Bool) (p : Pending) (buf line scratch out buf′ line′ scratch′ out′ : Bytes) (r : Next) (a : AfterWrite goes-on rest p buf line scratch out buf′ line′ scratch′ out′ r) (f : PendingIn p buf line out)
     (k : length line′ ≡ held-limit) where
   write-tidy : Tidy (Write p) line scratch out → Tidy r line′ scratch′ out′
   unfolding AfterWrite
@@ -139,36 +139,36 @@ module _ (goes-on rest : Bool) (p : Pending) (buf line scratch out buf′ line�
             out-zero = subst Zero (sym (a .out-wiped)) blank-out;
           })
 
-  write-ready : length buf′ ≡ length buf → length out′ ≡ length out → Ready r buf′ line′ out′
-  unfolding AfterWrite Ready
+  write-ready : length buf′ ≡ length buf → length out′ ≡ length out → NextIn r buf′ line′ out′
+  unfolding AfterWrite NextIn
   write-ready e o = go goes-on rest a
     where
-      go : (g b : Bool) → AfterWrite g b p buf line scratch out buf′ line′ scratch′ out′ r → Ready r buf′ line′ out′
-      go false b a = subst (λ x. Ready x buf′ line′ out′) (sym (a .next)) tt
+      go : (g b : Bool) → AfterWrite g b p buf line scratch out buf′ line′ scratch′ out′ r → NextIn r buf′ line′ out′
+      go false b a = subst (λ x. NextIn x buf′ line′ out′) (sym (a .next)) tt
       go true true a = continues-ready (a .continues) buf′ (omega (arith, length-take-le (p .to) buf (f .to-fits), f .to-fits)) k (omega (arith, f .out-size))
-      go true false a = subst (λ x. Ready x buf′ line′ out′) (sym (a .next)) (f .held-fits)
+      go true false a = subst (λ x. NextIn x buf′ line′ out′) (sym (a .next)) (f .held-fits)
 
 pub sound-as : {m n : Next} {buf line scratch out : Bytes} → m ≡ n → Sound m buf line scratch out → Sound n buf line scratch out
 sound-as {m} {n} {buf} {line} {scratch} {out} e s = subst (λ x. Sound x buf line scratch out) e s
 
 -- at first
-pub begin-sound : (wrote : Bool) {next : Next} {buf line scratch out : Bytes} → next ≡ begun wrote → Zero line → Zero scratch → Zero out → length line ≡ held-limit → out-room ≤ length out
+pub start-sound : (wrote : Bool) {next : Next} {buf line scratch out : Bytes} → next ≡ started wrote → Zero line → Zero scratch → Zero out → length line ≡ held-limit → out-room ≤ length out
     → Sound next buf line scratch out
-begin-sound wrote {next} {buf} {line} {scratch} {out} e l s o h k = sound-as (sym e) (go wrote)
+start-sound wrote {next} {buf} {line} {scratch} {out} e l s o h k = sound-as (sym e) (go wrote)
   where
-    go : (b : Bool) → Sound (begun b) buf line scratch out
-    go true = unfold begun Ready in record { ready = omega arith; tidy = record { line-zero = l; scratch-zero = s; out-zero = o }; line-size = h; out-size = k }
-    go false = unfold begun Ready in record { ready = tt; tidy = record { line-zero = l; scratch-zero = s; out-zero = o }; line-size = h; out-size = k }
+    go : (b : Bool) → Sound (started b) buf line scratch out
+    go true = unfold started NextIn in record { ready = omega arith; tidy = record { line-zero = l; scratch-zero = s; out-zero = o }; line-size = h; out-size = k }
+    go false = unfold started NextIn in record { ready = tt; tidy = record { line-zero = l; scratch-zero = s; out-zero = o }; line-size = h; out-size = k }
 
 -- before a read it doesn't matter what the input's buffer has
 pub sound-read : {held : ℕ} {buf other line scratch out : Bytes} → Sound (Read held) buf line scratch out → Sound (Read held) other line scratch out
-unfolding Ready
+unfolding NextIn
 sound-read s = record { ready = s .ready; tidy = s .tidy; line-size = s .line-size; out-size = s .out-size }
 
 -- a read keeps it so
 pub read-sound : (got : ℤ) (held : ℕ) (buf line scratch out line′ scratch′ out′ : Bytes) (r : Next) → AfterRead (reading-of got (length buf)) held buf line scratch out line′ scratch′ out′ r
     → Sound (Read held) buf line scratch out → length line′ ≡ length line → length out′ ≡ length out → Sound r buf line′ scratch′ out′
-unfolding Ready
+unfolding NextIn
 read-sound got held buf line scratch out line′ scratch′ out′ r a s e o =
     let i = reading-of got (length buf) in
     let k : length line′ ≡ held-limit = e ∙ s .line-size in
@@ -182,7 +182,7 @@ read-sound got held buf line scratch out line′ scratch′ out′ r a s e o =
 -- and a write
 pub write-sound : (goes-on rest : Bool) (p : Pending) (buf line scratch out buf′ line′ scratch′ out′ : Bytes) (r : Next) → AfterWrite goes-on rest p buf line scratch out buf′ line′ scratch′ out′ r
     → Sound (Write p) buf line scratch out → length buf′ ≡ length buf → length line′ ≡ length line → length out′ ≡ length out → Sound r buf′ line′ scratch′ out′
-unfolding Ready
+unfolding NextIn
 write-sound g b p buf line scratch out buf′ line′ scratch′ out′ r a s u e o =
     let k : length line′ ≡ held-limit = e ∙ s .line-size in
     record {

@@ -13,6 +13,7 @@ use Rattle.replies.specs.Sizes.{held-limit, newline-byte}
 use Rattle.replies.specs.Reply.{reply, answer-to}
 use Rattle.lines.specs.Output.{prefixed, answers, last-line, hold, taken, Told, say, told, wiped}
 use Rattle.pattern.specs.Stores.{stored, Puts}
+use Rattle.pattern.proofs.Stores.{puts-length}
 use Rattle.replies.specs.Stores.{zeroed, Replied}
 use Rattle.lines.specs.Taking.{newline-if, Took}
 use Rattle.lines.specs.Chunk.{Done}
@@ -152,16 +153,25 @@ wiped-append held (c ∷ s) t line scratch = go (eqb c newline-byte) (wiped-appe
 
 -- ---- what is done of a chunk
 
-pub done-none : (chunk line scratch out : Bytes) (from held : ℕ) → held ≤ length line → Done chunk from line held scratch line scratch out (record { next = from; held = held; end = 0 })
+pub done-none : (chunk line scratch out : Bytes) (from held : ℕ) → from ≤ length chunk → held ≤ held-limit → held ≤ length line
+    → Done chunk from line held scratch out line scratch out (record { next = from; held = held; end = 0 })
 unfolding told wiped
-done-none chunk line scratch out from held h =
-    record { tells = ap (λ s. told (take held line) s scratch) (slice-empty from chunk); wipes = ap (λ s. wiped (take held line) s line) (slice-empty from chunk) ∙ over-same held line line h refl }
+done-none chunk line scratch out from held f l h =
+    record {
+      tells = ap (λ s. told (take held line) s scratch) (slice-empty from chunk);
+      wipes = ap (λ s. wiped (take held line) s line) (slice-empty from chunk) ∙ over-same held line line h refl;
+      stays = refl;
+      goes-on = omega arith;
+      next-fits = f;
+      held-fits = l;
+      end-fits = omega arith;
+    }
 
 -- a line more is taken
-module _ {chunk line₀ scratch₀ line scratch out after : Bytes} {from held₀ : ℕ} {p : Answered} {r : Taken} (d : Done chunk from line₀ held₀ scratch₀ line scratch out p)
-    (t : Took chunk (p .next) line (p .held) after r) (b : from ≤ p .next) (h : r .held ≤ length after) where
+module _ {chunk line₀ scratch₀ out₀ line scratch out after : Bytes} {from held₀ : ℕ} {p : Answered} {r : Taken} (d : Done chunk from line₀ held₀ scratch₀ out₀ line scratch out p)
+    (t : Took chunk (p .next) line (p .held) after r) (h : r .held ≤ length after) where
   parts : slice from (r .next) chunk ≡ slice from (p .next) chunk ++ slice (p .next) (r .next) chunk
-  parts = slice-join chunk from (p .next) (r .next) b (t .goes-on) (t .next-fits)
+  parts = slice-join chunk from (p .next) (r .next) (d .goes-on) (t .goes-on) (t .next-fits)
 
   more-told : told (take held₀ line₀) (slice from (r .next) chunk) scratch₀ ≡ say (take (p .end) out) (told (take (p .held) line) (slice (p .next) (r .next) chunk) scratch)
   more-told =
@@ -177,25 +187,36 @@ module _ {chunk line₀ scratch₀ line scratch out after : Bytes} {from held₀
   took b e = t .equal ∙ ap (λ b. (take (r .held) after, newline-if b)) e
 
   -- it did not end
-  pub done-held : r .ended ≡ false → Done chunk from line₀ held₀ scratch₀ after scratch out (record { next = r .next; held = r .held; end = p .end })
+  pub done-held : r .ended ≡ false → Done chunk from line₀ held₀ scratch₀ out₀ after scratch out (record { next = r .next; held = r .held; end = p .end })
   unfolding newline-if say
   done-held e =
       record {
         tells = more-told ∙ ap (say (take (p .end) out)) (walk-held (told-walks scratch) (took false e)) ∙ ap (λ v. record { text = v; held = take (r .held) after; scratch = scratch }) (append-nil _);
         wipes = more-wiped ∙ walk-held (wiped-walks line) (took false e) ∙ over-same _ _ _ h (t .stays);
+        stays = d .stays;
+        goes-on = omega (arith, d .goes-on, t .goes-on);
+        next-fits = t .next-fits;
+        held-fits = t .held-fits;
+        end-fits = d .end-fits;
       }
 
   -- it ended: its answer stands after what was written before, and its bytes are zeroed
   pub done-ended : {scratch′ out′ line′ : Bytes} {room j : ℕ} → r .ended ≡ true → Replied room (answer-to (take (r .held) after) scratch) out (p .end) scratch′ out′ j → p .end + room ≤ length out
-      → line′ ≡ zeroed (r .held) after → Done chunk from line₀ held₀ scratch₀ line′ scratch′ out′ (record { next = r .next; held = 0; end = j })
+      → line′ ≡ zeroed (r .held) after → Done chunk from line₀ held₀ scratch₀ out₀ line′ scratch′ out′ (record { next = r .next; held = 0; end = j })
   unfolding newline-if say told wiped over
   done-ended {scratch′} {out′} {line′} {room} {j} e a l z =
       let w = a .within in
+      let f : p .end + length (answer-to (take (r .held) after) scratch .text) ≤ length out = omega (arith, w .stores .next, w .short) in
       record {
         tells =
             more-told ∙ ap (say (take (p .end) out)) (walk-ended (told-walks scratch) (took true e))
-            ∙ ap₂ (λ v s. record { text = v; held = []; scratch = s }) (ap (λ v. take (p .end) out ++ v) (append-nil _) ∙ sym (take-stored (omega (arith, w .stores .next, w .short)) (w .stores))) (sym (a .works));
+            ∙ ap₂ (λ v s. record { text = v; held = []; scratch = s }) (ap (λ v. take (p .end) out ++ v) (append-nil _) ∙ sym (take-stored f (w .stores))) (sym (a .works));
         wipes =
             more-wiped ∙ walk-ended (wiped-walks line) (took true e) ∙ ap (λ n. replicate n 0 ++ drop n line) (length-take-le (r .held) after h)
             ∙ ap (λ v. replicate (r .held) 0 ++ v) (sym (t .stays)) ∙ sym z;
+        stays = drop-stored f (w .stores) ∙ same-after out out₀ (p .end) j (omega (arith, w .stores .next)) (d .stays);
+        goes-on = omega (arith, d .goes-on, t .goes-on);
+        next-fits = t .next-fits;
+        held-fits = omega arith;
+        end-fits = omega (arith, w .short, puts-length (w .stores));
       }

@@ -8,20 +8,20 @@ use Rattle.replies.specs.Sizes.{held-limit, out-room}
 use Rattle.lines.specs.Output.{answers, last-line, told, wiped}
 use Rattle.lines.specs.declared.chunk.Answered.{Answered}
 
--- what the bytes of a chunk from one place to another give is in the first bytes of the output, the line's and scratch
-pub record Done (chunk : Bytes) (from : ℕ) (line : Bytes) (held : ℕ) (scratch line′ scratch′ out′ : Bytes) (r : Answered) : Type 0 where
+-- what the bytes of a chunk from one place to another give is in the first bytes of the output, in the line's and in scratch; the output's other bytes stay
+pub record Done (chunk : Bytes) (from : ℕ) (line : Bytes) (held : ℕ) (scratch out line′ scratch′ out′ : Bytes) (r : Answered) : Type 0 where
   pub tells : told (take held line) (slice from (r .next) chunk) scratch ≡ record { text = take (r .end) out′; held = take (r .held) line′; scratch = scratch′ }
   pub wipes : wiped (take held line) (slice from (r .next) chunk) line ≡ line′
-
--- so much of it is answered that the rest of the output may be short of a reply; that rest stays
-pub record Answers (chunk : Bytes) (from : ℕ) (line : Bytes) (held : ℕ) (scratch out line′ scratch′ out′ : Bytes) (r : Answered) : Type 0 where
-  pub done : Done chunk from line held scratch line′ scratch′ out′ r
-  pub fills : r .next < length chunk → length out < r .end + out-room
   pub stays : drop (r .end) out′ ≡ drop (r .end) out
   pub goes-on : from ≤ r .next
   pub next-fits : r .next ≤ length chunk
   pub held-fits : r .held ≤ held-limit
   pub end-fits : r .end ≤ length out′
+
+-- so much is done that, if the chunk has more, the rest of the output may be short of a reply
+pub record Answers (chunk : Bytes) (from : ℕ) (line : Bytes) (held : ℕ) (scratch out line′ scratch′ out′ : Bytes) (r : Answered) : Type 0 where
+  pub done : Done chunk from line held scratch out line′ scratch′ out′ r
+  pub fills : r .next < length chunk → length out < r .end + out-room
 
 -- the answer to a last line is written, and the bytes after it stay
 pub record Finishes (line scratch out scratch′ out′ : Bytes) (end : ℕ) : Type 0 where

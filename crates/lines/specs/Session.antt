@@ -26,9 +26,9 @@ reading-of (pos zero) room = Ended
 reading-of (pos (suc k)) room = Chunk (min (suc k) room)
 
 -- after the first line was written, or was not
-unfoldable pub begun : (wrote : Bool) → Next
-begun true = Read 0
-begun false = Stop
+unfoldable pub started : (wrote : Bool) → Next
+started true = Read 0
+started false = Stop
 
 -- ---- after a read
 
@@ -60,7 +60,7 @@ AfterRead (Chunk n) held buf line scratch out line′ scratch′ out′ r = Cont
 -- ---- after a write
 
 -- what is pending lies in the buffers
-pub record Fits (p : Pending) (buf line out : Bytes) : Type 0 where
+pub record PendingIn (p : Pending) (buf line out : Bytes) : Type 0 where
   pub from-fits : p .from ≤ p .to
   pub to-fits : p .to ≤ length buf
   pub held-fits : p .held ≤ held-limit
@@ -69,7 +69,7 @@ pub record Fits (p : Pending) (buf line out : Bytes) : Type 0 where
   pub out-size : out-room ≤ length out
 
 -- it ends, and all that was used is zero
-pub record Stops (p : Pending) (buf line scratch out buf′ line′ scratch′ out′ : Bytes) (r : Next) : Type 0 where
+pub record Quits (p : Pending) (buf line scratch out buf′ line′ scratch′ out′ : Bytes) (r : Next) : Type 0 where
   pub next : r ≡ Stop
   pub buf-wiped : buf′ ≡ zeroed (p .to) buf
   pub line-wiped : line′ ≡ zeroed (p .held) line
@@ -91,7 +91,7 @@ pub record Waits (p : Pending) (buf line scratch out buf′ line′ scratch′ o
 
 -- goes-on: the write succeeded and wasn't the last; rest: some of the chunk isn't answered yet
 unfoldable pub AfterWrite : (goes-on rest : Bool) → Pending → (buf line scratch out buf′ line′ scratch′ out′ : Bytes) → Next → Type 0
-AfterWrite false rest p buf line scratch out buf′ line′ scratch′ out′ r = Stops p buf line scratch out buf′ line′ scratch′ out′ r
+AfterWrite false rest p buf line scratch out buf′ line′ scratch′ out′ r = Quits p buf line scratch out buf′ line′ scratch′ out′ r
 AfterWrite true true p buf line scratch out buf′ line′ scratch′ out′ r = Resumes p buf line scratch out buf′ line′ scratch′ out′ r
 AfterWrite true false p buf line scratch out buf′ line′ scratch′ out′ r = Waits p buf line scratch out buf′ line′ scratch′ out′ r
 
@@ -105,10 +105,10 @@ owed (Write p) buf line scratch out chunks =
 -- ---- what holds between steps
 
 -- what is held and pending lies in the buffers
-unfoldable pub Ready : Next → (buf line out : Bytes) → Type 0
-Ready Stop buf line out = Unit {0}
-Ready (Read held) buf line out = held ≤ held-limit
-Ready (Write p) buf line out = Fits p buf line out
+unfoldable pub NextIn : Next → (buf line out : Bytes) → Type 0
+NextIn Stop buf line out = Unit {0}
+NextIn (Read held) buf line out = held ≤ held-limit
+NextIn (Write p) buf line out = PendingIn p buf line out
 
 abbrev pub held-of : Next → ℕ
 held-of Stop = 0
@@ -127,7 +127,7 @@ pub record Tidy (next : Next) (line scratch out : Bytes) : Type 0 where
   pub out-zero : Zero (drop (end-of next) out)
 
 pub record Sound (next : Next) (buf line scratch out : Bytes) : Type 0 where
-  pub ready : Ready next buf line out
+  pub ready : NextIn next buf line out
   pub tidy : Tidy next line scratch out
   pub line-size : length line ≡ held-limit
   pub out-size : out-room ≤ length out

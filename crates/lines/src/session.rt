@@ -6,7 +6,7 @@ ghost use Prim.Native.Nat.{_≤_};
 ghost use lib.ListN.{length};
 ghost use lib.Dec.{ltb};
 ghost use Rattle.replies.specs.Sizes.{held-limit, out-room};
-ghost use Rattle.lines.specs.Session.{reading-of, begun, Continues, AfterRead, Fits, AfterWrite};
+ghost use Rattle.lines.specs.Session.{reading-of, started, Continues, AfterRead, PendingIn, AfterWrite};
 use crate::chunk::answer_chunk;
 use crate::chunk::answer_last;
 use planes::clear::clear;
@@ -53,8 +53,8 @@ pub fn reading(got: isize, room: usize) -> Input
 }
 
 // After the first line: if it was written, the input is read.
-pub fn begin(wrote: bool) -> Next
-    ensures { λ r. ⌜ r ≡ begun wrote ⌝ }
+pub fn start(wrote: bool) -> Next
+    ensures { λ r. ⌜ r ≡ started wrote ⌝ }
 {
     if wrote { Next::Read(0) } else { Next::Stop }
 }
@@ -131,7 +131,7 @@ pub fn after_write(
     scratch: &mut [u8],
     out: &mut [u8],
 ) -> Next
-    requires { ⌜ Fits p (now buf) (now line) (now out) ⌝ }
+    requires { ⌜ PendingIn p (now buf) (now line) (now out) ⌝ }
     ensures { λ r. ⌜ AfterWrite (wrote && not (p .last)) (ltb (p .from) (p .to)) p (now (buf .entry)) (now (line .entry)) (now (scratch .entry)) (now (out .entry)) (now (buf .exit)) (now (line .exit)) (now (scratch .exit)) (now (out .exit)) r ⌝ }
 {
     let from = p.from;

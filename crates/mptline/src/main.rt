@@ -65,7 +65,7 @@ fn main() {
     let first = chunk::first_line();
     let wrote = io::write_all(STDOUT_FILENO, &first);
     run(
-        session::begin(wrote),
+        session::start(wrote),
         &mut buf,
         &mut line,
         &mut scratch,

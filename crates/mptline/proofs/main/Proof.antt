@@ -3,7 +3,7 @@ use mathlib.Core.Path.{refl}
 use native.Mathlib.Omega.{arith}
 use Rattle.replies.specs.Sizes.{held-limit, scratch-size}
 use Rattle.replies.proofs.Zeros.{blank-zero}
-use Rattle.lines.proofs.Tidying.{begin-sound}
+use Rattle.lines.proofs.Tidying.{start-sound}
 use borrow.Author.Needs.{needs}
 use Rattle.mptline.proofs.main.Statement.{statement}
 use Rattle.mptline.proofs.main.Tie as tie
@@ -17,8 +17,8 @@ slice-aggregate-write-all c = search needs
 write-all-requires : tie.Need-write-all-requires
 write-all-requires c κs = search needs
 
-begin-requires : tie.Need-begin-requires
-begin-requires c κs = search needs
+start-requires : tie.Need-start-requires
+start-requires c κs = search needs
 
 slice-aggregate-run : tie.Need-slice-aggregate-run
 slice-aggregate-run c = search needs
@@ -33,7 +33,7 @@ slice-aggregate-run-4 : tie.Need-slice-aggregate-run-4
 slice-aggregate-run-4 c = search needs
 
 run-requires : tie.Need-run-requires
-run-requires c κs = begin-sound _ (c .before .before .before .before .begin .ensures) (blank-zero held-limit _ refl) (blank-zero scratch-size _ refl) (blank-zero 65536 _ refl) (search needs) (omega arith)
+run-requires c κs = start-sound _ (c .before .before .before .before .start .ensures) (blank-zero held-limit _ refl) (blank-zero scratch-size _ refl) (blank-zero 65536 _ refl) (search needs) (omega arith)
 
 returns : tie.Need-returns
 returns c = search needs
@@ -45,7 +45,7 @@ main-spec =
     first-line-requires
     slice-aggregate-write-all
     write-all-requires
-    begin-requires
+    start-requires
     slice-aggregate-run
     slice-aggregate-run-2
     slice-aggregate-run-3

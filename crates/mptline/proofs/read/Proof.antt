@@ -1,6 +1,6 @@
 -- `read` meets its contract. Assumes nothing.
 use native.Mathlib.Omega.{arith}
-use Rattle.lines.specs.Session.{Ready}
+use Rattle.lines.specs.Session.{NextIn}
 use Rattle.lines.proofs.Tidying.{read-sound, sound-read}
 use borrow.Author.Needs.{needs}
 use Rattle.mptline.proofs.read.Statement.{statement}
@@ -12,7 +12,7 @@ read-requires c κs = search needs
 after-read-requires : tie.Need-after-read-requires
 after-read-requires c κs =
     let s = c .before .before .before .before .before .before .before .before .before .before .before .before .pre in
-    unfold Ready in (s .line-size, omega (arith, s .ready), s .out-size)
+    unfold NextIn in (s .line-size, omega (arith, s .ready), s .out-size)
 
 same-length : tie.Need-same-length
 same-length c = search needs

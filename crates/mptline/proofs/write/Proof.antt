@@ -1,23 +1,23 @@
 -- `write` meets its contract. Assumes nothing.
 use mathlib.Core.Path.{sym}
 use lib.Seq.{length-take-le}
-use Rattle.lines.specs.Session.{Ready}
+use Rattle.lines.specs.Session.{NextIn}
 use Rattle.lines.proofs.Tidying.{write-sound}
 use borrow.Author.Needs.{needs}
 use Rattle.mptline.proofs.write.Statement.{statement}
 use Rattle.mptline.proofs.write.Tie as tie
 
 slice-reshare-prefix-write-all : tie.Need-slice-reshare-prefix-write-all
-slice-reshare-prefix-write-all c = unfold Ready in c .before .before .before .before .pre .ready .end-fits
+slice-reshare-prefix-write-all c = unfold NextIn in c .before .before .before .before .pre .ready .end-fits
 
 slice-aggregate-write-all : tie.Need-slice-aggregate-write-all
-slice-aggregate-write-all c = unfold Ready in sym (length-take-le _ _ (c .before .before .before .before .before .pre .ready .end-fits))
+slice-aggregate-write-all c = unfold NextIn in sym (length-take-le _ _ (c .before .before .before .before .before .pre .ready .end-fits))
 
 write-all-requires : tie.Need-write-all-requires
 write-all-requires c κs = search needs
 
 after-write-requires : tie.Need-after-write-requires
-after-write-requires c κs = unfold Ready in c .before .before .before .before .before .before .before .before .before .before .pre .ready
+after-write-requires c κs = unfold NextIn in c .before .before .before .before .before .before .before .before .before .before .pre .ready
 
 same-length : tie.Need-same-length
 same-length c = search needs

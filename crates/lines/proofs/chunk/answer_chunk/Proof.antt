@@ -1,52 +1,40 @@
 -- `chunk::answer_chunk` meets its contract: what was taken of the chunk so far is done. What is left of the chunk falls. Assumes nothing.
 use mathlib.Core.Path.{_≡_, refl, sym, _∙_}
-use Prim.Native.Nat.{_≤_, _-_}
+use Prim.Native.Nat.{_-_}
 use native.Mathlib.Omega.{arith}
-use lib.ListN.{length, drop}
+use lib.ListN.{length}
 use lib.Seq.{length-take-le}
-use Rattle.replies.specs.Sizes.{held-limit}
 use Rattle.lines.specs.Chunk.{Done}
 use Rattle.pattern.proofs.Stores.{puts-length}
-use Rattle.lines.proofs.Told.{done-none, done-held, done-ended, drop-stored, same-after}
+use Rattle.lines.proofs.Told.{done-none, done-held, done-ended}
 use Rattle.lines.proofs.chunk.answer_chunk.Statement.{statement}
 use Rattle.lines.proofs.chunk.answer_chunk.Tie as tie
 
 abbrev Inv-loop : tie.InvT-loop
 Inv-loop chunk from line₀ held scratch₀ out₀ next₀ n₀ end₀ line scratch out next n end =
-    (from ≤ next) × (next ≤ length chunk) × (n ≤ held-limit) × (end ≤ length out)
-    × (length line ≡ length line₀) × (length scratch ≡ length scratch₀) × (length out ≡ length out₀)
-    × Done chunk from line₀ held scratch₀ line scratch out (record { next = next; held = n; end = end }) × (drop end out ≡ drop end out₀)
+    (length line ≡ length line₀) × (length scratch ≡ length scratch₀) × (length out ≡ length out₀)
+    × Done chunk from line₀ held scratch₀ out₀ line scratch out (record { next = next; held = n; end = end })
 
 abbrev μ-loop : tie.MeasureT-loop
 μ-loop chunk from line₀ held scratch₀ out₀ next₀ n₀ end₀ line scratch out next n end = length chunk - next
 
 loop-holds : tie.Need-loop-holds Inv-loop μ-loop
-loop-holds c = (omega arith, omega arith, omega arith, omega arith, refl, refl, refl, done-none _ _ _ _ _ _ (omega arith), refl)
+loop-holds c = (refl, refl, refl, done-none _ _ _ _ _ _ (omega arith) (omega arith) (omega arith))
 
 sub-if1 : tie.Need-sub-if1 Inv-loop μ-loop
 sub-if1 c = omega arith
 
 same-length : tie.Need-same-length Inv-loop μ-loop
-same-length c = c .before .before .loop .inv .4
+same-length c = c .before .before .loop .inv .0
 
 same-length-2 : tie.Need-same-length-2 Inv-loop μ-loop
-same-length-2 c = c .before .before .loop .inv .5
+same-length-2 c = c .before .before .loop .inv .1
 
 same-length-3 : tie.Need-same-length-3 Inv-loop μ-loop
-same-length-3 c = c .before .before .loop .inv .6
+same-length-3 c = c .before .before .loop .inv .2
 
 returns : tie.Need-returns Inv-loop μ-loop
-returns c =
-    let k = c .before .before .loop in
-    record {
-      done = k .inv .7;
-      fills = λ m. omega arith;
-      stays = k .inv .8;
-      goes-on = k .inv .0;
-      next-fits = k .inv .1;
-      held-fits = k .inv .2;
-      end-fits = k .inv .3;
-    }
+returns c = record { done = c .before .before .loop .inv .3; fills = λ m. omega arith }
 
 take-line-requires : tie.Need-take-line-requires Inv-loop μ-loop
 take-line-requires c κs = (omega arith, omega arith, omega arith)
@@ -79,23 +67,15 @@ loop-again c =
     let after-answer-line = after-clear .before .before .before .before .before .before in
     let after-if2 = after-answer-line .before .before .before .before in
     let after-take-line = after-if2 .before .before .before in
-    let after-loop-test = after-take-line .before .before .before in
-    let turn = after-loop-test .before in
+    let turn = after-take-line .before .before .before .before in
     let k = turn .loop in
     let lent = turn .before .before .before .before .before .pre .1 in
     let t = after-take-line .take-line .ensures in
-    let r = after-answer-line .answer-line .ensures in
-    let w = r .within in
-    let m = t .moves (after-loop-test .loop-test .taken) in (
-      omega arith,
-      t .next-fits,
-      omega arith,
-      omega (arith, w .short, puts-length (w .stores)),
-      after-clear .clear .kept .0 ∙ t .size ∙ k .inv .4,
-      after-answer-line .answer-line .kept .1 .0 ∙ k .inv .5,
-      puts-length (w .stores) ∙ k .inv .6,
-      done-ended (k .inv .7) t (k .inv .0) (omega (arith, t .held-fits, t .size, k .inv .4, lent)) (after-if2 .if2 .taken) r (omega arith) (after-clear .clear .ensures),
-      drop-stored (omega (arith, w .stores .next, w .short)) (w .stores) ∙ same-after _ _ (k .end) (after-answer-line .answer-line .result) (omega (arith, w .stores .next)) (k .inv .8),
+    let r = after-answer-line .answer-line .ensures in (
+      after-clear .clear .kept .0 ∙ t .size ∙ k .inv .0,
+      after-answer-line .answer-line .kept .1 .0 ∙ k .inv .1,
+      puts-length (r .within .stores) ∙ k .inv .2,
+      done-ended (k .inv .3) t (omega (arith, t .held-fits, t .size, k .inv .0, lent)) (after-if2 .if2 .taken) r (omega arith) (after-clear .clear .ensures),
     )
 
 loop-less-2 : tie.Need-loop-less-2 Inv-loop μ-loop
@@ -107,42 +87,21 @@ loop-less-2 c =
 loop-again-2 : tie.Need-loop-again-2 Inv-loop μ-loop
 loop-again-2 c =
     let after-take-line = c .before .before .before in
-    let after-loop-test = after-take-line .before .before .before in
-    let k = after-loop-test .before .loop in
+    let k = after-take-line .before .before .before .before .loop in
     let t = after-take-line .take-line .ensures in
-    let m = t .moves (after-loop-test .loop-test .taken) in (
-      omega arith,
-      t .next-fits,
-      t .held-fits,
-      k .inv .3,
-      t .size ∙ k .inv .4,
-      k .inv .5,
-      k .inv .6,
-      done-held (k .inv .7) t (k .inv .0) (omega (arith, t .held-fits, t .size)) (c .if2 .left),
-      k .inv .8,
-    )
+    (t .size ∙ k .inv .0, k .inv .1, k .inv .2, done-held (k .inv .3) t (omega (arith, t .held-fits, t .size)) (c .if2 .left))
 
 same-length-4 : tie.Need-same-length-4 Inv-loop μ-loop
-same-length-4 c = c .before .loop .inv .4
+same-length-4 c = c .before .loop .inv .0
 
 same-length-5 : tie.Need-same-length-5 Inv-loop μ-loop
-same-length-5 c = c .before .loop .inv .5
+same-length-5 c = c .before .loop .inv .1
 
 same-length-6 : tie.Need-same-length-6 Inv-loop μ-loop
-same-length-6 c = c .before .loop .inv .6
+same-length-6 c = c .before .loop .inv .2
 
 returns-2 : tie.Need-returns-2 Inv-loop μ-loop
-returns-2 c =
-    let k = c .before .loop in
-    record {
-      done = k .inv .7;
-      fills = λ m. omega arith;
-      stays = k .inv .8;
-      goes-on = k .inv .0;
-      next-fits = k .inv .1;
-      held-fits = k .inv .2;
-      end-fits = k .inv .3;
-    }
+returns-2 c = record { done = c .before .loop .inv .3; fills = λ m. omega arith }
 
 pub answer-chunk-spec : {M : Type 1} → statement M
 answer-chunk-spec =
