@@ -1,7 +1,7 @@
 -- "Patient data stays in no buffer": what each step of the line tool leaves in its buffers. Assumes nothing.
 use mathlib.Core.Path.{_≡_, refl, sym, ap, _∙_, subst}
 use mathlib.Core.Bool.{Bool, true, false}
-use mathlib.Core.List.{List, [], _∷_}
+use mathlib.Core.List.{List, [], _∷_, _++_}
 use Prim.Native.Nat.{ℕ, _+_, _-_, _≤_}
 use native.Mathlib.Omega.{arith}
 use lib.Dec.{eqb}
@@ -9,8 +9,8 @@ use lib.IntN.{ℤ}
 use lib.ListN.{length, take, drop, length-append}
 use lib.Seq.{slice, drop-at, drop-drop, length-take-le}
 use Rattle.pattern.specs.Bytes.{Bytes, over}
-use Rattle.replies.specs.Sizes.{held-limit, newline-byte, out-room}
-use Rattle.replies.specs.Reply.{reply, answer-to}
+use Rattle.replies.specs.Sizes.{held-limit, scratch-size, newline-byte, out-room}
+use Rattle.replies.specs.Reply.{answer-to, zeros}
 use Rattle.replies.specs.Stores.{zeroed, Zero}
 use Rattle.lines.specs.Output.{prefixed, answers, last-line, hold, Told, say, told, wiped}
 use Rattle.lines.specs.Session.{reading-of, started, Continues, AfterRead, PendingIn, AfterWrite, NextIn, Tidy, Sound}
@@ -19,21 +19,27 @@ use Rattle.lines.specs.declared.session.Input.the-variants.{Failed, Ende
 use Rattle.lines.specs.declared.session.Pending.{Pending}
 use Rattle.lines.specs.declared.session.Next.{Next}
 use Rattle.lines.specs.declared.session.Next.the-variants.{Write, Read}
-use Rattle.replies.proofs.Zeros.{either-zero, drop-zero, rest-zeroed, reply-zero}
+use Rattle.replies.proofs.Zeros.{either-same, blank-zero, drop-zero, rest-zeroed, reply-same}
 use Rattle.lines.proofs.Told.{hold-longer, held-after}
 use Rattle.lines.proofs.Sessions.{chunk-fits}
 
 -- ---- scratch
 
-answers-zero : (lines : List Bytes) (scratch : Bytes) → Zero scratch → Zero (answers lines scratch .scratch)
+answers-same : (lines : List Bytes) (scratch : Bytes) → Zero scratch → answers lines scratch .scratch ≡ scratch
 unfolding answers prefixed answer-to
-answers-zero [] scratch z = z
-answers-zero (line ∷ rest) scratch z = answers-zero rest (reply line scratch .scratch) (reply-zero scratch z line)
+answers-same [] scratch z = refl
+answers-same (line ∷ rest) scratch z = ap (λ s. answers rest s .scratch) (reply-same scratch z line) ∙ answers-same rest scratch z
 
-told-zero : (held chunk scratch : Bytes) → Zero scratch → Zero (told held chunk scratch .scratch)
+told-same : (held chunk scratch : Bytes) → Zero scratch → told held chunk scratch .scratch ≡ scratch
 unfolding told say answer-to
-told-zero held [] scratch z = z
-told-zero held (c ∷ s) scratch z = either-zero (λ (t : Told). t .scratch) (eqb c newline-byte) _ _ (told-zero [] s (reply held scratch .scratch) (reply-zero scratch z held)) (told-zero (hold held c) s scratch z)
+told-same held [] scratch z = refl
+told-same held (c ∷ s) scratch z =
+    either-same (λ (t : Told). t .scratch) (eqb c newline-byte) _ _ (ap (λ x. told [] s x .scratch) (reply-same scratch z held) ∙ told-same [] s scratch z) (told-same (hold held c) s scratch z)
+
+-- each line is answered as if it were alone
+pub each-alone : (line : Bytes) (rest : List Bytes) → answers (line ∷ rest) zeros .text ≡ answer-to line zeros .text ++ answers rest zeros .text
+unfolding answers prefixed answer-to zeros
+each-alone line rest = ap (λ s. answer-to line zeros .text ++ answers rest s .text) (reply-same zeros (blank-zero scratch-size zeros refl) line)
 
 -- ---- what is held, and what is written
 
@@ -69,7 +75,7 @@ module _ {chunk line scratch out line′ scratch′ out′ : Bytes} {from held :
         line-zero =
             subst (λ l. Zero (drop (a .part .held) l)) (d .wipes)
             (subst (λ n. Zero (drop n (wiped (take held line) (slice from (a .part .next) chunk) line))) kept (wiped-zero (take held line) (slice from (a .part .next) chunk) line scratch begun));
-        scratch-zero = subst Zero (ap (λ (t : Told). t .scratch) (d .tells)) (told-zero (take held line) (slice from (a .part .next) chunk) scratch w);
+        scratch-zero = subst Zero (sym (told-same (take held line) (slice from (a .part .next) chunk) scratch w) ∙ ap (λ (t : Told). t .scratch) (d .tells)) w;
         out-zero = subst Zero (sym (d .stays)) (drop-zero (a .part .end) out o);
       })
 
@@ -96,7 +102,7 @@ module _ (i : Input) (held : ℕ) (buf line scratch out line′ scratch′ out�
           subst (λ x. Tidy x line′ scratch′ out′) (sym (a .next))
           (record {
             line-zero = wiped-line (a .wipes);
-            scratch-zero = subst Zero (sym (a .works)) (answers-zero (last-line (take held line)) scratch (t .scratch-zero));
+            scratch-zero = subst Zero (sym (a .works ∙ answers-same (last-line (take held line)) scratch (t .scratch-zero))) (t .scratch-zero);
             out-zero = subst (λ o. Zero (drop (length v) o)) (sym (a .tells)) (subst Zero (sym (drop-at v (drop (length v) out) (length v) refl)) (drop-zero (length v) out (t .out-zero)));
           })
       go (Chunk n) a = continues-tidy a h k (t .line-zero) (t .scratch-zero) (t .out-zero)

@@ -1,15 +1,18 @@
--- Bytes that are zero stay so: lent bytes with zeros over them, and scratch after a match and after a line. Assumes nothing.
+-- Bytes that are zero: parts of them, zeros over others, and scratch after a match and after a line. Assumes nothing.
 use mathlib.Core.Path.{_≡_, refl, sym, ap, _∙_}
 use mathlib.Core.Bool.{Bool, true, false}
-use mathlib.Core.List.{List, _++_}
+use mathlib.Core.List.{List, [], _∷_, _++_}
 use mathlib.Core.Option.{Option, none, some}
-use Prim.Native.Nat.{ℕ, zero, suc, _+_}
+use Prim.Native.Nat.{ℕ, zero, suc, _+_, _*_, _≤_}
+use native.Mathlib.Omega.{arith}
 use lib.Dec.{eqb, ltb}
-use lib.ListN.{length, take, drop, replicate, length-replicate, replicate-append-replicate}
-use Rattle.pattern.specs.Numbers.{table-room, parts-room}
+use lib.ListN.{length, take, drop, replicate, length-replicate, take-append-drop, replicate-append-replicate}
+use borrow.Author.Tests.{ltb-false}
+use Rattle.pattern.specs.Numbers.{label-limit, LABEL, WORK, PARTS, table-room, parts-room}
 use Rattle.pattern.specs.Bytes.{Bytes, bytes, over}
-use Rattle.pattern.specs.Syntax.{pattern, Syntax}
+use Rattle.pattern.specs.Syntax.{pattern, Syntax, top-size}
 use Rattle.pattern.specs.Parts.{verdict}
+use Rattle.pattern.specs.Scan.{refuse}
 use Rattle.pattern.specs.Decode.{decode}
 use Rattle.pattern.specs.Answers.{work, cleared, lent-fault, judged, tried-if, tried, tried-unless, matched, matchOf, compileOf}
 use Rattle.replies.specs.Sizes.{line-limit, budget, unset}
@@ -17,9 +20,9 @@ use Rattle.replies.specs.Reply.{cut, Reply, match-reply, label-reply, ta
 use Rattle.replies.specs.Stores.{Zero, zeroed}
 
 -- one of two, by a test
-pub either-zero : {A : Type 0} (f : A → Bytes) (b : Bool) (x y : A) → Zero (f x) → Zero (f y) → Zero (f (elim b [ true ↦ x | false ↦ y ]))
-either-zero f true x y p q = p
-either-zero f false x y p q = q
+pub either-same : {A : Type 0} (f : A → Bytes) (b : Bool) (x y : A) {s : Bytes} → f x ≡ s → f y ≡ s → f (elim b [ true ↦ x | false ↦ y ]) ≡ s
+either-same f true x y p q = p
+either-same f false x y p q = q
 
 abbrev blank : ℕ → Bytes
 blank n = replicate n 0
@@ -40,50 +43,68 @@ drop-zero k s z = let (m, e) = drop-same k (length s) 0 in blank-zero m (drop k 
 pub rest-zeroed : (n : ℕ) (s : Bytes) → Zero (drop n s) → Zero (zeroed n s)
 rest-zeroed n s z = blank-zero (n + length (drop n s)) (zeroed n s) (ap (λ v. blank n ++ v) z ∙ replicate-append-replicate n (length (drop n s)) 0)
 
-over-zero : (k : ℕ) (s : Bytes) → Zero s → Zero (over (blank k) s)
+-- zeros over zeros
+take-blank : (k n : ℕ) → k ≤ n → take k (blank n) ≡ blank k
+take-blank zero n h = refl
+take-blank (suc k) zero h = absurd (omega arith)
+take-blank (suc k) (suc n) h = ap (λ v. 0 ∷ v) (take-blank k n (omega arith))
+
+over-zero : (k : ℕ) (s : Bytes) → k ≤ length s → Zero s → over (blank k) s ≡ s
 unfolding over
-over-zero k s z = let h : length (blank k) ≡ k = length-replicate {A = ℕ} k 0 in rw h (rest-zeroed k s (drop-zero k s z))
+over-zero k s h z =
+    ap (λ n. blank k ++ drop n s) (length-replicate {A = ℕ} k 0) ∙ ap (λ v. v ++ drop k s) (sym (take-blank k (length s) h) ∙ ap (take k) (sym z)) ∙ take-append-drop k s
 
--- scratch after a match is what it was, or has zeros over its first bytes
-module _ (P : Bytes → Type 0) (label scratch parts : Bytes) (budget : ℕ) (same : P scratch) (clear : (k : ℕ) → P (over (blank k) scratch)) where
-  judged-scratch : (v : Option (List ℕ)) (t : Syntax pattern) → P (judged v t label scratch parts .scratch)
-  unfolding judged cleared
-  judged-scratch none t = clear (work t (length label))
-  judged-scratch (some ends) t = clear (work t (length label))
+-- ---- scratch of zeros stays so: after a match and after a line
 
-  tried-scratch : (b : Bool) (t : Syntax pattern) → P (tried-if b t label scratch parts budget .scratch)
-  unfolding tried-if cleared
-  tried-scratch true t = judged-scratch (verdict label t) t
-  tried-scratch false t = clear (work t (length label))
-
-  match-scratch : (table : Bytes) → P (matchOf table label scratch parts budget .scratch)
-  unfolding matchOf matched tried-unless tried
-  match-scratch table = go (decode table)
-    where
-      lent : (o : Option ℕ) (t : Syntax pattern) → P (tried-unless o t label scratch parts budget .scratch)
-      lent (some number) t = same
-      lent none t = tried-scratch _ t
-
-      go : (o : Option (Syntax pattern)) → P (matched o label scratch parts budget .scratch)
-      go none = same
-      go (some t) = lent (lent-fault t label scratch parts) t
-
--- ---- what the line tool leaves of zeros
+-- the planes of a match that isn't refused lie in scratch
+lent-work : (t : Syntax pattern) (label scratch parts : Bytes) → lent-fault t label scratch parts ≡ none → work t (length label) ≤ length scratch
+unfolding lent-fault refuse
+lent-work t label scratch parts e =
+    ltb-false (length scratch) (work t (length label))
+    (go (ltb label-limit (length label)) (ltb (length scratch) (work t (length label))) (refuse ((ltb (length parts) (2 * top-size t), PARTS) ∷ [])) e)
+  where
+    go : (a b : Bool) (r : Option ℕ) → _≡_ {A = Option ℕ} (elim a [ true ↦ some LABEL | false ↦ elim b [ true ↦ some WORK | false ↦ r ] ]) none → b ≡ false
+    go true b r e = absurd (let z : _≡_ {A = ℕ} 0 1 = cc in omega arith)
+    go false true r e = absurd (let z : _≡_ {A = ℕ} 0 1 = cc in omega arith)
+    go false false r e = refl
 
 module _ (scratch : Bytes) (z : Zero scratch) where
-  label-zero : (table label : Bytes) → Zero (label-reply table label scratch .scratch)
+  module _ (label parts : Bytes) (budget : ℕ) where
+    judged-same : (v : Option (List ℕ)) (t : Syntax pattern) → work t (length label) ≤ length scratch → judged v t label scratch parts .scratch ≡ scratch
+    unfolding judged cleared
+    judged-same none t h = over-zero _ scratch h z
+    judged-same (some ends) t h = over-zero _ scratch h z
+
+    tried-same : (b : Bool) (t : Syntax pattern) → work t (length label) ≤ length scratch → tried-if b t label scratch parts budget .scratch ≡ scratch
+    unfolding tried-if cleared
+    tried-same true t h = judged-same (verdict label t) t h
+    tried-same false t h = over-zero _ scratch h z
+
+    match-same : (table : Bytes) → matchOf table label scratch parts budget .scratch ≡ scratch
+    unfolding matchOf matched tried-unless tried
+    match-same table = go (decode table)
+      where
+        lent : (o : Option ℕ) (t : Syntax pattern) → lent-fault t label scratch parts ≡ o → tried-unless o t label scratch parts budget .scratch ≡ scratch
+        lent (some number) t e = refl
+        lent none t e = tried-same _ t (lent-work t label scratch parts e)
+
+        go : (o : Option (Syntax pattern)) → matched o label scratch parts budget .scratch ≡ scratch
+        go none = refl
+        go (some t) = lent (lent-fault t label scratch parts) t refl
+
+  label-same : (table label : Bytes) → label-reply table label scratch .scratch ≡ scratch
   unfolding label-reply match-reply
-  label-zero table label = match-scratch Zero label scratch (replicate parts-room unset) budget z (λ k. over-zero k scratch z) table
+  label-same table label = match-same label (replicate parts-room unset) budget table
 
-  source-zero : (source label : Bytes) → Zero (source-reply source label scratch .scratch)
+  source-same : (source label : Bytes) → source-reply source label scratch .scratch ≡ scratch
   unfolding source-reply table-reply
-  source-zero source label = let c = compileOf source (replicate table-room 0) in either-zero (λ (r : Reply). r .scratch) (eqb (c .answer .number) 0) _ _ (label-zero (take (c .answer .value) (c .bytes)) label) z
+  source-same source label = let c = compileOf source (replicate table-room 0) in either-same (λ (r : Reply). r .scratch) (eqb (c .answer .number) 0) _ _ (label-same (take (c .answer .value) (c .bytes)) label) refl
 
-  cut-zero : (o : Option (Bytes × Bytes)) → Zero (cut-reply o scratch .scratch)
+  cut-same : (o : Option (Bytes × Bytes)) → cut-reply o scratch .scratch ≡ scratch
   unfolding cut-reply
-  cut-zero none = z
-  cut-zero (some (source, label)) = source-zero source label
+  cut-same none = refl
+  cut-same (some (source, label)) = source-same source label
 
-  pub reply-zero : (line : Bytes) → Zero (reply line scratch .scratch)
+  pub reply-same : (line : Bytes) → reply line scratch .scratch ≡ scratch
   unfolding reply
-  reply-zero line = either-zero (λ (r : Reply). r .scratch) (ltb line-limit (length line)) _ _ z (cut-zero (cut line))
+  reply-same line = either-same (λ (r : Reply). r .scratch) (ltb line-limit (length line)) _ _ refl (cut-same (cut line))
