@@ -13,12 +13,12 @@ use Rattle.replies.specs.Sizes.{held-limit, scratch-size, newline-byte, out-roo
 use Rattle.replies.specs.Reply.{answer-to, zeros}
 use Rattle.replies.specs.Stores.{zeroed, Zero}
 use Rattle.lines.specs.Output.{prefixed, answers, last-line, hold, Told, say, told, wiped}
-use Rattle.lines.specs.Session.{reading-of, started, Continues, AfterRead, PendingIn, AfterWrite, NextIn, Tidy, Sound}
+use Rattle.lines.specs.Session.{reading-of, started, held-of, end-of, Continues, AfterRead, PendingIn, AfterWrite, NextIn, Tidy, Sound}
 use Rattle.lines.specs.declared.session.Input.{Input}
 use Rattle.lines.specs.declared.session.Input.the-variants.{Failed, Ended, Chunk}
 use Rattle.lines.specs.declared.session.Pending.{Pending}
 use Rattle.lines.specs.declared.session.Next.{Next}
-use Rattle.lines.specs.declared.session.Next.the-variants.{Write, Read}
+use Rattle.lines.specs.declared.session.Next.the-variants.{Write, Read, Stop}
 use Rattle.replies.proofs.Zeros.{either-same, blank-zero, drop-zero, rest-zeroed, reply-same}
 use Rattle.lines.proofs.Told.{hold-longer, held-after}
 use Rattle.lines.proofs.Sessions.{chunk-fits}
@@ -158,42 +158,49 @@ pub sound-as : {m n : Next} {buf line scratch out : Bytes} → m ≡ n → Sound
 sound-as {m} {n} {buf} {line} {scratch} {out} e s = subst (λ x. Sound x buf line scratch out) e s
 
 -- at first
-pub start-sound : (wrote : Bool) {next : Next} {buf line scratch out : Bytes} → next ≡ started wrote → Zero line → Zero scratch → Zero out → length line ≡ held-limit → out-room ≤ length out
-    → Sound next buf line scratch out
-start-sound wrote {next} {buf} {line} {scratch} {out} e l s o h k = sound-as (sym e) (go wrote)
+pub start-sound : (wrote : Bool) {next : Next} {buf line scratch out : Bytes} → next ≡ started wrote → Zero line → Zero scratch → Zero out
+    → 1 ≤ length buf → length line ≡ held-limit → length scratch ≡ scratch-size → out-room ≤ length out → Sound next buf line scratch out
+start-sound wrote {next} {buf} {line} {scratch} {out} e l s o b h k r = sound-as (sym e) (go wrote)
   where
-    go : (b : Bool) → Sound (started b) buf line scratch out
-    go true = unfold started NextIn in record { ready = omega arith; tidy = record { line-zero = l; scratch-zero = s; out-zero = o }; line-size = h; out-size = k }
-    go false = unfold started NextIn in record { ready = tt; tidy = record { line-zero = l; scratch-zero = s; out-zero = o }; line-size = h; out-size = k }
+    blank : (n : Next) → held-of n ≡ 0 → end-of n ≡ 0 → Tidy n line scratch out
+    blank n f g = record { line-zero = subst (λ k. Zero (drop k line)) (sym f) l; scratch-zero = s; out-zero = subst (λ k. Zero (drop k out)) (sym g) o }
+
+    go : (w : Bool) → Sound (started w) buf line scratch out
+    go true = unfold started NextIn in record { ready = omega arith; tidy = blank (Read 0) refl refl; buf-some = b; line-size = h; scratch-full = k; out-size = r }
+    go false = unfold started NextIn in record { ready = tt; tidy = blank Stop refl refl; buf-some = b; line-size = h; scratch-full = k; out-size = r }
 
 -- before a read it doesn't matter what the input's buffer has
-pub sound-read : {held : ℕ} {buf other line scratch out : Bytes} → Sound (Read held) buf line scratch out → Sound (Read held) other line scratch out
+pub sound-read : {held : ℕ} {buf other line scratch out : Bytes} → length other ≡ length buf → Sound (Read held) buf line scratch out → Sound (Read held) other line scratch out
 unfolding NextIn
-sound-read s = record { ready = s .ready; tidy = s .tidy; line-size = s .line-size; out-size = s .out-size }
+sound-read e s = record { ready = s .ready; tidy = s .tidy; buf-some = omega (arith, s .buf-some); line-size = s .line-size; scratch-full = s .scratch-full; out-size = s .out-size }
 
 -- a read keeps it so
 pub read-sound : (got : ℤ) (held : ℕ) (buf line scratch out line′ scratch′ out′ : Bytes) (r : Next) → AfterRead (reading-of got (length buf)) held buf line scratch out line′ scratch′ out′ r
-    → Sound (Read held) buf line scratch out → length line′ ≡ length line → length out′ ≡ length out → Sound r buf line′ scratch′ out′
+    → Sound (Read held) buf line scratch out → length line′ ≡ length line → length scratch′ ≡ length scratch → length out′ ≡ length out → Sound r buf line′ scratch′ out′
 unfolding NextIn
-read-sound got held buf line scratch out line′ scratch′ out′ r a s e o =
+read-sound got held buf line scratch out line′ scratch′ out′ r a s e w o =
     let i = reading-of got (length buf) in
     let k : length line′ ≡ held-limit = e ∙ s .line-size in
     record {
       ready = read-ready i held buf line scratch out line′ scratch′ out′ r a k (λ n f. chunk-fits (length buf) got n (sym f)) (s .out-size) o;
       tidy = read-tidy i held buf line scratch out line′ scratch′ out′ r a k (omega (arith, s .ready, s .line-size)) (s .tidy);
+      buf-some = s .buf-some;
       line-size = k;
+      scratch-full = w ∙ s .scratch-full;
       out-size = omega (arith, s .out-size);
     }
 
 -- and a write
 pub write-sound : (goes-on rest : Bool) (p : Pending) (buf line scratch out buf′ line′ scratch′ out′ : Bytes) (r : Next) → AfterWrite goes-on rest p buf line scratch out buf′ line′ scratch′ out′ r
-    → Sound (Write p) buf line scratch out → length buf′ ≡ length buf → length line′ ≡ length line → length out′ ≡ length out → Sound r buf′ line′ scratch′ out′
+    → Sound (Write p) buf line scratch out → length buf′ ≡ length buf → length line′ ≡ length line → length scratch′ ≡ length scratch → length out′ ≡ length out → Sound r buf′ line′ scratch′ out′
 unfolding NextIn
-write-sound g b p buf line scratch out buf′ line′ scratch′ out′ r a s u e o =
+write-sound g b p buf line scratch out buf′ line′ scratch′ out′ r a s u e w o =
     let k : length line′ ≡ held-limit = e ∙ s .line-size in
     record {
       ready = write-ready g b p buf line scratch out buf′ line′ scratch′ out′ r a (s .ready) k u o;
       tidy = write-tidy g b p buf line scratch out buf′ line′ scratch′ out′ r a (s .ready) k (s .tidy);
+      buf-some = omega (arith, s .buf-some);
       line-size = k;
+      scratch-full = w ∙ s .scratch-full;
       out-size = omega (arith, s .out-size);
     }

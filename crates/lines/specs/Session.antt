@@ -7,7 +7,7 @@ use lib.IntN.{ℤ, pos, negsuc}
 use lib.ListN.{length, take, drop}
 use lib.Seq.{slice}
 use Rattle.pattern.specs.Bytes.{Bytes, over}
-use Rattle.replies.specs.Sizes.{held-limit, out-room}
+use Rattle.replies.specs.Sizes.{held-limit, scratch-size, out-room}
 use Rattle.replies.specs.Reply.{Reply}
 use Rattle.replies.specs.Stores.{zeroed, Zero}
 use Rattle.lines.specs.Output.{answers, last-line, in-chunks}
@@ -120,14 +120,17 @@ end-of Stop = 0
 end-of (Read held) = 0
 end-of (Write p) = p .end
 
--- "patient data stays in no buffer": all is zero but what is held of a line and what is to be written
+-- "patient data stays in no buffer": line, scratch and output are zero but for what is held of a line and what is to be written
 pub record Tidy (next : Next) (line scratch out : Bytes) : Type 0 where
   pub line-zero : Zero (drop (held-of next) line)
   pub scratch-zero : Zero scratch
   pub out-zero : Zero (drop (end-of next) out)
 
+-- the buffers with their sizes: there is room to read
 pub record Sound (next : Next) (buf line scratch out : Bytes) : Type 0 where
   pub ready : NextIn next buf line out
   pub tidy : Tidy next line scratch out
+  pub buf-some : 1 ≤ length buf
   pub line-size : length line ≡ held-limit
+  pub scratch-full : length scratch ≡ scratch-size
   pub out-size : out-room ≤ length out

@@ -1,6 +1,7 @@
 // The line tool: reads lines of a source, a tab and a label, and writes an answer for each. What it does with what it
 // reads, and what it writes when, is told by lines::session.
 ghost use Rattle.lines.specs.Session.{Sound};
+ghost use Rattle.mptline.specs.Steps.{Reads, Writes};
 ghost use Rattle.lines.specs.declared.session.Next.the-variants.{Write, Read};
 use libc::STDIN_FILENO;
 use libc::STDOUT_FILENO;
@@ -16,7 +17,7 @@ const BUFFER_SIZE: usize = 65536;
 // Writes what is to be written.
 fn write(p: Pending, buf: &mut [u8], line: &mut [u8], scratch: &mut [u8], out: &mut [u8]) -> Next
     requires { ⌜ Sound (Write p) (now buf) (now line) (now scratch) (now out) ⌝ }
-    ensures { λ r. ⌜ Sound r (now (buf .exit)) (now (line .exit)) (now (scratch .exit)) (now (out .exit)) ⌝ }
+    ensures { λ r. ⌜ Writes p (now (buf .entry)) (now (line .entry)) (now (scratch .entry)) (now (out .entry)) (now (buf .exit)) (now (line .exit)) (now (scratch .exit)) (now (out .exit)) r ⌝ }
 {
     let end = p.end;
     let wrote = io::write_all(STDOUT_FILENO, &out[..end]);
@@ -26,7 +27,7 @@ fn write(p: Pending, buf: &mut [u8], line: &mut [u8], scratch: &mut [u8], out: &
 // Reads once.
 fn read(held: usize, buf: &mut [u8], line: &mut [u8], scratch: &mut [u8], out: &mut [u8]) -> Next
     requires { ⌜ Sound (Read held) (now buf) (now line) (now scratch) (now out) ⌝ }
-    ensures { λ r. ⌜ Sound r (now (buf .exit)) (now (line .exit)) (now (scratch .exit)) (now (out .exit)) ⌝ }
+    ensures { λ r. ⌜ Reads held (now (line .entry)) (now (scratch .entry)) (now (out .entry)) (now (buf .exit)) (now (line .exit)) (now (scratch .exit)) (now (out .exit)) r ⌝ }
 {
     let got = libc::read(STDIN_FILENO, buf);
     session::after_read(held, got, buf, line, scratch, out)

@@ -1,7 +1,6 @@
 -- `read` meets its contract. Assumes nothing.
 use native.Mathlib.Omega.{arith}
 use Rattle.lines.specs.Session.{NextIn}
-use Rattle.lines.proofs.Tidying.{read-sound, sound-read}
 use borrow.Author.Needs.{needs}
 use Rattle.mptline.proofs.read.Statement.{statement}
 use Rattle.mptline.proofs.read.Tie as tie
@@ -27,11 +26,7 @@ same-length-4 : tie.Need-same-length-4
 same-length-4 c = search needs
 
 returns : tie.Need-returns
-returns c =
-    let after = c .before .before .before .before .before .before in
-    let start = after .before .before .before .before .before .before .before .before .before .before .before .before .before in
-    let a = after .after-read in
-    read-sound _ _ _ _ _ _ _ _ _ _ (a .ensures) (sound-read (start .pre)) (a .kept .1 .1 .1 .0) (a .kept .1 .1 .1 .1 .1 .0)
+returns c = record { got = _; after = c .before .before .before .before .before .before .after-read .ensures }
 
 pub read-spec : {M : Type 1} → statement M
 read-spec =

@@ -5,7 +5,7 @@ use native.Mathlib.Omega.{arith}
 use lib.ListN.{length}
 use borrow.Author.Needs.{needs}
 use Rattle.lines.specs.Session.{Sound}
-use Rattle.lines.proofs.Tidying.{sound-as}
+use Rattle.lines.proofs.Tidying.{sound-as, sound-read, read-sound, write-sound}
 use Rattle.mptline.proofs.run.Statement.{statement}
 use Rattle.mptline.proofs.run.Tie as tie
 
@@ -59,8 +59,14 @@ loop-again : tie.Need-loop-again Inv-loop μ-loop
 loop-again c =
     let k = c .before .before .loop in
     ⊎-elim
-    (λ w. rw (w .16, w .17, w .18, w .19, w .20) (w .7 .kept .1 .0 ∙ k .inv .0, w .7 .kept .1 .1 .0 ∙ k .inv .1, w .7 .kept .1 .1 .1 .0 ∙ k .inv .2, w .7 .kept .1 .1 .1 .1 .0 ∙ k .inv .3, w .7 .ensures))
-    (λ w. rw (w .16, w .17, w .18, w .19, w .20) (w .7 .kept .1 .0 ∙ k .inv .0, w .7 .kept .1 .1 .0 ∙ k .inv .1, w .7 .kept .1 .1 .1 .0 ∙ k .inv .2, w .7 .kept .1 .1 .1 .1 .0 ∙ k .inv .3, w .7 .ensures))
+    (λ w.
+      let l = w .7 .kept in
+      rw (w .16, w .17, w .18, w .19, w .20)
+      (l .1 .0 ∙ k .inv .0, l .1 .1 .0 ∙ k .inv .1, l .1 .1 .1 .0 ∙ k .inv .2, l .1 .1 .1 .1 .0 ∙ k .inv .3, write-sound _ _ _ _ _ _ _ _ _ _ _ _ (w .7 .ensures .after) (sound-as (w .1 .given .1) (k .inv .4)) (l .1 .0) (l .1 .1 .0) (l .1 .1 .1 .0) (l .1 .1 .1 .1 .0)))
+    (λ w.
+      let l = w .7 .kept in
+      rw (w .16, w .17, w .18, w .19, w .20)
+      (l .1 .0 ∙ k .inv .0, l .1 .1 .0 ∙ k .inv .1, l .1 .1 .1 .0 ∙ k .inv .2, l .1 .1 .1 .1 .0 ∙ k .inv .3, read-sound _ _ _ _ _ _ _ _ _ _ (w .7 .ensures .after) (sound-read (l .1 .0) (sound-as (w .1 .given .1) (k .inv .4))) (l .1 .1 .0) (l .1 .1 .1 .0) (l .1 .1 .1 .1 .0)))
     (c .match .came)
 
 same-length-5 : tie.Need-same-length-5 Inv-loop μ-loop

@@ -2,7 +2,6 @@
 use mathlib.Core.Path.{sym}
 use lib.Seq.{length-take-le}
 use Rattle.lines.specs.Session.{NextIn}
-use Rattle.lines.proofs.Tidying.{write-sound}
 use borrow.Author.Needs.{needs}
 use Rattle.mptline.proofs.write.Statement.{statement}
 use Rattle.mptline.proofs.write.Tie as tie
@@ -34,9 +33,7 @@ same-length-4 c = search needs
 returns : tie.Need-returns
 returns c =
     let after = c .before .before .before .before .before .before .before .before in
-    let start = after .before .before .before .before .before .before .before .before .before .before .before in
-    let a = after .after-write in
-    write-sound _ _ _ _ _ _ _ _ _ _ _ _ (a .ensures) (start .pre) (a .kept .1 .1 .0) (a .kept .1 .1 .1 .0) (a .kept .1 .1 .1 .1 .1 .0)
+    record { wrote = after .before .before .before .before .before .write-all .result; after = after .after-write .ensures }
 
 pub write-spec : {M : Type 1} → statement M
 write-spec =
