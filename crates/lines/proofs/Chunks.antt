@@ -13,7 +13,7 @@ use Rattle.pattern.specs.Bytes.{Bytes, bytes}
 use Rattle.pattern.proofs.Tests.{if-true, if-false, le-or-lt}
 use Rattle.replies.specs.Sizes.{line-limit, held-limit, newline-byte}
 use Rattle.replies.specs.Reply.{Reply, reply, answer-to, zeros}
-use Rattle.lines.specs.Output.{prefixed, answers, last-line, lines-after, split, first-line, output, hold, Told, say, told, in-chunks, joined}
+use Rattle.lines.specs.Output.{prefixed, answers, last-line, lines-after, split, first-line, output, hold, Told, say, told, joined}
 use Rattle.lines.proofs.Told.{told-append}
 
 -- what is held of a line
@@ -59,6 +59,11 @@ last-cap : (line scratch : Bytes) → answers (last-line (cap line)) scratch ≡
 unfolding last-line answers prefixed
 last-cap [] scratch = refl
 last-cap (c ∷ s) scratch = ap (λ (r : Reply). prefixed (r .text) (answers [] (r .scratch))) (answer-cap (c ∷ s) scratch)
+
+-- what is written after a held line, if the input goes on with these chunks
+unfoldable pub in-chunks : (held : Bytes) → List Bytes → (scratch : Bytes) → Bytes
+in-chunks held [] scratch = answers (last-line held) scratch .text
+in-chunks held (chunk ∷ rest) scratch = told held chunk scratch .text ++ in-chunks (told held chunk scratch .held) rest (told held chunk scratch .scratch)
 
 -- all that is written where the input ends after a chunk
 abbrev ended : Told → Bytes

@@ -1,4 +1,4 @@
--- What is written and what is still owed come to the output, from each read and each write to the next. Assumes nothing.
+-- A run in which no read and no write fails writes the output: at each step what is written and what is still owed come to it. Assumes nothing.
 use mathlib.Core.Path.{_≡_, refl, sym, ap, ap₂, _∙_}
 use mathlib.Core.Bool.{Bool, true, false, not, _&&_}
 use mathlib.Core.List.{List, [], _∷_, _++_, append-assoc, append-nil}
@@ -10,19 +10,26 @@ use lib.Seq.{slice, take-all, take-at, length-take-le}
 use borrow.Author.Tests.{ltb-false}
 use Rattle.pattern.specs.Bytes.{Bytes, over}
 use Rattle.replies.specs.Reply.{zeros}
-use Rattle.lines.specs.Output.{answers, last-line, first-line, output, Told, say, told, in-chunks, joined}
-use Rattle.lines.specs.Session.{started, Continues, AfterRead, PendingIn, AfterWrite, owed}
+use Rattle.lines.specs.Output.{answers, last-line, first-line, output, Told, say, told, joined}
+use Rattle.lines.specs.Session.{started, Continues, AfterRead, PendingIn, AfterWrite, Runs, stops, writes, reads, ends}
 use Rattle.lines.specs.declared.session.Input.the-variants.{Ended, Chunk}
 use Rattle.lines.specs.declared.session.Pending.{Pending}
 use Rattle.lines.specs.declared.session.Next.{Next}
-use Rattle.lines.specs.declared.session.Next.the-variants.{Write, Read}
+use Rattle.lines.specs.declared.session.Next.the-variants.{Write, Read, Stop}
 use Rattle.lines.proofs.Lines.{slice-join}
 use Rattle.lines.proofs.Told.{told-append}
-use Rattle.lines.proofs.Chunks.{chunks-hold}
+use Rattle.lines.proofs.Chunks.{in-chunks, chunks-hold}
+
+-- what is still to be written, if the input goes on with these chunks and no read and no write fails
+unfoldable owed : Next → (buf line scratch out : Bytes) → List Bytes → Bytes
+owed Stop buf line scratch out chunks = []
+owed (Read held) buf line scratch out chunks = in-chunks (take held line) chunks scratch
+owed (Write p) buf line scratch out chunks =
+    take (p .end) out ++ elim (p .last) [ true ↦ [] | false ↦ in-chunks (take (p .held) line) (slice (p .from) (p .to) buf ∷ chunks) scratch ]
 
 -- after the first line: all the rest
-pub start-owed : (buf line out : Bytes) (chunks : List Bytes) → first-line ++ owed (started true) buf line zeros out chunks ≡ output (joined chunks)
-unfolding started owed
+start-owed : (buf line out : Bytes) (chunks : List Bytes) → first-line ++ owed (Read 0) buf line zeros out chunks ≡ output (joined chunks)
+unfolding owed
 start-owed buf line out chunks = chunks-hold chunks
 
 -- a chunk in two parts
@@ -53,13 +60,13 @@ module _ {chunk line scratch out line′ scratch′ out′ : Bytes} {from held :
 
 module _ (held : ℕ) (buf line scratch out line′ scratch′ out′ : Bytes) (r : Next) where
   -- a chunk: what is owed is what was owed if the input went on with it
-  pub chunk-owed : (n : ℕ) → n ≤ length buf → AfterRead (Chunk n) held buf line scratch out line′ scratch′ out′ r → (chunks : List Bytes)
+  chunk-owed : (n : ℕ) → n ≤ length buf → AfterRead (Chunk n) held buf line scratch out line′ scratch′ out′ r → (chunks : List Bytes)
       → owed r buf line′ scratch′ out′ chunks ≡ owed (Read held) buf line scratch out (take n buf ∷ chunks)
   unfolding AfterRead owed
   chunk-owed n h a chunks = continues-owed a buf (ap (λ k. take k buf) (length-take-le n buf h)) chunks
 
   -- the input's end: what was owed if there was no more
-  pub ended-owed : AfterRead Ended held buf line scratch out line′ scratch′ out′ r → (chunks : List Bytes) → owed r buf line′ scratch′ out′ chunks ≡ owed (Read held) buf line scratch out []
+  ended-owed : AfterRead Ended held buf line scratch out line′ scratch′ out′ r → (chunks : List Bytes) → owed r buf line′ scratch′ out′ chunks ≡ owed (Read held) buf line scratch out []
   unfolding AfterRead owed over in-chunks
   ended-owed a chunks =
       let text = answers (last-line (take held line)) scratch .text in
@@ -89,9 +96,23 @@ module _ (p : Pending) (buf line scratch out buf′ line′ scratch′ out′ : 
       ap (λ x. take (p .end) out ++ owed x buf′ line′ scratch′ out′ chunks) (a .next)
       ∙ ap (λ b. take (p .end) out ++ elim b [ true ↦ [] | false ↦ in-chunks (take (p .held) line) (slice (p .from) (p .to) buf ∷ chunks) scratch ]) (sym l)
 
-  pub written-owed : AfterWrite (true && not (p .last)) (ltb (p .from) (p .to)) p buf line scratch out buf′ line′ scratch′ out′ r → Paid
+  written-owed : AfterWrite (true && not (p .last)) (ltb (p .from) (p .to)) p buf line scratch out buf′ line′ scratch′ out′ r → Paid
   written-owed a = go (p .last) refl a
     where
       go : (b : Bool) → p .last ≡ b → AfterWrite (true && not b) (ltb (p .from) (p .to)) p buf line scratch out buf′ line′ scratch′ out′ r → Paid
       go false l a = rest-owed (ltb (p .from) (p .to)) refl l a
       go true l a = last-owed (ltb (p .from) (p .to)) l a
+
+-- ---- a whole run
+
+runs-owed : {next : Next} {buf line scratch out : Bytes} {chunks : List Bytes} {written : Bytes} → Runs next buf line scratch out chunks written → written ≡ owed next buf line scratch out chunks
+unfolding owed
+runs-owed (stops buf line scratch out) = refl
+runs-owed (writes p buf line scratch out buf′ line′ scratch′ out′ r f a run) = ap (λ v. take (p .end) out ++ v) (runs-owed run) ∙ written-owed p buf line scratch out buf′ line′ scratch′ out′ r f _ a
+runs-owed (reads held n buf line scratch out buf′ line′ scratch′ out′ r h a run) = runs-owed run ∙ chunk-owed held buf′ line scratch out line′ scratch′ out′ r n h a _
+runs-owed (ends held buf line scratch out buf′ line′ scratch′ out′ r a run) = runs-owed run ∙ ended-owed held buf′ line scratch out line′ scratch′ out′ r a []
+
+-- what is written after the first line, from scratch of zeros and nothing held, is the output
+pub runs-hold : {buf line out : Bytes} {chunks : List Bytes} {written : Bytes} → Runs (started true) buf line zeros out chunks written → first-line ++ written ≡ output (joined chunks)
+unfolding started
+runs-hold {buf} {line} {out} {chunks} run = ap (λ v. first-line ++ v) (runs-owed run) ∙ start-owed buf line out chunks

@@ -73,11 +73,6 @@ unfoldable pub wiped : (held chunk line : Bytes) → Bytes
 wiped held [] line = over held line
 wiped held (c ∷ s) line = elim (eqb c newline-byte) [ true ↦ wiped [] s (zeroed (length held) line) | false ↦ wiped (hold held c) s line ]
 
--- what is written after a held line, if the input goes on with these chunks
-unfoldable pub in-chunks : (held : Bytes) → List Bytes → (scratch : Bytes) → Bytes
-in-chunks held [] scratch = answers (last-line held) scratch .text
-in-chunks held (chunk ∷ rest) scratch = told held chunk scratch .text ++ in-chunks (told held chunk scratch .held) rest (told held chunk scratch .scratch)
-
 -- chunks one after the other
 unfoldable pub joined : List Bytes → Bytes
 joined [] = []

@@ -1,16 +1,16 @@
 -- What the line tool does after each read and each write, case by case, and every byte of its buffers then. Assumes nothing.
 use mathlib.Core.Path.{_≡_}
-use mathlib.Core.Bool.{Bool, true, false}
+use mathlib.Core.Bool.{Bool, true, false, not, _&&_}
 use mathlib.Core.List.{List, [], _∷_, _++_}
 use Prim.Native.Nat.{ℕ, zero, suc, min, _≤_}
+use lib.Dec.{ltb}
 use lib.IntN.{ℤ, pos, negsuc}
 use lib.ListN.{length, take, drop}
-use lib.Seq.{slice}
 use Rattle.pattern.specs.Bytes.{Bytes, over}
 use Rattle.replies.specs.Sizes.{held-limit, scratch-size, out-room}
 use Rattle.replies.specs.Reply.{Reply}
 use Rattle.replies.specs.Stores.{zeroed, Zero}
-use Rattle.lines.specs.Output.{answers, last-line, in-chunks}
+use Rattle.lines.specs.Output.{answers, last-line}
 use Rattle.lines.specs.Chunk.{Answers}
 use Rattle.lines.specs.declared.chunk.Answered.{Answered}
 use Rattle.lines.specs.declared.session.Input.{Input}
@@ -95,12 +95,18 @@ AfterWrite false rest p buf line scratch out buf′ line′ scratch′ out′ r 
 AfterWrite true true p buf line scratch out buf′ line′ scratch′ out′ r = Resumes p buf line scratch out buf′ line′ scratch′ out′ r
 AfterWrite true false p buf line scratch out buf′ line′ scratch′ out′ r = Waits p buf line scratch out buf′ line′ scratch′ out′ r
 
--- ---- what is still to be written, if the input goes on with these chunks and every read and write succeeds
-unfoldable pub owed : Next → (buf line scratch out : Bytes) → List Bytes → Bytes
-owed Stop buf line scratch out chunks = []
-owed (Read held) buf line scratch out chunks = in-chunks (take held line) chunks scratch
-owed (Write p) buf line scratch out chunks =
-    take (p .end) out ++ elim (p .last) [ true ↦ [] | false ↦ in-chunks (take (p .held) line) (slice (p .from) (p .to) buf ∷ chunks) scratch ]
+-- ---- a run in which no read and no write fails: the chunks that it reads before the input's end, and the bytes that it writes
+pub data Runs : Next → (buf line scratch out : Bytes) → List Bytes → Bytes → Type 0 where
+  stops : (buf line scratch out : Bytes) → Runs Stop buf line scratch out [] []
+  writes : (p : Pending) (buf line scratch out buf′ line′ scratch′ out′ : Bytes) (r : Next) {chunks : List Bytes} {rest : Bytes}
+      → PendingIn p buf line out → AfterWrite (true && not (p .last)) (ltb (p .from) (p .to)) p buf line scratch out buf′ line′ scratch′ out′ r
+      → Runs r buf′ line′ scratch′ out′ chunks rest → Runs (Write p) buf line scratch out chunks (take (p .end) out ++ rest)
+  reads : (held n : ℕ) (buf line scratch out buf′ line′ scratch′ out′ : Bytes) (r : Next) {chunks : List Bytes} {rest : Bytes}
+      → n ≤ length buf′ → AfterRead (Chunk n) held buf′ line scratch out line′ scratch′ out′ r
+      → Runs r buf′ line′ scratch′ out′ chunks rest → Runs (Read held) buf line scratch out (take n buf′ ∷ chunks) rest
+  ends : (held : ℕ) (buf line scratch out buf′ line′ scratch′ out′ : Bytes) (r : Next) {rest : Bytes}
+      → AfterRead Ended held buf′ line scratch out line′ scratch′ out′ r
+      → Runs r buf′ line′ scratch′ out′ [] rest → Runs (Read held) buf line scratch out [] rest
 
 -- ---- what holds between steps
 

@@ -22,9 +22,16 @@ pub record Searched (p : ℕ → Bool) (i j budget trials spent : ℕ) (f : Bool
   pub count : spent ≡ trials + tries (suc j - i) p
   pub finds : any (suc j - i) p ≡ f
 
+-- an end was found, and it holds
+pub record FoundAt (p : ℕ → Bool) (i j budget trials spent m : ℕ) : Type 0 where
+  pub searched : Searched p i j budget trials spent true
+  pub from : i ≤ m
+  pub to : m ≤ j
+  pub holds : p (m - i) ≡ true
+
 -- what the search answers, after spent trials
 abbrev pub Says : (p : ℕ → Bool) (i j budget trials spent : ℕ) → Search → Type 0
-Says p i j budget trials spent (Found m) = Searched p i j budget trials spent true
+Says p i j budget trials spent (Found m) = FoundAt p i j budget trials spent m
 Says p i j budget trials spent Missing = Searched p i j budget trials spent false
 Says p i j budget trials spent Stopped = budget < trials + tries (suc j - i) p
 
@@ -82,11 +89,13 @@ module _ {p : ℕ → Bool} {i j budget trials spent m : ℕ} (inv : SearchAt p 
 
   module _ (n : spent ≡ budget → ⊥) where
     pub search-hit : p (m - i) ≡ true → Says p i j budget trials (spent + 1) (Found m)
-    search-hit e = record {
-      within = omega (arith, inv .within);
-      count = omega (arith, count, tries-hit p (m - i) e);
-      finds = sym same ∙ any-hit p (m - i) e;
-    }
+    search-hit e =
+        record {
+          searched = record { within = omega (arith, inv .within); count = omega (arith, count, tries-hit p (m - i) e); finds = sym same ∙ any-hit p (m - i) e };
+          from = inv .from;
+          to = inv .to;
+          holds = e;
+        }
 
     module _ (e : p (m - i) ≡ false) where
       pub search-none : m ≡ i → Says p i j budget trials (spent + 1) Missing

@@ -60,13 +60,13 @@ loop-again c =
     let k = c .before .before .loop in
     ⊎-elim
     (λ w.
-      let l = w .7 .kept in
-      rw (w .16, w .17, w .18, w .19, w .20)
-      (l .1 .0 ∙ k .inv .0, l .1 .1 .0 ∙ k .inv .1, l .1 .1 .1 .0 ∙ k .inv .2, l .1 .1 .1 .1 .0 ∙ k .inv .3, write-sound _ _ _ _ _ _ _ _ _ _ _ _ (w .7 .ensures .after) (sound-as (w .1 .given .1) (k .inv .4)) (l .1 .0) (l .1 .1 .0) (l .1 .1 .1 .0) (l .1 .1 .1 .1 .0)))
+    let l = w .7 .kept in
+    rw (w .16, w .17, w .18, w .19, w .20)
+    (l .1 .0 ∙ k .inv .0, l .1 .1 .0 ∙ k .inv .1, l .1 .1 .1 .0 ∙ k .inv .2, l .1 .1 .1 .1 .0 ∙ k .inv .3, write-sound _ _ _ _ _ _ _ _ _ _ _ _ (w .7 .ensures .after) (sound-as (w .1 .given .1) (k .inv .4)) (l .1 .0) (l .1 .1 .0) (l .1 .1 .1 .0) (l .1 .1 .1 .1 .0)))
     (λ w.
-      let l = w .7 .kept in
-      rw (w .16, w .17, w .18, w .19, w .20)
-      (l .1 .0 ∙ k .inv .0, l .1 .1 .0 ∙ k .inv .1, l .1 .1 .1 .0 ∙ k .inv .2, l .1 .1 .1 .1 .0 ∙ k .inv .3, read-sound _ _ _ _ _ _ _ _ _ _ (w .7 .ensures .after) (sound-read (l .1 .0) (sound-as (w .1 .given .1) (k .inv .4))) (l .1 .1 .0) (l .1 .1 .1 .0) (l .1 .1 .1 .1 .0)))
+    let l = w .7 .kept in
+    rw (w .16, w .17, w .18, w .19, w .20)
+    (l .1 .0 ∙ k .inv .0, l .1 .1 .0 ∙ k .inv .1, l .1 .1 .1 .0 ∙ k .inv .2, l .1 .1 .1 .1 .0 ∙ k .inv .3, read-sound _ _ _ _ _ _ _ _ _ _ (w .7 .ensures .after) (sound-read (l .1 .0) (sound-as (w .1 .given .1) (k .inv .4))) (l .1 .1 .0) (l .1 .1 .1 .0) (l .1 .1 .1 .1 .0)))
     (c .match .came)
 
 same-length-5 : tie.Need-same-length-5 Inv-loop μ-loop
