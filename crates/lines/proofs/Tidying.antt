@@ -83,7 +83,7 @@ module _ {chunk line scratch out line′ scratch′ out′ : Bytes} {from held :
   continues-ready buf h k o =
       let d = a .answered .done in
       subst (λ x. NextIn x buf line′ out′) (sym (a .next))
-      (unfold NextIn in record { from-fits = d .next-fits; to-fits = h; held-fits = d .held-fits; line-size = k; end-fits = d .end-fits; out-size = o })
+      (unfold NextIn in record { from-fits = d .next-fits; to-fits = h; end-fits = d .end-fits; lent = record { line-size = k; held-fits = d .held-fits; out-size = o } })
 
 module _ (i : Input) (held : ℕ) (buf line scratch out line′ scratch′ out′ : Bytes) (r : Next) (a : AfterRead i held buf line scratch out line′ scratch′ out′ r) (k : length line′ ≡ held-limit) where
   read-tidy : held ≤ length line → Tidy (Read held) line scratch out → Tidy r line′ scratch′ out′
@@ -116,7 +116,7 @@ module _ (i : Input) (held : ℕ) (buf line scratch out line′ scratch′ out�
       go Ended a f =
           let v = answers (last-line (take held line)) scratch .text in
           subst (λ x. NextIn x buf line′ out′) (sym (a .next))
-          (record { from-fits = omega arith; to-fits = omega arith; held-fits = omega arith; line-size = k; end-fits = omega (arith, ap length (a .tells), length-append v (drop (length v) out)); out-size = omega arith })
+          (record { from-fits = omega arith; to-fits = omega arith; end-fits = omega (arith, ap length (a .tells), length-append v (drop (length v) out)); lent = record { line-size = k; held-fits = omega arith; out-size = omega arith } })
       go (Chunk n) a f = continues-ready a buf (omega (arith, length-take-le n buf (f n refl), f n refl)) k (omega arith)
 
 module _ (goes-on rest : Bool) (p : Pending) (buf line scratch out buf′ line′ scratch′ out′ : Bytes) (r : Next) (a : AfterWrite goes-on rest p buf line scratch out buf′ line′ scratch′ out′ r) (f : PendingIn p buf line out)
@@ -136,7 +136,7 @@ module _ (goes-on rest : Bool) (p : Pending) (buf line scratch out buf′ line�
             scratch-zero = subst Zero (sym (a .scratch-stays)) (t .scratch-zero);
             out-zero = subst Zero (sym (a .out-wiped)) blank-out;
           })
-      go true true a = continues-tidy (a .continues) (omega (arith, f .held-fits, f .line-size)) k (t .line-zero) (t .scratch-zero) blank-out
+      go true true a = continues-tidy (a .continues) (omega (arith, f .lent .held-fits, f .lent .line-size)) k (t .line-zero) (t .scratch-zero) blank-out
       go true false a =
           subst (λ x. Tidy x line′ scratch′ out′) (sym (a .next))
           (record {
@@ -151,8 +151,8 @@ module _ (goes-on rest : Bool) (p : Pending) (buf line scratch out buf′ line�
     where
       go : (g b : Bool) → AfterWrite g b p buf line scratch out buf′ line′ scratch′ out′ r → NextIn r buf′ line′ out′
       go false b a = subst (λ x. NextIn x buf′ line′ out′) (sym (a .next)) tt
-      go true true a = continues-ready (a .continues) buf′ (omega (arith, length-take-le (p .to) buf (f .to-fits), f .to-fits)) k (omega (arith, f .out-size))
-      go true false a = subst (λ x. NextIn x buf′ line′ out′) (sym (a .next)) (f .held-fits)
+      go true true a = continues-ready (a .continues) buf′ (omega (arith, length-take-le (p .to) buf (f .to-fits), f .to-fits)) k (omega (arith, f .lent .out-size))
+      go true false a = subst (λ x. NextIn x buf′ line′ out′) (sym (a .next)) (f .lent .held-fits)
 
 pub sound-as : {m n : Next} {buf line scratch out : Bytes} → m ≡ n → Sound m buf line scratch out → Sound n buf line scratch out
 sound-as {m} {n} {buf} {line} {scratch} {out} e s = subst (λ x. Sound x buf line scratch out) e s

@@ -8,6 +8,12 @@ use Rattle.replies.specs.Sizes.{held-limit, out-room}
 use Rattle.lines.specs.Output.{answers, last-line, told, wiped}
 use Rattle.lines.specs.declared.chunk.Answered.{Answered}
 
+-- the line's buffer has its size, so many of its bytes are held, and the output has room for a reply
+pub record Lent (line : Bytes) (held : ℕ) (out : Bytes) : Type 0 where
+  pub line-size : length line ≡ held-limit
+  pub held-fits : held ≤ held-limit
+  pub out-size : out-room ≤ length out
+
 -- what the bytes of a chunk from one place to another give is in the first bytes of the output, in the line's and in scratch; the output's other bytes stay
 pub record Done (chunk : Bytes) (from : ℕ) (line : Bytes) (held : ℕ) (scratch out line′ scratch′ out′ : Bytes) (r : Answered) : Type 0 where
   pub tells : told (take held line) (slice from (r .next) chunk) scratch ≡ record { text = take (r .end) out′; held = take (r .held) line′; scratch = scratch′ }

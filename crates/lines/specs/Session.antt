@@ -11,7 +11,7 @@ use Rattle.replies.specs.Sizes.{held-limit, scratch-size, out-room}
 use Rattle.replies.specs.Reply.{Reply}
 use Rattle.replies.specs.Stores.{zeroed, Zero}
 use Rattle.lines.specs.Output.{answers, last-line}
-use Rattle.lines.specs.Chunk.{Answers}
+use Rattle.lines.specs.Chunk.{Lent, Answers}
 use Rattle.lines.specs.declared.chunk.Answered.{Answered}
 use Rattle.lines.specs.declared.session.Input.{Input}
 use Rattle.lines.specs.declared.session.Input.the-variants.{Failed, Ended, Chunk}
@@ -63,10 +63,8 @@ AfterRead (Chunk n) held buf line scratch out line′ scratch′ out′ r = Cont
 pub record PendingIn (p : Pending) (buf line out : Bytes) : Type 0 where
   pub from-fits : p .from ≤ p .to
   pub to-fits : p .to ≤ length buf
-  pub held-fits : p .held ≤ held-limit
-  pub line-size : length line ≡ held-limit
   pub end-fits : p .end ≤ length out
-  pub out-size : out-room ≤ length out
+  pub lent : Lent line (p .held) out
 
 -- it ends, and all that was used is zero
 pub record Quits (p : Pending) (buf line scratch out buf′ line′ scratch′ out′ : Bytes) (r : Next) : Type 0 where

@@ -2,9 +2,9 @@
 ghost use mathlib.Core.Path.{_≡_};
 ghost use Prim.Native.Nat.{_≤_};
 ghost use lib.ListN.{length};
-ghost use Rattle.replies.specs.Sizes.{held-limit, out-room};
+ghost use Rattle.replies.specs.Sizes.{out-room};
 ghost use Rattle.lines.specs.Output.{first-line};
-ghost use Rattle.lines.specs.Chunk.{Answers, Finishes};
+ghost use Rattle.lines.specs.Chunk.{Lent, Answers, Finishes};
 use crate::line::take_line;
 use planes::clear::clear;
 use replies::reply::answer_line;
@@ -26,7 +26,7 @@ pub fn answer_chunk(
     scratch: &mut [u8],
     out: &mut [u8],
 ) -> Answered
-    requires { ⌜ (from ≤ length (now chunk)) × (length (now line) ≡ held-limit) × (held ≤ held-limit) × (out-room ≤ length (now out)) ⌝ }
+    requires { ⌜ from ≤ length (now chunk) ⌝ ∗ ⌜ Lent (now line) held (now out) ⌝ }
     ensures { λ r. ⌜ Answers (now (chunk .entry)) from (now (line .entry)) held (now (scratch .entry)) (now (out .entry)) (now (line .exit)) (now (scratch .exit)) (now (out .exit)) r ⌝ }
 {
     let mut next = from;

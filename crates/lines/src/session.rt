@@ -5,7 +5,7 @@ ghost use mathlib.Core.Bool.{not, _&&_};
 ghost use Prim.Native.Nat.{_≤_};
 ghost use lib.ListN.{length};
 ghost use lib.Dec.{ltb};
-ghost use Rattle.replies.specs.Sizes.{held-limit, out-room};
+ghost use Rattle.lines.specs.Chunk.{Lent};
 ghost use Rattle.lines.specs.Session.{reading-of, started, Continues, AfterRead, PendingIn, AfterWrite};
 use crate::chunk::answer_chunk;
 use crate::chunk::answer_last;
@@ -68,7 +68,7 @@ fn answer_more(
     scratch: &mut [u8],
     out: &mut [u8],
 ) -> Next
-    requires { ⌜ (from ≤ length (now chunk)) × (length (now line) ≡ held-limit) × (held ≤ held-limit) × (out-room ≤ length (now out)) ⌝ }
+    requires { ⌜ from ≤ length (now chunk) ⌝ ∗ ⌜ Lent (now line) held (now out) ⌝ }
     ensures { λ r. ⌜ Continues (now (chunk .entry)) from (now (line .entry)) held (now (scratch .entry)) (now (out .entry)) (now (line .exit)) (now (scratch .exit)) (now (out .exit)) r ⌝ }
 {
     let a = answer_chunk(chunk, from, line, held, scratch, out);
@@ -91,7 +91,7 @@ pub fn after_read(
     scratch: &mut [u8],
     out: &mut [u8],
 ) -> Next
-    requires { ⌜ (length (now line) ≡ held-limit) × (held ≤ held-limit) × (out-room ≤ length (now out)) ⌝ }
+    requires { ⌜ Lent (now line) held (now out) ⌝ }
     ensures { λ r. ⌜ AfterRead (reading-of got (length (now (buf .entry)))) held (now (buf .entry)) (now (line .entry)) (now (scratch .entry)) (now (out .entry)) (now (line .exit)) (now (scratch .exit)) (now (out .exit)) r ⌝ }
 {
     match reading(got, buf.len()) {

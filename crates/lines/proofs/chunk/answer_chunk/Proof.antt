@@ -69,7 +69,7 @@ loop-again c =
     let after-take-line = after-if2 .before .before .before in
     let turn = after-take-line .before .before .before .before in
     let k = turn .loop in
-    let lent = turn .before .before .before .before .before .pre .1 in
+    let lent = turn .before .before .before .before .before .pre .1 .line-size in
     let t = after-take-line .take-line .ensures in
     let r = after-answer-line .answer-line .ensures in (
       after-clear .clear .kept .0 ∙ t .size ∙ k .inv .0,

@@ -48,7 +48,7 @@ answer-more-requires : tie.Need-answer-more-requires
 answer-more-requires c κs =
     let start = c .before .before .before .before .before .before .before .before .before .before .before .before .before .before .before in
     let p = start .pre in
-    (omega (arith, length-take-le (start .args .p .to) (start .args .buf .now) (p .to-fits)), p .line-size, p .held-fits, omega (arith, p .out-size))
+    (omega (arith, length-take-le (start .args .p .to) (start .args .buf .now) (p .to-fits)), record { line-size = p .lent .line-size; held-fits = p .lent .held-fits; out-size = omega (arith, p .lent .out-size) })
 
 same-length-4 : tie.Need-same-length-4
 same-length-4 c = search needs
