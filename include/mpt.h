@@ -6,7 +6,7 @@
  *
  * Each slice is lent with its true length; a length of 0 may come with a null pointer. Nothing that a call writes (table,
  * source, scratch, parts, answer) may share bytes with anything else lent to that call. Nothing is allocated and the
- * library has no data of its own: calls may run in any number of threads at once, each with its own slices to write.
+ * library has no data that is written: calls may run in any number of threads at once, each with its own slices to write.
  *
  * The answer area is MPT_ANSWER_SIZE bytes: four little-endian 64-bit numbers, position; table or source length, or verdict
  * (1 yes, 0 no); trials (with MPT_BUDGET the budget); 0. A shorter area gives MPT_ANSWER, looked at before all else, and

@@ -53,7 +53,7 @@ module _ {chunk line scratch out line′ scratch′ out′ : Bytes} {from held :
     where
       parts : drop from chunk ≡ slice from (a .part .next) chunk ++ drop (a .part .next) chunk
       parts =
-          ap (drop from) (sym (take-all (length chunk) chunk (omega arith))) ∙ slice-join chunk from (a .part .next) (length chunk) (a .answered .done .goes-on) (a .answered .done .next-fits) (omega arith)
+          ap (drop from) (sym (take-all (length chunk) chunk (omega arith))) ∙ slice-join chunk from (a .part .next) (length chunk) (a .answered .done .forward) (a .answered .done .next-fits) (omega arith)
           ∙ ap (λ s. slice from (a .part .next) chunk ++ drop (a .part .next) s) (take-all (length chunk) chunk (omega arith))
 
 -- ---- after a read

@@ -161,7 +161,7 @@ done-none chunk line scratch out from held f l h =
       tells = ap (λ s. told (take held line) s scratch) (slice-empty from chunk);
       wipes = ap (λ s. wiped (take held line) s line) (slice-empty from chunk) ∙ over-same held line line h refl;
       stays = refl;
-      goes-on = omega arith;
+      forward = omega arith;
       next-fits = f;
       held-fits = l;
       end-fits = omega arith;
@@ -171,7 +171,7 @@ done-none chunk line scratch out from held f l h =
 module _ {chunk line₀ scratch₀ out₀ line scratch out after : Bytes} {from held₀ : ℕ} {p : Answered} {r : Taken} (d : Done chunk from line₀ held₀ scratch₀ out₀ line scratch out p)
     (t : Took chunk (p .next) line (p .held) after r) (h : r .held ≤ length after) where
   parts : slice from (r .next) chunk ≡ slice from (p .next) chunk ++ slice (p .next) (r .next) chunk
-  parts = slice-join chunk from (p .next) (r .next) (d .goes-on) (t .goes-on) (t .next-fits)
+  parts = slice-join chunk from (p .next) (r .next) (d .forward) (t .forward) (t .next-fits)
 
   more-told : told (take held₀ line₀) (slice from (r .next) chunk) scratch₀ ≡ say (take (p .end) out) (told (take (p .held) line) (slice (p .next) (r .next) chunk) scratch)
   more-told =
@@ -194,7 +194,7 @@ module _ {chunk line₀ scratch₀ out₀ line scratch out after : Bytes} {from 
         tells = more-told ∙ ap (say (take (p .end) out)) (walk-held (told-walks scratch) (took false e)) ∙ ap (λ v. record { text = v; held = take (r .held) after; scratch = scratch }) (append-nil _);
         wipes = more-wiped ∙ walk-held (wiped-walks line) (took false e) ∙ over-same _ _ _ h (t .stays);
         stays = d .stays;
-        goes-on = omega (arith, d .goes-on, t .goes-on);
+        forward = omega (arith, d .forward, t .forward);
         next-fits = t .next-fits;
         held-fits = t .held-fits;
         end-fits = d .end-fits;
@@ -215,7 +215,7 @@ module _ {chunk line₀ scratch₀ out₀ line scratch out after : Bytes} {from 
             more-wiped ∙ walk-ended (wiped-walks line) (took true e) ∙ ap (λ n. replicate n 0 ++ drop n line) (length-take-le (r .held) after h)
             ∙ ap (λ v. replicate (r .held) 0 ++ v) (sym (t .stays)) ∙ sym z;
         stays = drop-stored f (w .stores) ∙ same-after out out₀ (p .end) j (omega (arith, w .stores .next)) (d .stays);
-        goes-on = omega (arith, d .goes-on, t .goes-on);
+        forward = omega (arith, d .forward, t .forward);
         next-fits = t .next-fits;
         held-fits = omega arith;
         end-fits = omega (arith, w .short, puts-length (w .stores));

@@ -19,7 +19,7 @@ pub record Done (chunk : Bytes) (from : ℕ) (line : Bytes) (held : ℕ) (scratc
   pub tells : told (take held line) (slice from (r .next) chunk) scratch ≡ record { text = take (r .end) out′; held = take (r .held) line′; scratch = scratch′ }
   pub wipes : wiped (take held line) (slice from (r .next) chunk) line ≡ line′
   pub stays : drop (r .end) out′ ≡ drop (r .end) out
-  pub goes-on : from ≤ r .next
+  pub forward : from ≤ r .next
   pub next-fits : r .next ≤ length chunk
   pub held-fits : r .held ≤ held-limit
   pub end-fits : r .end ≤ length out′

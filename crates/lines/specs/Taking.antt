@@ -23,6 +23,6 @@ pub record Took (chunk : Bytes) (from : ℕ) (line : Bytes) (held : ℕ) (after 
   pub size : length after ≡ length line
   pub held-fits : r .held ≤ held-limit
   pub next-fits : r .next ≤ length chunk
-  pub goes-on : from ≤ r .next
+  pub forward : from ≤ r .next
   pub moves : from < length chunk → from < r .next
   pub stops : r .ended ≡ false → length chunk ≤ r .next

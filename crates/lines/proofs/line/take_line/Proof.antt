@@ -42,7 +42,7 @@ returns c =
       size = k .loop .inv .3;
       held-fits = k .loop .inv .2;
       next-fits = omega arith;
-      goes-on = omega arith;
+      forward = omega arith;
       moves = λ m. omega arith;
       stops = λ e. absurd (omega (arith, ap (λ b. cond b (suc 0) 0) e));
     }
@@ -94,7 +94,7 @@ returns-2 c =
       size = k .loop .inv .3;
       held-fits = k .loop .inv .2;
       next-fits = k .loop .inv .1;
-      goes-on = omega arith;
+      forward = omega arith;
       moves = λ m. omega arith;
       stops = λ e. c .loop-test .left;
     }
