@@ -1,5 +1,5 @@
 pub mod Lines
-pub mod Told
+pub mod Answering
 pub mod Chunks
 pub mod Sessions
 pub mod Owed

@@ -1,34 +1,41 @@
 -- Laws of lines taken out of chunks. Assumes nothing.
-use mathlib.Core.Path.{_≡_, sym, ap, _∙_}
+use mathlib.Core.Path.{_≡_, refl, sym, ap, _∙_}
 use mathlib.Core.Bool.{Bool, true, false}
 use mathlib.Core.List.{[], _∷_, _++_}
-use mathlib.Core.Option.{Option, none, some}
 use Prim.Native.Nat.{ℕ, suc, _+_, _≤_, _<_}
 use native.Mathlib.Numerals.{add-one}
 use native.Mathlib.Omega.{arith}
-use lib.Dec.{eqb}
-use lib.ListN.{length, getD, take, drop, set, take-append-drop}
+use lib.Dec.{eqb, ltb}
+use lib.ListN.{length, getD, take, drop, set, length-append, take-append-drop}
 use lib.Seq.{slice, slice-empty, slice-cons, drop-append-le, take-take, take-suc-set, length-take-le}
 use borrow.Author.Tests.{eq-eqb, ne-eqb, lt-ltb, le-ltb}
 use Rattle.pattern.specs.Bytes.{Bytes}
 use Rattle.pattern.proofs.Tests.{if-true, if-false}
 use Rattle.replies.specs.Sizes.{held-limit, newline-byte}
-use Rattle.lines.specs.Output.{hold, taken}
+use Rattle.lines.specs.Output.{hold, LinesIn, line-first, lines-in}
+use Rattle.lines.specs.Taking.{one-line}
 
--- a byte more is taken where no newline was
-abbrev taken-with : (line : Bytes) (c : ℕ) → Bytes × Option Bytes
-taken-with line c = elim (eqb c newline-byte) [ true ↦ (line, some []) | false ↦ (hold line c, none) ]
+-- a chunk after another
+abbrev then : LinesIn → Bytes → LinesIn
+then l s = let m = lines-in (l .held) s in record { ended = l .ended ++ m .ended; held = m .held }
 
-taken-more : (held s : Bytes) (c : ℕ) {line : Bytes} → taken held s ≡ (line, none) → taken held (s ++ c ∷ []) ≡ taken-with line c
-unfolding taken
-taken-more held [] c e = ap (λ (x : Bytes × Option Bytes). taken-with (x .0) c) e
-taken-more held (d ∷ s) c {line} e = go (eqb d newline-byte) e (taken-more (hold held d) s c)
+pub lines-append : (held s t : Bytes) → lines-in held (s ++ t) ≡ then (lines-in held s) t
+unfolding lines-in line-first
+lines-append held [] t = refl
+lines-append held (c ∷ s) t = go (eqb c newline-byte) (lines-append [] s t) (lines-append (hold held c) s t)
   where
-    go : (b : Bool) → _≡_ {A = Bytes × Option Bytes} (elim b [ true ↦ (held, some s) | false ↦ taken (hold held d) s ]) (line, none)
-        → (taken (hold held d) s ≡ (line, none) → taken (hold held d) (s ++ c ∷ []) ≡ taken-with line c)
-        → _≡_ {A = Bytes × Option Bytes} (elim b [ true ↦ (held, some (s ++ c ∷ [])) | false ↦ taken (hold held d) (s ++ c ∷ []) ]) (taken-with line c)
-    go true e f = absurd (let n : _≡_ {A = Option Bytes} (some s) none = ap (λ (x : Bytes × Option Bytes). x .1) e in let z : _≡_ {A = ℕ} 0 1 = cc in omega arith)
-    go false e f = f e
+    go : (b : Bool) → lines-in [] (s ++ t) ≡ then (lines-in [] s) t → lines-in (hold held c) (s ++ t) ≡ then (lines-in (hold held c) s) t
+        → (elim b [ true ↦ line-first held (lines-in [] (s ++ t)) | false ↦ lines-in (hold held c) (s ++ t) ]) ≡ then (elim b [ true ↦ line-first held (lines-in [] s) | false ↦ lines-in (hold held c) s ]) t
+    go true x y = ap (line-first held) x
+    go false x y = y
+
+pub hold-longer : (held : Bytes) (c : ℕ) → length held ≤ length (hold held c)
+unfolding hold
+hold-longer held c = go (ltb (length held) held-limit)
+  where
+    go : (b : Bool) → length held ≤ length {A = ℕ} (elim b [ true ↦ held ++ c ∷ [] | false ↦ held ])
+    go true = omega (arith, length-append held (c ∷ []))
+    go false = omega arith
 
 -- two parts of a list, one where the other ends
 pub slice-join : (s : Bytes) (i j k : ℕ) → i ≤ j → j ≤ k → k ≤ length s → slice i k s ≡ slice i j s ++ slice j k s
@@ -37,40 +44,43 @@ slice-join s i j k h l m =
     ∙ drop-append-le i (take j (take k s)) (drop j (take k s)) (omega (arith, length-take-le j (take k s) (omega (arith, length-take-le k s m))))
     ∙ ap (λ (v : Bytes). drop i v ++ slice j k s) (take-take j k s l)
 
-slice-more : (s : Bytes) (i j : ℕ) → i ≤ j → j < length s → slice i (j + 1) s ≡ slice i j s ++ getD s j 0 ∷ []
-slice-more s i j h l =
-    slice-join s i j (j + 1) h (omega arith) (omega arith)
-    ∙ ap (λ v. slice i j s ++ v) (slice-cons j (j + 1) s 0 (omega arith) (omega arith) ∙ ap (λ k. getD s j 0 ∷ slice (suc j) k s) (add-one j) ∙ ap (λ v. getD s j 0 ∷ v) (slice-empty (suc j) s))
+slice-one : (s : Bytes) (j : ℕ) → j < length s → slice j (j + 1) s ≡ getD s j 0 ∷ []
+slice-one s j l = slice-cons j (j + 1) s 0 (omega arith) (omega arith) ∙ ap (λ k. getD s j 0 ∷ slice (suc j) k s) (add-one j) ∙ ap (λ v. getD s j 0 ∷ v) (slice-empty (suc j) s)
 
 -- a byte put after n held ones, where there is room, and where there is none
-pub hold-room : (line : Bytes) (n b : ℕ) → n < held-limit → length line ≡ held-limit → hold (take n line) b ≡ take (n + 1) (set line n b)
+hold-room : (line : Bytes) (n b : ℕ) → n < held-limit → length line ≡ held-limit → hold (take n line) b ≡ take (n + 1) (set line n b)
 unfolding hold
 hold-room line n b h e =
     let l : length (take n line) ≡ n = length-take-le n line (omega arith) in
     if-true _ _ _ (lt-ltb (length (take n line)) held-limit (omega arith)) ∙ sym (ap (λ k. take k (set line n b)) (add-one n) ∙ take-suc-set line n b (omega arith))
 
-pub hold-full : (line : Bytes) (n b : ℕ) → held-limit ≤ n → n ≤ length line → hold (take n line) b ≡ take n line
+hold-full : (line : Bytes) (n b : ℕ) → held-limit ≤ n → n ≤ length line → hold (take n line) b ≡ take n line
 unfolding hold
 hold-full line n b h e = let l : length (take n line) ≡ n = length-take-le n line e in if-false _ _ _ (le-ltb (length (take n line)) held-limit (omega arith))
 
-pub taken-nothing : (held chunk : Bytes) (from : ℕ) → taken held (slice from from chunk) ≡ (held, none)
-unfolding taken
-taken-nothing held chunk from = ap (taken held) (slice-empty from chunk)
+pub taken-nothing : (held chunk : Bytes) (from : ℕ) → lines-in held (slice from from chunk) ≡ one-line false held
+unfolding lines-in one-line
+taken-nothing held chunk from = ap (lines-in held) (slice-empty from chunk)
 
 -- a turn of taking: the byte at a place is a newline; or it is held, where there is room, and where there is none
-module _ (held₀ chunk line : Bytes) (from at n : ℕ) (begun : taken held₀ (slice from at chunk) ≡ (take n line, none)) (before : from ≤ at) (more : at < length chunk) where
-  one-more : taken held₀ (slice from (at + 1) chunk) ≡ taken-with (take n line) (getD chunk at 0)
-  one-more = ap (taken held₀) (slice-more chunk from at before more) ∙ taken-more held₀ (slice from at chunk) (getD chunk at 0) begun
+module _ (held₀ chunk line : Bytes) (from at n : ℕ) (begun : lines-in held₀ (slice from at chunk) ≡ one-line false (take n line)) (before : from ≤ at) (more : at < length chunk) where
+  one-more : lines-in held₀ (slice from (at + 1) chunk) ≡ lines-in (take n line) (getD chunk at 0 ∷ [])
+  unfolding one-line
+  one-more =
+      ap (lines-in held₀) (slice-join chunk from at (at + 1) before (omega arith) (omega arith)) ∙ lines-append held₀ (slice from at chunk) (slice at (at + 1) chunk)
+      ∙ ap (λ l. then l (slice at (at + 1) chunk)) begun ∙ ap (lines-in (take n line)) (slice-one chunk at more)
 
-  pub turn-newline : getD chunk at 0 ≡ newline-byte → taken held₀ (slice from (at + 1) chunk) ≡ (take n line, some [])
+  pub turn-newline : getD chunk at 0 ≡ newline-byte → lines-in held₀ (slice from (at + 1) chunk) ≡ one-line true (take n line)
+  unfolding lines-in line-first one-line
   turn-newline e = one-more ∙ if-true _ _ _ (eq-eqb _ _ e)
 
   module _ (byte : ¬ (getD chunk at 0 ≡ newline-byte)) where
-    held-more : taken held₀ (slice from (at + 1) chunk) ≡ (hold (take n line) (getD chunk at 0), none)
+    held-more : lines-in held₀ (slice from (at + 1) chunk) ≡ one-line false (hold (take n line) (getD chunk at 0))
+    unfolding lines-in one-line
     held-more = one-more ∙ if-false _ _ _ (ne-eqb _ _ byte)
 
-    pub turn-room : n < held-limit → length line ≡ held-limit → taken held₀ (slice from (at + 1) chunk) ≡ (take (n + 1) (set line n (getD chunk at 0)), none)
-    turn-room h e = held-more ∙ ap (λ x. (x, none)) (hold-room line n _ h e)
+    pub turn-room : n < held-limit → length line ≡ held-limit → lines-in held₀ (slice from (at + 1) chunk) ≡ one-line false (take (n + 1) (set line n (getD chunk at 0)))
+    turn-room h e = held-more ∙ ap (one-line false) (hold-room line n _ h e)
 
-    pub turn-full : held-limit ≤ n → n ≤ length line → taken held₀ (slice from (at + 1) chunk) ≡ (take n line, none)
-    turn-full h e = held-more ∙ ap (λ x. (x, none)) (hold-full line n _ h e)
+    pub turn-full : held-limit ≤ n → n ≤ length line → lines-in held₀ (slice from (at + 1) chunk) ≡ one-line false (take n line)
+    turn-full h e = held-more ∙ ap (one-line false) (hold-full line n _ h e)

@@ -1,20 +1,19 @@
 -- What a read's answer means, and what lent bytes are after a session's steps. Assumes nothing.
-use mathlib.Core.Path.{_≡_, refl, sym, ap, ap₂, _∙_, subst}
-use mathlib.Core.List.{_++_}
+use mathlib.Core.Path.{_≡_, refl, sym, ap, _∙_, subst}
 use mathlib.Core.Bool.{true, false, cond}
 use Prim.Native.Nat.{ℕ, zero, suc, min, _≤_}
 use native.Mathlib.Omega.{arith}
 use lib.Dec.{T}
 use lib.IntN.{ℤ, pos, negsuc, natAbs}
-use lib.ListN.{length, take, drop, take-append-drop}
-use lib.Seq.{length-take-le}
+use lib.ListN.{length}
 use lib.Signed.{ltZ, nonNeg}
 use borrow.Author.Tests.{ltb-true}
-use Rattle.pattern.specs.Bytes.{Bytes, over}
-use Rattle.replies.specs.Stores.{zeroed}
-use Rattle.lines.specs.Output.{answers, last-line}
-use Rattle.lines.specs.Chunk.{Finishes}
-use Rattle.lines.specs.Session.{reading-of, Continues, Ends, AfterRead}
+use Rattle.pattern.specs.Bytes.{Bytes}
+use Rattle.pattern.proofs.Stores.{stored-over}
+use Rattle.replies.specs.Reply.{Reply}
+use Rattle.replies.specs.Stores.{zeroed, Replied}
+use Rattle.lines.specs.Chunk.{Buffers, lend}
+use Rattle.lines.specs.Session.{reading-of, Step, finished, AfterRead}
 use Rattle.lines.specs.declared.session.Input.{Input}
 use Rattle.lines.specs.declared.session.Next.{Next}
 use Rattle.lines.specs.declared.session.Next.the-variants.{Write}
@@ -61,21 +60,19 @@ module _ (room : ℕ) where
       counted (negsuc k) = omega arith
 
 -- by another name of what was read
-pub read-as : (i j : Input) (held : ℕ) (buf line scratch out line′ scratch′ out′ : Bytes) (r : Next) → i ≡ j → AfterRead j held buf line scratch out line′ scratch′ out′ r → AfterRead i held buf line scratch out line′ scratch′ out′ r
-read-as i j held buf line scratch out line′ scratch′ out′ r e a = subst (λ x. AfterRead x held buf line scratch out line′ scratch′ out′ r) (sym e) a
+pub read-as : (i j : Input) (held : ℕ) (input : Bytes) (b : Buffers) (s : Step) → i ≡ j → AfterRead j held input b s → AfterRead i held input b s
+read-as i j held input b s e a = subst (λ x. AfterRead x held input b s) (sym e) a
 
-pub continues-in : {chunk line scratch o o′ line′ scratch′ out′ : Bytes} {from held : ℕ} {r : Next} → o ≡ o′ → Continues chunk from line held scratch o line′ scratch′ out′ r → Continues chunk from line held scratch o′ line′ scratch′ out′ r
-continues-in {chunk} {line} {scratch} {o} {o′} {line′} {scratch′} {out′} {from} {held} {r} e a = subst (λ x. Continues chunk from line held scratch x line′ scratch′ out′ r) e a
+-- a step by its bytes
+pub step-by : {next : Next} {i i′ l l′ w w′ o o′ : Bytes} → i ≡ i′ → l ≡ l′ → w ≡ w′ → o ≡ o′
+    → _≡_ {A = Step} (record { next = next; input = i; buffers = lend l w o }) (record { next = next; input = i′; buffers = lend l′ w′ o′ })
+step-by a b c d = cc
 
--- the answer to the last line is over the output
-pub ended-by : {held end : ℕ} {line scratch out scratch′ out′ line′ : Bytes} → Finishes (take held line) scratch out scratch′ out′ end → line′ ≡ zeroed held line
-    → Ends (answers (last-line (take held line)) scratch) held line out line′ scratch′ out′ (Write (record { from = 0; to = 0; held = 0; end = end; last = true }))
-unfolding over
-ended-by {held} {end} {line} {scratch} {out} {scratch′} {out′} {line′} f w =
-    let e : end ≡ length (answers (last-line (take held line)) scratch .text) = sym (length-take-le end out′ (f .end-fits)) ∙ ap length (f .tells) in
-    record {
-      next = ap (λ k. Write (record { from = 0; to = 0; held = 0; end = k; last = true })) e;
-      tells = sym (take-append-drop end out′) ∙ ap₂ (λ u v. u ++ v) (f .tells) (f .stays) ∙ ap (λ k. answers (last-line (take held line)) scratch .text ++ drop k out) e;
-      works = f .works;
-      wipes = w;
-    }
+-- the reply to the last line is over the output
+pub finished-by : (held : ℕ) (b : Buffers) {end : ℕ} {input scratch′ out′ line′ : Bytes} {last : Reply} → Replied (length (b .out)) last (b .out) 0 scratch′ out′ end → line′ ≡ zeroed held (b .line)
+    → record { next = Write (record { from = 0; to = 0; held = 0; end = end; last = true }); input = input; buffers = lend line′ scratch′ out′ } ≡ finished last held input b
+unfolding finished
+finished-by held b {last = last} a w =
+    let r = a .within in
+    let e : _ ≡ length (last .text) = r .stores .next ∙ omega arith in
+    rw e (step-by refl w (a .works) (r .stores .bytes ∙ stored-over (b .out) (last .text) (omega (arith, r .short, r .stores .next))))

@@ -1,11 +1,10 @@
--- The whole output of the line tool, and the same from input taken in chunks. Assumes nothing.
+-- The whole output of the line tool, and its lines as they come in chunks of input. Assumes nothing.
 use mathlib.Core.Bool.{true, false}
 use mathlib.Core.List.{List, [], _∷_, _++_}
-use mathlib.Core.Option.{Option, none, some}
 use Prim.Native.Nat.{ℕ}
 use lib.Dec.{ltb, eqb}
 use lib.ListN.{length}
-use Rattle.pattern.specs.Bytes.{Bytes, bytes, over}
+use Rattle.pattern.specs.Bytes.{Bytes, bytes}
 use Rattle.replies.specs.Sizes.{held-limit, newline-byte}
 use Rattle.replies.specs.Reply.{Reply, answer-to, zeros}
 use Rattle.replies.specs.Stores.{zeroed}
@@ -45,33 +44,24 @@ output input = first-line ++ answers (split input) zeros .text
 unfoldable pub hold : Bytes → ℕ → Bytes
 hold held c = elim (ltb (length held) held-limit) [ true ↦ held ++ c ∷ [] | false ↦ held ]
 
--- bytes taken up to a newline: the line then held, and what follows the newline if there is one
-unfoldable pub taken : (held chunk : Bytes) → Bytes × Option Bytes
-taken held [] = (held, none)
-taken held (c ∷ s) = elim (eqb c newline-byte) [ true ↦ (held, some s) | false ↦ taken (hold held c) s ]
-
--- what a chunk gives after a held line: the answers to the lines that end in it, and the line held and scratch after it
-pub record Told : Type 0 where
-  pub text : Bytes
+-- the lines that end in a chunk, and what is held of a line after it
+pub record LinesIn : Type 0 where
+  pub ended : List Bytes
   pub held : Bytes
-  pub scratch : Bytes
 
--- a text before that
-unfoldable pub say : Bytes → Told → Told
-say text t = record { text = text ++ t .text; held = t .held; scratch = t .scratch }
+-- a line before others
+unfoldable pub line-first : Bytes → LinesIn → LinesIn
+line-first line l = record { ended = line ∷ l .ended; held = l .held }
 
-unfoldable pub told : (held chunk scratch : Bytes) → Told
-told held [] scratch = record { text = []; held = held; scratch = scratch }
-told held (c ∷ s) scratch =
-    elim (eqb c newline-byte) [
-      | true ↦ say (answer-to held scratch .text) (told [] s (answer-to held scratch .scratch))
-      | false ↦ told (hold held c) s scratch
-    ]
+-- the lines of a chunk after a held line
+unfoldable pub lines-in : (held chunk : Bytes) → LinesIn
+lines-in held [] = record { ended = []; held = held }
+lines-in held (c ∷ s) = elim (eqb c newline-byte) [ true ↦ line-first held (lines-in [] s) | false ↦ lines-in (hold held c) s ]
 
--- the lent bytes of a line after a chunk: those of each line that ended are zero, and the held one is over their start
-unfoldable pub wiped : (held chunk line : Bytes) → Bytes
-wiped held [] line = over held line
-wiped held (c ∷ s) line = elim (eqb c newline-byte) [ true ↦ wiped [] s (zeroed (length held) line) | false ↦ wiped (hold held c) s line ]
+-- the lent bytes in which lines were held one after the other, with zeros over each
+unfoldable pub wiped : List Bytes → (line : Bytes) → Bytes
+wiped [] line = line
+wiped (l ∷ rest) line = wiped rest (zeroed (length l) line)
 
 -- chunks one after the other
 unfoldable pub joined : List Bytes → Bytes

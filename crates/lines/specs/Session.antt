@@ -11,7 +11,7 @@ use Rattle.replies.specs.Sizes.{held-limit, scratch-size, out-room}
 use Rattle.replies.specs.Reply.{Reply}
 use Rattle.replies.specs.Stores.{zeroed, Zero}
 use Rattle.lines.specs.Output.{answers, last-line}
-use Rattle.lines.specs.Chunk.{Lent, Answers}
+use Rattle.lines.specs.Chunk.{Buffers, Lent, Answers}
 use Rattle.lines.specs.declared.chunk.Answered.{Answered}
 use Rattle.lines.specs.declared.session.Input.{Input}
 use Rattle.lines.specs.declared.session.Input.the-variants.{Failed, Ended, Chunk}
@@ -30,89 +30,84 @@ unfoldable pub started : (wrote : Bool) → Next
 started true = Read 0
 started false = Stop
 
+-- what is to be done next, and the bytes then: the input's and those that answering works in
+pub record Step : Type 0 where
+  pub next : Next
+  pub input : Bytes
+  pub buffers : Buffers
+
 -- ---- after a read
 
--- nothing is answered of what is held
-pub record Drops (held : ℕ) (line scratch out line′ scratch′ out′ : Bytes) (r : Next) : Type 0 where
-  pub next : r ≡ Stop
-  pub wipes : line′ ≡ zeroed held line
-  pub scratch-stays : scratch′ ≡ scratch
-  pub out-stays : out′ ≡ out
+-- it failed: nothing is answered of what is held
+unfoldable pub dropped : (held : ℕ) (input : Bytes) → Buffers → Step
+dropped held input b = record { next = Stop; input = input; buffers = record { line = zeroed held (b .line); scratch = b .scratch; out = b .out } }
 
--- what is held is the last line: its answer is to be written, and then nothing
-pub record Ends (last : Reply) (held : ℕ) (line out line′ scratch′ out′ : Bytes) (r : Next) : Type 0 where
-  pub next : r ≡ Write (record { from = 0; to = 0; held = 0; end = length (last .text); last = true })
-  pub tells : out′ ≡ over (last .text) out
-  pub works : scratch′ ≡ last .scratch
-  pub wipes : line′ ≡ zeroed held line
+-- the input has ended, and what is held is the last line: its reply is to be written, and then nothing
+unfoldable pub finished : (last : Reply) (held : ℕ) (input : Bytes) → Buffers → Step
+finished last held input b =
+    record {
+      next = Write (record { from = 0; to = 0; held = 0; end = length (last .text); last = true });
+      input = input;
+      buffers = record { line = zeroed held (b .line); scratch = last .scratch; out = over (last .text) (b .out) };
+    }
 
--- the chunk is answered from a place on; what is answered is to be written, and then the rest is answered
-pub record Continues (chunk : Bytes) (from : ℕ) (line : Bytes) (held : ℕ) (scratch out line′ scratch′ out′ : Bytes) (r : Next) : Type 0 where
+-- a chunk is answered from a place on; the replies are to be written, and then the rest is answered
+pub record Continues (chunk : Bytes) (from held : ℕ) (b : Buffers) (r : Next) (b′ : Buffers) : Type 0 where
   pub part : Answered
   pub next : r ≡ Write (record { from = part .next; to = length chunk; held = part .held; end = part .end; last = false })
-  pub answered : Answers chunk from line held scratch out line′ scratch′ out′ part
+  pub answered : Answers chunk from held b b′ part
 
-unfoldable pub AfterRead : Input → (held : ℕ) (buf line scratch out line′ scratch′ out′ : Bytes) → Next → Type 0
-AfterRead Failed held buf line scratch out line′ scratch′ out′ r = Drops held line scratch out line′ scratch′ out′ r
-AfterRead Ended held buf line scratch out line′ scratch′ out′ r = Ends (answers (last-line (take held line)) scratch) held line out line′ scratch′ out′ r
-AfterRead (Chunk n) held buf line scratch out line′ scratch′ out′ r = Continues (take n buf) 0 line held scratch out line′ scratch′ out′ r
+unfoldable pub AfterRead : Input → (held : ℕ) (input : Bytes) → Buffers → Step → Type 0
+AfterRead Failed held input b s = s ≡ dropped held input b
+AfterRead Ended held input b s = s ≡ finished (answers (last-line (take held (b .line))) (b .scratch)) held input b
+AfterRead (Chunk n) held input b s = Continues (take n input) 0 held b (s .next) (s .buffers) × (s .input ≡ input)
 
 -- ---- after a write
 
 -- what is pending lies in the buffers
-pub record PendingIn (p : Pending) (buf line out : Bytes) : Type 0 where
+pub record PendingIn (p : Pending) (input : Bytes) (b : Buffers) : Type 0 where
   pub from-fits : p .from ≤ p .to
-  pub to-fits : p .to ≤ length buf
-  pub end-fits : p .end ≤ length out
-  pub lent : Lent line (p .held) out
+  pub to-fits : p .to ≤ length input
+  pub end-fits : p .end ≤ length (b .out)
+  pub lent : Lent (p .held) b
+
+-- what was written is zero
+unfoldable pub written : Pending → Buffers → Buffers
+written p b = record { line = b .line; scratch = b .scratch; out = zeroed (p .end) (b .out) }
 
 -- it ends, and all that was used is zero
-pub record Quits (p : Pending) (buf line scratch out buf′ line′ scratch′ out′ : Bytes) (r : Next) : Type 0 where
-  pub next : r ≡ Stop
-  pub buf-wiped : buf′ ≡ zeroed (p .to) buf
-  pub line-wiped : line′ ≡ zeroed (p .held) line
-  pub scratch-stays : scratch′ ≡ scratch
-  pub out-wiped : out′ ≡ zeroed (p .end) out
+unfoldable pub stopped : Pending → (input : Bytes) → Buffers → Step
+stopped p input b = record { next = Stop; input = zeroed (p .to) input; buffers = record { line = zeroed (p .held) (b .line); scratch = b .scratch; out = zeroed (p .end) (b .out) } }
 
--- the rest of the chunk is answered; what was written is zero
-pub record Resumes (p : Pending) (buf line scratch out buf′ line′ scratch′ out′ : Bytes) (r : Next) : Type 0 where
-  pub continues : Continues (take (p .to) buf) (p .from) line (p .held) scratch (zeroed (p .end) out) line′ scratch′ out′ r
-  pub buf-stays : buf′ ≡ buf
-
--- the chunk was answered whole: more is read; what was used of input and output is zero
-pub record Waits (p : Pending) (buf line scratch out buf′ line′ scratch′ out′ : Bytes) (r : Next) : Type 0 where
-  pub next : r ≡ Read (p .held)
-  pub buf-wiped : buf′ ≡ zeroed (p .to) buf
-  pub line-stays : line′ ≡ line
-  pub scratch-stays : scratch′ ≡ scratch
-  pub out-wiped : out′ ≡ zeroed (p .end) out
+-- the chunk was answered whole, and is zero: more is read
+unfoldable pub waiting : Pending → (input : Bytes) → Buffers → Step
+waiting p input b = record { next = Read (p .held); input = zeroed (p .to) input; buffers = written p b }
 
 -- goes-on: the write succeeded and wasn't the last; rest: some of the chunk isn't answered yet
-unfoldable pub AfterWrite : (goes-on rest : Bool) → Pending → (buf line scratch out buf′ line′ scratch′ out′ : Bytes) → Next → Type 0
-AfterWrite false rest p buf line scratch out buf′ line′ scratch′ out′ r = Quits p buf line scratch out buf′ line′ scratch′ out′ r
-AfterWrite true true p buf line scratch out buf′ line′ scratch′ out′ r = Resumes p buf line scratch out buf′ line′ scratch′ out′ r
-AfterWrite true false p buf line scratch out buf′ line′ scratch′ out′ r = Waits p buf line scratch out buf′ line′ scratch′ out′ r
+unfoldable pub AfterWrite : (goes-on rest : Bool) → Pending → (input : Bytes) → Buffers → Step → Type 0
+AfterWrite false rest p input b s = s ≡ stopped p input b
+AfterWrite true true p input b s = Continues (take (p .to) input) (p .from) (p .held) (written p b) (s .next) (s .buffers) × (s .input ≡ input)
+AfterWrite true false p input b s = s ≡ waiting p input b
 
 -- ---- a run in which no read and no write fails: the chunks that it reads before the input's end, and the bytes that it writes
-pub data Runs : Next → (buf line scratch out : Bytes) → List Bytes → Bytes → Type 0 where
-  stops : (buf line scratch out : Bytes) → Runs Stop buf line scratch out [] []
-  writes : (p : Pending) (buf line scratch out buf′ line′ scratch′ out′ : Bytes) (r : Next) {chunks : List Bytes} {rest : Bytes}
-      → PendingIn p buf line out → AfterWrite (true && not (p .last)) (ltb (p .from) (p .to)) p buf line scratch out buf′ line′ scratch′ out′ r
-      → Runs r buf′ line′ scratch′ out′ chunks rest → Runs (Write p) buf line scratch out chunks (take (p .end) out ++ rest)
-  reads : (held n : ℕ) (buf line scratch out buf′ line′ scratch′ out′ : Bytes) (r : Next) {chunks : List Bytes} {rest : Bytes}
-      → n ≤ length buf′ → AfterRead (Chunk n) held buf′ line scratch out line′ scratch′ out′ r
-      → Runs r buf′ line′ scratch′ out′ chunks rest → Runs (Read held) buf line scratch out (take n buf′ ∷ chunks) rest
-  ends : (held : ℕ) (buf line scratch out buf′ line′ scratch′ out′ : Bytes) (r : Next) {rest : Bytes}
-      → AfterRead Ended held buf′ line scratch out line′ scratch′ out′ r
-      → Runs r buf′ line′ scratch′ out′ [] rest → Runs (Read held) buf line scratch out [] rest
+pub data Runs : Next → (input : Bytes) → Buffers → List Bytes → Bytes → Type 0 where
+  stops : (input : Bytes) (b : Buffers) → Runs Stop input b [] []
+  writes : (p : Pending) (input : Bytes) (b : Buffers) (s : Step) {chunks : List Bytes} {rest : Bytes}
+      → PendingIn p input b → AfterWrite (true && not (p .last)) (ltb (p .from) (p .to)) p input b s
+      → Runs (s .next) (s .input) (s .buffers) chunks rest → Runs (Write p) input b chunks (take (p .end) (b .out) ++ rest)
+  reads : (held n : ℕ) (input input′ : Bytes) (b : Buffers) (s : Step) {chunks : List Bytes} {rest : Bytes}
+      → n ≤ length input′ → AfterRead (Chunk n) held input′ b s
+      → Runs (s .next) (s .input) (s .buffers) chunks rest → Runs (Read held) input b (take n input′ ∷ chunks) rest
+  ends : (held : ℕ) (input input′ : Bytes) (b : Buffers) (s : Step) {rest : Bytes}
+      → AfterRead Ended held input′ b s → Runs (s .next) (s .input) (s .buffers) [] rest → Runs (Read held) input b [] rest
 
 -- ---- what holds between steps
 
 -- what is held and pending lies in the buffers
-unfoldable pub NextIn : Next → (buf line out : Bytes) → Type 0
-NextIn Stop buf line out = Unit {0}
-NextIn (Read held) buf line out = held ≤ held-limit
-NextIn (Write p) buf line out = PendingIn p buf line out
+unfoldable pub NextIn : Next → (input : Bytes) → Buffers → Type 0
+NextIn Stop input b = Unit {0}
+NextIn (Read held) input b = held ≤ held-limit
+NextIn (Write p) input b = PendingIn p input b
 
 abbrev pub held-of : Next → ℕ
 held-of Stop = 0
@@ -125,16 +120,19 @@ end-of (Read held) = 0
 end-of (Write p) = p .end
 
 -- "patient data stays in no buffer": line, scratch and output are zero but for what is held of a line and what is to be written
-pub record Tidy (next : Next) (line scratch out : Bytes) : Type 0 where
-  pub line-zero : Zero (drop (held-of next) line)
-  pub scratch-zero : Zero scratch
-  pub out-zero : Zero (drop (end-of next) out)
+pub record Tidy (next : Next) (b : Buffers) : Type 0 where
+  pub line-zero : Zero (drop (held-of next) (b .line))
+  pub scratch-zero : Zero (b .scratch)
+  pub out-zero : Zero (drop (end-of next) (b .out))
 
--- the buffers with their sizes: there is room to read
-pub record Sound (next : Next) (buf line scratch out : Bytes) : Type 0 where
-  pub ready : NextIn next buf line out
-  pub tidy : Tidy next line scratch out
-  pub buf-some : 1 ≤ length buf
-  pub line-size : length line ≡ held-limit
-  pub scratch-full : length scratch ≡ scratch-size
-  pub out-size : out-room ≤ length out
+-- the buffers have their sizes
+pub record Sized (input : Bytes) (b : Buffers) : Type 0 where
+  pub input-some : 1 ≤ length input
+  pub line-size : length (b .line) ≡ held-limit
+  pub scratch-full : length (b .scratch) ≡ scratch-size
+  pub out-size : out-room ≤ length (b .out)
+
+pub record Sound (s : Step) : Type 0 where
+  pub ready : NextIn (s .next) (s .input) (s .buffers)
+  pub tidy : Tidy (s .next) (s .buffers)
+  pub sized : Sized (s .input) (s .buffers)

@@ -3,8 +3,9 @@ ghost use mathlib.Core.Path.{_≡_};
 ghost use Prim.Native.Nat.{_≤_};
 ghost use lib.ListN.{length};
 ghost use Rattle.replies.specs.Sizes.{out-room};
-ghost use Rattle.lines.specs.Output.{first-line};
-ghost use Rattle.lines.specs.Chunk.{Lent, Answers, Finishes};
+ghost use Rattle.replies.specs.Stores.{Replied};
+ghost use Rattle.lines.specs.Output.{answers, last-line, first-line};
+ghost use Rattle.lines.specs.Chunk.{lend, Lent, Answers};
 use crate::line::take_line;
 use planes::clear::clear;
 use replies::reply::answer_line;
@@ -26,8 +27,8 @@ pub fn answer_chunk(
     scratch: &mut [u8],
     out: &mut [u8],
 ) -> Answered
-    requires { ⌜ from ≤ length (now chunk) ⌝ ∗ ⌜ Lent (now line) held (now out) ⌝ }
-    ensures { λ r. ⌜ Answers (now (chunk .entry)) from (now (line .entry)) held (now (scratch .entry)) (now (out .entry)) (now (line .exit)) (now (scratch .exit)) (now (out .exit)) r ⌝ }
+    requires { ⌜ from ≤ length (now chunk) ⌝ ∗ ⌜ Lent held (lend (now line) (now scratch) (now out)) ⌝ }
+    ensures { λ r. ⌜ Answers (now (chunk .entry)) from held (lend (now (line .entry)) (now (scratch .entry)) (now (out .entry))) (lend (now (line .exit)) (now (scratch .exit)) (now (out .exit))) r ⌝ }
 {
     let mut next = from;
     let mut n = held;
@@ -51,7 +52,7 @@ pub fn answer_chunk(
 // Answers a last line without a newline, if it has bytes.
 pub fn answer_last(line: &[u8], scratch: &mut [u8], out: &mut [u8]) -> usize
     requires { ⌜ out-room ≤ length (now out) ⌝ }
-    ensures { λ r. ⌜ Finishes (now (line .entry)) (now (scratch .entry)) (now (out .entry)) (now (scratch .exit)) (now (out .exit)) r ⌝ }
+    ensures { λ r. ⌜ Replied (length (now (out .entry))) (answers (last-line (now (line .entry))) (now (scratch .entry))) (now (out .entry)) 0 (now (scratch .exit)) (now (out .exit)) r ⌝ }
 {
     if line.len() == 0 {
         return 0;

@@ -5,7 +5,7 @@ ghost use mathlib.Core.Bool.{not, _&&_};
 ghost use Prim.Native.Nat.{_≤_};
 ghost use lib.ListN.{length};
 ghost use lib.Dec.{ltb};
-ghost use Rattle.lines.specs.Chunk.{Lent};
+ghost use Rattle.lines.specs.Chunk.{lend, Lent};
 ghost use Rattle.lines.specs.Session.{reading-of, started, Continues, AfterRead, PendingIn, AfterWrite};
 use crate::chunk::answer_chunk;
 use crate::chunk::answer_last;
@@ -68,8 +68,8 @@ fn answer_more(
     scratch: &mut [u8],
     out: &mut [u8],
 ) -> Next
-    requires { ⌜ from ≤ length (now chunk) ⌝ ∗ ⌜ Lent (now line) held (now out) ⌝ }
-    ensures { λ r. ⌜ Continues (now (chunk .entry)) from (now (line .entry)) held (now (scratch .entry)) (now (out .entry)) (now (line .exit)) (now (scratch .exit)) (now (out .exit)) r ⌝ }
+    requires { ⌜ from ≤ length (now chunk) ⌝ ∗ ⌜ Lent held (lend (now line) (now scratch) (now out)) ⌝ }
+    ensures { λ r. ⌜ Continues (now (chunk .entry)) from held (lend (now (line .entry)) (now (scratch .entry)) (now (out .entry))) r (lend (now (line .exit)) (now (scratch .exit)) (now (out .exit))) ⌝ }
 {
     let a = answer_chunk(chunk, from, line, held, scratch, out);
     Next::Write(Pending {
@@ -91,8 +91,8 @@ pub fn after_read(
     scratch: &mut [u8],
     out: &mut [u8],
 ) -> Next
-    requires { ⌜ Lent (now line) held (now out) ⌝ }
-    ensures { λ r. ⌜ AfterRead (reading-of got (length (now (buf .entry)))) held (now (buf .entry)) (now (line .entry)) (now (scratch .entry)) (now (out .entry)) (now (line .exit)) (now (scratch .exit)) (now (out .exit)) r ⌝ }
+    requires { ⌜ Lent held (lend (now line) (now scratch) (now out)) ⌝ }
+    ensures { λ r. ⌜ AfterRead (reading-of got (length (now (buf .entry)))) held (now (buf .entry)) (lend (now (line .entry)) (now (scratch .entry)) (now (out .entry))) (record { next = r; input = now (buf .entry); buffers = lend (now (line .exit)) (now (scratch .exit)) (now (out .exit)) }) ⌝ }
 {
     match reading(got, buf.len()) {
         Input::Failed => {
@@ -131,8 +131,8 @@ pub fn after_write(
     scratch: &mut [u8],
     out: &mut [u8],
 ) -> Next
-    requires { ⌜ PendingIn p (now buf) (now line) (now out) ⌝ }
-    ensures { λ r. ⌜ AfterWrite (wrote && not (p .last)) (ltb (p .from) (p .to)) p (now (buf .entry)) (now (line .entry)) (now (scratch .entry)) (now (out .entry)) (now (buf .exit)) (now (line .exit)) (now (scratch .exit)) (now (out .exit)) r ⌝ }
+    requires { ⌜ PendingIn p (now buf) (lend (now line) (now scratch) (now out)) ⌝ }
+    ensures { λ r. ⌜ AfterWrite (wrote && not (p .last)) (ltb (p .from) (p .to)) p (now (buf .entry)) (lend (now (line .entry)) (now (scratch .entry)) (now (out .entry))) (record { next = r; input = now (buf .exit); buffers = lend (now (line .exit)) (now (scratch .exit)) (now (out .exit)) }) ⌝ }
 {
     let from = p.from;
     let to = p.to;

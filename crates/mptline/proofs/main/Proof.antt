@@ -33,7 +33,9 @@ slice-aggregate-run-4 : tie.Need-slice-aggregate-run-4
 slice-aggregate-run-4 c = search needs
 
 run-requires : tie.Need-run-requires
-run-requires c κs = start-sound _ (c .before .before .before .before .start .ensures) (blank-zero held-limit _ refl) (blank-zero scratch-size _ refl) (blank-zero 65536 _ refl) (omega arith) (search needs) (search needs) (omega arith)
+run-requires c κs =
+    start-sound _ (c .before .before .before .before .start .ensures) (blank-zero held-limit _ refl) (blank-zero scratch-size _ refl) (blank-zero 65536 _ refl)
+    (record { input-some = omega arith; line-size = search needs; scratch-full = search needs; out-size = omega arith })
 
 returns : tie.Need-returns
 returns c = search needs

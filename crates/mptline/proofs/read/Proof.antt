@@ -11,7 +11,7 @@ read-requires c κs = search needs
 after-read-requires : tie.Need-after-read-requires
 after-read-requires c κs =
     let s = c .before .before .before .before .before .before .before .before .before .before .before .before .pre in
-    unfold NextIn in record { line-size = s .line-size; held-fits = omega (arith, s .ready); out-size = s .out-size }
+    unfold NextIn in record { line-size = s .sized .line-size; held-fits = omega (arith, s .ready); out-size = s .sized .out-size }
 
 same-length : tie.Need-same-length
 same-length c = search needs

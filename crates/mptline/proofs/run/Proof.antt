@@ -4,14 +4,15 @@ use mathlib.Core.Logic.{⊎-elim}
 use native.Mathlib.Omega.{arith}
 use lib.ListN.{length}
 use borrow.Author.Needs.{needs}
+use Rattle.lines.specs.Chunk.{lend}
 use Rattle.lines.specs.Session.{Sound}
-use Rattle.lines.proofs.Tidying.{sound-as, sound-read, read-sound, write-sound}
+use Rattle.lines.proofs.Tidying.{sized-as, read-sound, write-sound}
 use Rattle.mptline.proofs.run.Statement.{statement}
 use Rattle.mptline.proofs.run.Tie as tie
 
 abbrev Inv-loop : tie.InvT-loop
 Inv-loop buf₀ line₀ scratch₀ out₀ next₀ turns₀ buf line scratch out next turns =
-    (length buf ≡ length buf₀) × (length line ≡ length line₀) × (length scratch ≡ length scratch₀) × (length out ≡ length out₀) × Sound next buf line scratch out
+    (length buf ≡ length buf₀) × (length line ≡ length line₀) × (length scratch ≡ length scratch₀) × (length out ≡ length out₀) × Sound (record { next = next; input = buf; buffers = lend line scratch out })
 
 abbrev μ-loop : tie.MeasureT-loop
 μ-loop buf₀ line₀ scratch₀ out₀ next₀ turns₀ buf line scratch out next turns = turns
@@ -23,13 +24,13 @@ enum-known-next : tie.Need-enum-known-next Inv-loop μ-loop
 enum-known-next c = search needs
 
 write-requires : tie.Need-write-requires Inv-loop μ-loop
-write-requires c κs = sound-as (c .before .before .before .before .before .next .given .1) (c .before .before .before .before .before .before .before .before .loop .inv .4)
+write-requires c κs = rw (← c .before .before .before .before .before .next .given .1) (c .before .before .before .before .before .before .before .before .loop .inv .4)
 
 enum-known-next-2 : tie.Need-enum-known-next-2 Inv-loop μ-loop
 enum-known-next-2 c = search needs
 
 read-requires : tie.Need-read-requires Inv-loop μ-loop
-read-requires c κs = sound-as (c .before .before .before .before .before .next2 .given .1) (c .before .before .before .before .before .before .before .before .loop .inv .4)
+read-requires c κs = rw (← c .before .before .before .before .before .next2 .given .1) (c .before .before .before .before .before .before .before .before .loop .inv .4)
 
 enum-told : tie.Need-enum-told Inv-loop μ-loop
 enum-told c = search needs
@@ -57,16 +58,26 @@ loop-less c = omega arith
 
 loop-again : tie.Need-loop-again Inv-loop μ-loop
 loop-again c =
-    let k = c .before .before .loop in
+    let k = c .before .before .loop .inv in
     ⊎-elim
     (λ w.
-    let l = w .7 .kept in
-    rw (w .16, w .17, w .18, w .19, w .20)
-    (l .1 .0 ∙ k .inv .0, l .1 .1 .0 ∙ k .inv .1, l .1 .1 .1 .0 ∙ k .inv .2, l .1 .1 .1 .1 .0 ∙ k .inv .3, write-sound _ _ _ _ _ _ _ _ _ _ _ _ (w .7 .ensures .after) (sound-as (w .1 .given .1) (k .inv .4)) (l .1 .0) (l .1 .1 .0) (l .1 .1 .1 .0) (l .1 .1 .1 .1 .0)))
+    let l = w .7 .kept .1 in
+    rw (w .16, w .17, w .18, w .19, w .20) (
+      l .0 ∙ k .0,
+      l .1 .0 ∙ k .1,
+      l .1 .1 .0 ∙ k .2,
+      l .1 .1 .1 .0 ∙ k .3,
+      write-sound _ _ _ _ _ _ (w .7 .ensures .after) (rw (w .1 .given .1) at (k .4)) (sized-as (k .4 .sized) (l .0) (l .1 .0) (l .1 .1 .0) (l .1 .1 .1 .0)),
+    ))
     (λ w.
-    let l = w .7 .kept in
-    rw (w .16, w .17, w .18, w .19, w .20)
-    (l .1 .0 ∙ k .inv .0, l .1 .1 .0 ∙ k .inv .1, l .1 .1 .1 .0 ∙ k .inv .2, l .1 .1 .1 .1 .0 ∙ k .inv .3, read-sound _ _ _ _ _ _ _ _ _ _ (w .7 .ensures .after) (sound-read (l .1 .0) (sound-as (w .1 .given .1) (k .inv .4))) (l .1 .1 .0) (l .1 .1 .1 .0) (l .1 .1 .1 .1 .0)))
+    let l = w .7 .kept .1 in
+    rw (w .16, w .17, w .18, w .19, w .20) (
+      l .0 ∙ k .0,
+      l .1 .0 ∙ k .1,
+      l .1 .1 .0 ∙ k .2,
+      l .1 .1 .1 .0 ∙ k .3,
+      read-sound _ _ _ _ _ (w .7 .ensures .after) (rw (w .1 .given .1) at (k .4)) (sized-as (k .4 .sized) (l .0) (l .1 .0) (l .1 .1 .0) (l .1 .1 .1 .0)),
+    ))
     (c .match .came)
 
 same-length-5 : tie.Need-same-length-5 Inv-loop μ-loop

@@ -1,25 +1,28 @@
 -- `chunk::answer_chunk` meets its contract: what was taken of the chunk so far is done. What is left of the chunk falls. Assumes nothing.
 use mathlib.Core.Path.{_≡_, refl, sym, _∙_}
-use Prim.Native.Nat.{_-_}
+use Prim.Native.Nat.{_-_, _≤_}
 use native.Mathlib.Omega.{arith}
-use lib.ListN.{length}
-use lib.Seq.{length-take-le}
-use Rattle.lines.specs.Chunk.{Done}
+use lib.ListN.{length, take}
+use lib.Seq.{slice, length-take-le}
 use Rattle.pattern.proofs.Stores.{puts-length}
-use Rattle.lines.proofs.Told.{done-none, done-held, done-ended}
+use Rattle.lines.specs.Output.{lines-in}
+use Rattle.lines.specs.Chunk.{lend, Done}
+use Rattle.lines.proofs.Lines.{taken-nothing}
+use Rattle.lines.proofs.Answering.{done-none, done-held, done-ended}
 use Rattle.lines.proofs.chunk.answer_chunk.Statement.{statement}
 use Rattle.lines.proofs.chunk.answer_chunk.Tie as tie
 
 abbrev Inv-loop : tie.InvT-loop
 Inv-loop chunk from line₀ held scratch₀ out₀ next₀ n₀ end₀ line scratch out next n end =
     (length line ≡ length line₀) × (length scratch ≡ length scratch₀) × (length out ≡ length out₀)
-    × Done chunk from line₀ held scratch₀ out₀ line scratch out (record { next = next; held = n; end = end })
+    × (from ≤ next) × (next ≤ length chunk)
+    × Done (lines-in (take held line₀) (slice from next chunk)) (lend line₀ scratch₀ out₀) (lend line scratch out) (record { next = next; held = n; end = end })
 
 abbrev μ-loop : tie.MeasureT-loop
 μ-loop chunk from line₀ held scratch₀ out₀ next₀ n₀ end₀ line scratch out next n end = length chunk - next
 
 loop-holds : tie.Need-loop-holds Inv-loop μ-loop
-loop-holds c = (refl, refl, refl, done-none _ _ _ _ _ _ (omega arith) (omega arith) (omega arith))
+loop-holds c = (refl, refl, refl, omega arith, omega arith, rw taken-nothing (done-none _ _ (omega arith) (omega arith)))
 
 sub-if1 : tie.Need-sub-if1 Inv-loop μ-loop
 sub-if1 c = omega arith
@@ -34,7 +37,7 @@ same-length-3 : tie.Need-same-length-3 Inv-loop μ-loop
 same-length-3 c = c .before .before .loop .inv .2
 
 returns : tie.Need-returns Inv-loop μ-loop
-returns c = record { done = c .before .before .loop .inv .3; fills = λ m. omega arith }
+returns c = record { done = c .before .before .loop .inv .5; forward = omega arith; next-fits = omega arith; fills = λ m. omega arith }
 
 take-line-requires : tie.Need-take-line-requires Inv-loop μ-loop
 take-line-requires c κs = (omega arith, omega arith, omega arith)
@@ -75,7 +78,9 @@ loop-again c =
       after-clear .clear .kept .0 ∙ t .size ∙ k .inv .0,
       after-answer-line .answer-line .kept .1 .0 ∙ k .inv .1,
       puts-length (r .within .stores) ∙ k .inv .2,
-      done-ended (k .inv .3) t (omega (arith, t .held-fits, t .size, k .inv .0, lent)) (after-if2 .if2 .taken) r (omega arith) (after-clear .clear .ensures),
+      omega (arith, t .forward),
+      t .next-fits,
+      done-ended _ _ (k .inv .5) (k .inv .3) t (omega (arith, t .held-fits, t .size, k .inv .0, lent)) (after-if2 .if2 .taken) r (omega arith) (after-clear .clear .ensures),
     )
 
 loop-less-2 : tie.Need-loop-less-2 Inv-loop μ-loop
@@ -89,7 +94,7 @@ loop-again-2 c =
     let after-take-line = c .before .before .before in
     let k = after-take-line .before .before .before .before .loop in
     let t = after-take-line .take-line .ensures in
-    (t .size ∙ k .inv .0, k .inv .1, k .inv .2, done-held (k .inv .3) t (omega (arith, t .held-fits, t .size)) (c .if2 .left))
+    (t .size ∙ k .inv .0, k .inv .1, k .inv .2, omega (arith, t .forward), t .next-fits, done-held _ _ (k .inv .5) (k .inv .3) t (omega (arith, t .held-fits, t .size)) (c .if2 .left))
 
 same-length-4 : tie.Need-same-length-4 Inv-loop μ-loop
 same-length-4 c = c .before .loop .inv .0
@@ -101,7 +106,7 @@ same-length-6 : tie.Need-same-length-6 Inv-loop μ-loop
 same-length-6 c = c .before .loop .inv .2
 
 returns-2 : tie.Need-returns-2 Inv-loop μ-loop
-returns-2 c = record { done = c .before .loop .inv .3; fills = λ m. omega arith }
+returns-2 c = record { done = c .before .loop .inv .5; forward = omega arith; next-fits = omega arith; fills = λ m. omega arith }
 
 pub answer-chunk-spec : {M : Type 1} → statement M
 answer-chunk-spec =

@@ -6,8 +6,8 @@ use lib.Seq.{length-take-le}
 use mir.Syntax.{w64}
 use mir.Val.{toZ, ofZ}
 use mir.ValLaws.{toZ-ofZ}
-use Rattle.lines.specs.Session.{reading-of, AfterRead}
-use Rattle.lines.proofs.Sessions.{chunk-fits, read-as, ended-by}
+use Rattle.lines.specs.Session.{reading-of, dropped, AfterRead}
+use Rattle.lines.proofs.Sessions.{chunk-fits, read-as, step-by, finished-by}
 use borrow.Author.Needs.{needs}
 use Rattle.lines.proofs.session.after_read.Statement.{statement}
 use Rattle.lines.proofs.session.after_read.Tie as tie
@@ -60,7 +60,7 @@ returns c =
     let after-clear = c .before .before in
     let failed = after-clear .before .before in
     let read = failed .before .before in
-    read-as _ _ _ _ _ _ _ _ _ _ _ (read-back (read .before .before .before .before .before) ∙ sym (read .reading .ensures) ∙ failed .enum-told .given .1) (unfold AfterRead in record { next = refl; wipes = after-clear .clear .ensures; scratch-stays = refl; out-stays = refl })
+    read-as _ _ _ _ _ _ (read-back (read .before .before .before .before .before) ∙ sym (read .reading .ensures) ∙ failed .enum-told .given .1) (unfold AfterRead dropped in step-by refl (after-clear .clear .ensures) refl refl)
 
 same-length-2 : tie.Need-same-length-2
 same-length-2 c = search needs
@@ -77,7 +77,7 @@ returns-2 c =
     let answered = after-clear .before .before .before .before .before .before in
     let ended = answered .before .before .before .before in
     let read = ended .before .before in
-    read-as _ _ _ _ _ _ _ _ _ _ _ (read-back (read .before .before .before .before .before) ∙ sym (read .reading .ensures) ∙ ended .enum-told2 .given .1) (unfold AfterRead in ended-by (answered .answer-last .ensures) (after-clear .clear2 .ensures))
+    read-as _ _ _ _ _ _ (read-back (read .before .before .before .before .before) ∙ sym (read .reading .ensures) ∙ ended .enum-told2 .given .1) (unfold AfterRead in finished-by _ _ (answered .answer-last .ensures) (after-clear .clear2 .ensures))
 
 same-length-5 : tie.Need-same-length-5
 same-length-5 c = search needs
@@ -93,7 +93,7 @@ returns-3 c =
     let answered = c .before .before .before .before .before .before in
     let some = answered .before .before .before .before .before .before in
     let read = some .before .before in
-    read-as _ _ _ _ _ _ _ _ _ _ _ (read-back (read .before .before .before .before .before) ∙ sym (read .reading .ensures) ∙ some .n .given .1) (unfold AfterRead in answered .answer-more .ensures)
+    read-as _ _ _ _ _ _ (read-back (read .before .before .before .before .before) ∙ sym (read .reading .ensures) ∙ some .n .given .1) (unfold AfterRead in (answered .answer-more .ensures, refl))
 
 pub after-read-spec : {M : Type 1} → statement M
 after-read-spec =

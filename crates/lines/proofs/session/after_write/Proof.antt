@@ -3,8 +3,8 @@ use mathlib.Core.Path.{refl, sym, _∙_}
 use native.Mathlib.Omega.{arith}
 use lib.Seq.{length-take-le}
 use borrow.Author.Tests.{not-true, not-false, lt-ltb, le-ltb}
-use Rattle.lines.specs.Session.{AfterWrite}
-use Rattle.lines.proofs.Sessions.{continues-in}
+use Rattle.lines.specs.Session.{written, stopped, waiting, AfterWrite}
+use Rattle.lines.proofs.Sessions.{step-by}
 use borrow.Author.Needs.{needs}
 use Rattle.lines.proofs.session.after_write.Statement.{statement}
 use Rattle.lines.proofs.session.after_write.Tie as tie
@@ -31,12 +31,12 @@ same-length-3 : tie.Need-same-length-3
 same-length-3 c = search needs
 
 returns : tie.Need-returns
-unfolding AfterWrite
+unfolding AfterWrite stopped
 returns c =
     let ends = c .before .before .before .before .before .before .before .before in
     let wrote = ends .before in
     rw (sym (wrote .goes-on .ensures) ∙ not-true _ (ends .if1 .taken))
-    (record { next = refl; buf-wiped = c .before .before .clear3 .ensures; line-wiped = c .before .before .before .before .before .before .clear2 .ensures; scratch-stays = refl; out-wiped = wrote .before .before .before .clear .ensures })
+    (step-by (c .before .before .clear3 .ensures) (c .before .before .before .before .before .before .clear2 .ensures) refl (wrote .before .before .before .clear .ensures))
 
 slice-reshare-prefix-answer-more : tie.Need-slice-reshare-prefix-answer-more
 slice-reshare-prefix-answer-more c = search needs
@@ -63,13 +63,13 @@ same-length-7 : tie.Need-same-length-7
 same-length-7 c = search needs
 
 returns-2 : tie.Need-returns-2
-unfolding AfterWrite
+unfolding AfterWrite written
 returns-2 c =
     let answered = c .before .before .before .before .before .before in
     let more = answered .before .before .before .before .before in
     let wrote = more .before .before in
     rw (sym (wrote .goes-on .ensures) ∙ not-false _ (more .before .if1 .left), lt-ltb _ _ (more .if2 .taken))
-    (record { continues = continues-in (wrote .before .before .before .clear .ensures) (answered .answer-more .ensures); buf-stays = refl })
+    (rw (← wrote .before .before .before .clear .ensures) (answered .answer-more .ensures), refl)
 
 clear-requires-4 : tie.Need-clear-requires-4
 clear-requires-4 c κs = search needs
@@ -81,12 +81,12 @@ same-length-9 : tie.Need-same-length-9
 same-length-9 c = search needs
 
 returns-3 : tie.Need-returns-3
-unfolding AfterWrite
+unfolding AfterWrite written waiting
 returns-3 c =
     let whole = c .before .before .before .before in
     let wrote = whole .before .before in
     rw (sym (wrote .goes-on .ensures) ∙ not-false _ (whole .before .if1 .left), le-ltb _ _ (whole .if2 .left))
-    (record { next = refl; buf-wiped = c .before .before .clear4 .ensures; line-stays = refl; scratch-stays = refl; out-wiped = wrote .before .before .before .clear .ensures })
+    (step-by (c .before .before .clear4 .ensures) refl refl (wrote .before .before .before .clear .ensures))
 
 pub after-write-spec : {M : Type 1} → statement M
 after-write-spec =
