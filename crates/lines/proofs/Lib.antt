@@ -4,3 +4,4 @@ pub mod Chunks
 pub mod Sessions
 pub mod Owed
 pub mod Tidying
+pub mod Progress
