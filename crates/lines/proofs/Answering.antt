@@ -14,7 +14,7 @@ use Rattle.replies.specs.Stores.{zeroed, Replied}
 use Rattle.lines.specs.Output.{prefixed, answers, last-line, LinesIn, lines-in, wiped}
 use Rattle.lines.specs.Taking.{one-line, Took}
 use Rattle.lines.specs.Chunk.{Buffers, lend, Done}
-use Rattle.lines.specs.declared.chunk.Answered.{Answered}
+use Rattle.lines.specs.declared.chunk.Pending.{Pending}
 use Rattle.lines.specs.declared.line.Taken.{Taken}
 use Rattle.lines.proofs.Lines.{lines-append, slice-join}
 
@@ -102,36 +102,36 @@ drop-replied {end} {r} {out} a =
     ap (drop end) (w .stores .bytes ∙ stored-over out (r .text) (omega (arith, w .short, w .stores .next))) ∙ drop-over end (r .text) out (omega (arith, w .stores .next))
 
 -- and what is held in the line's bytes
-pub held-over : {l : LinesIn} {b b′ : Buffers} {r : Answered} → Done l b b′ r → take (r .held) (b′ .line) ≡ l .held
+pub held-over : {l : LinesIn} {b b′ : Buffers} {p : Pending} → Done l b b′ p → take (p .held) (b′ .line) ≡ l .held
 held-over {l} {b} d = ap₂ (λ n s. take n s) (d .held) (d .line) ∙ take-over (l .held) (wiped (l .ended) (b .line))
 
 -- ---- turns over a chunk
 
-pub done-none : (held : ℕ) (b : Buffers) {next : ℕ} → held ≤ length (b .line) → held ≤ held-limit → Done (one-line false (take held (b .line))) b b (record { next = next; held = held; end = 0 })
+pub done-none : (held : ℕ) (b : Buffers) {from to : ℕ} → held ≤ length (b .line) → held ≤ held-limit → Done (one-line false (take held (b .line))) b b (record { from = from; to = to; held = held; end = 0; last = false })
 unfolding one-line answers wiped
 done-none held b h l =
     record { replied = replied-none _ _ _ _; line = over-same held (b .line) (b .line) h refl; held = sym (length-take-le held (b .line) h); held-fits = l }
 
 -- a line more is taken
-module _ (held₀ : Bytes) (from : ℕ) {b₀ b : Buffers} {p : Answered} {chunk after : Bytes} {r : Taken} (d : Done (lines-in held₀ (slice from (p .next) chunk)) b₀ b p) (f : from ≤ p .next)
-    (t : Took chunk (p .next) (b .line) (p .held) after r) (h : r .held ≤ length after) where
+module _ (held₀ : Bytes) (from : ℕ) {b₀ b : Buffers} {p : Pending} {chunk after : Bytes} {r : Taken} (d : Done (lines-in held₀ (slice from (p .from) chunk)) b₀ b p) (f : from ≤ p .from)
+    (t : Took chunk (p .from) (b .line) (p .held) after r) (h : r .held ≤ length after) where
   abbrev before : LinesIn
-  before = lines-in held₀ (slice from (p .next) chunk)
+  before = lines-in held₀ (slice from (p .from) chunk)
 
   abbrev line : Bytes
   line = take (r .held) after
 
   more-lines : (e : Bool) → r .ended ≡ e → record { ended = before .ended ++ one-line e line .ended; held = one-line e line .held } ≡ lines-in held₀ (slice from (r .next) chunk)
   more-lines e q =
-      let rest = slice (p .next) (r .next) chunk in
+      let rest = slice (p .from) (r .next) chunk in
       ap (λ (m : LinesIn). record { ended = before .ended ++ m .ended; held = m .held }) (ap (λ x. one-line x line) (sym q) ∙ sym (t .equal) ∙ ap (λ v. lines-in v rest) (held-over d))
-      ∙ sym (lines-append held₀ (slice from (p .next) chunk) rest) ∙ ap (lines-in held₀) (sym (slice-join chunk from (p .next) (r .next) f (t .forward) (t .next-fits)))
+      ∙ sym (lines-append held₀ (slice from (p .from) chunk) rest) ∙ ap (lines-in held₀) (sym (slice-join chunk from (p .from) (r .next) f (t .forward) (t .next-fits)))
 
   rest-stays : drop (r .held) after ≡ drop (r .held) (wiped (before .ended) (b₀ .line))
   rest-stays = t .stays ∙ ap (drop (r .held)) (d .line) ∙ drop-over (r .held) (before .held) _ (omega (arith, t .longer, d .held))
 
   -- it did not end
-  pub done-held : r .ended ≡ false → Done (lines-in held₀ (slice from (r .next) chunk)) b₀ (lend after (b .scratch) (b .out)) (record { next = r .next; held = r .held; end = p .end })
+  pub done-held : r .ended ≡ false → Done (lines-in held₀ (slice from (r .next) chunk)) b₀ (lend after (b .scratch) (b .out)) (record { from = r .next; to = p .to; held = r .held; end = p .end; last = false })
   unfolding one-line
   done-held q =
       rw (← more-lines false q, append-nil)
@@ -139,7 +139,7 @@ module _ (held₀ : Bytes) (from : ℕ) {b₀ b : Buffers} {p : Answered} {chunk
 
   -- it ended: the reply stands after those before, and its bytes are zeroed
   pub done-ended : {scratch′ out′ line′ : Bytes} {room j : ℕ} → r .ended ≡ true → Replied room (answer-to line (b .scratch)) (b .out) (p .end) scratch′ out′ j → p .end + room ≤ length (b .out)
-      → line′ ≡ zeroed (r .held) after → Done (lines-in held₀ (slice from (r .next) chunk)) b₀ (lend line′ scratch′ out′) (record { next = r .next; held = 0; end = j })
+      → line′ ≡ zeroed (r .held) after → Done (lines-in held₀ (slice from (r .next) chunk)) b₀ (lend line′ scratch′ out′) (record { from = r .next; to = p .to; held = 0; end = j; last = false })
   unfolding one-line wiped over
   done-ended q a g z =
       rw (← more-lines true q)

@@ -1,113 +1,234 @@
--- A run in which no read and no write fails writes the output: at each step what is written and what is still owed come to it. Assumes nothing.
+-- What the line tool writes is the output: at each step what was written and what is still owed come to it. Assumes nothing.
 use mathlib.Core.Path.{_≡_, refl, sym, ap, ap₂, _∙_}
+use mathlib.Core.Logic.{_⊎_, inl, inr, ⊎-elim}
 use mathlib.Core.Bool.{Bool, true, false, not, _&&_}
-use mathlib.Core.List.{List, [], _∷_, _++_, append-nil}
-use Prim.Native.Nat.{ℕ, _≤_}
+use mathlib.Core.List.{List, [], _∷_, _++_, append-assoc, append-nil}
+use Prim.Native.Nat.{ℕ}
 use native.Mathlib.Omega.{arith}
 use lib.Dec.{ltb}
 use lib.ListN.{length, take, drop, drop-of-length-le}
 use lib.Seq.{slice, take-all, length-take-le}
 use borrow.Author.Tests.{ltb-false}
 use Rattle.pattern.specs.Bytes.{Bytes}
+use Rattle.pattern.proofs.Tests.{if-true, if-false}
 use Rattle.replies.specs.Reply.{zeros}
 use Rattle.lines.specs.Output.{answers, last-line, first-line, output, lines-in, joined}
 use Rattle.lines.specs.Chunk.{Buffers}
-use Rattle.lines.specs.Session.{started, Step, finished, Continues, AfterRead, PendingIn, written, stopped, waiting, AfterWrite, Runs, stops, writes, reads, ends}
-use Rattle.lines.specs.declared.session.Input.the-variants.{Ended, Chunk}
-use Rattle.lines.specs.declared.session.Pending.{Pending}
+use Rattle.lines.specs.Session.{started, State, halted, Continues, finished, AfterRead, PendingIn, written, waiting, GoesOn, AfterWrite, Trace, then, Steps, read, end, write, read-fails, write-fails, Runs, none, more}
+use Rattle.lines.specs.declared.chunk.Pending.{Pending}
 use Rattle.lines.specs.declared.session.Next.{Next}
 use Rattle.lines.specs.declared.session.Next.the-variants.{Write, Read, Stop}
 use Rattle.lines.proofs.Lines.{slice-join}
 use Rattle.lines.proofs.Answering.{take-over, take-replied, held-over}
 use Rattle.lines.proofs.Chunks.{in-chunks, in-parts, chunks-hold}
 
--- what is still to be written, if the input goes on with these chunks and no read and no write fails
-unfoldable owed : Next → (input : Bytes) → Buffers → List Bytes → Bytes
-owed Stop input b chunks = []
-owed (Read held) input b chunks = in-chunks (take held (b .line)) chunks (b .scratch)
-owed (Write p) input b chunks =
-    take (p .end) (b .out) ++ elim (p .last) [ true ↦ [] | false ↦ in-chunks (take (p .held) (b .line)) (slice (p .from) (p .to) input ∷ chunks) (b .scratch) ]
+-- what is still to be written, if the input goes on with these chunks and nothing fails
+unfoldable owed : State → List Bytes → Bytes
+owed s chunks =
+    elim (s .next) [
+      | Stop ↦ []
+      | Read held ↦ in-chunks (take held (s .buffers .line)) chunks (s .buffers .scratch)
+      | Write p ↦ take (p .end) (s .buffers .out) ++ elim (p .last) [ true ↦ [] | false ↦ in-chunks (take (p .held) (s .buffers .line)) (slice (p .from) (p .to) (s .input) ∷ chunks) (s .buffers .scratch) ]
+    ]
 
-abbrev owed-by : Step → List Bytes → Bytes
-owed-by s chunks = owed (s .next) (s .input) (s .buffers) chunks
+-- the chunks that may still come: none after the input's end
+unfoldable ahead : Next → List Bytes → List Bytes
+ahead Stop chunks = []
+ahead (Read held) chunks = chunks
+ahead (Write p) chunks = elim (p .last) [ true ↦ [] | false ↦ chunks ]
 
--- after the first line: all the rest
-start-owed : (input : Bytes) (b : Buffers) (chunks : List Bytes) → b .scratch ≡ zeros → first-line ++ owed (Read 0) input b chunks ≡ output (joined chunks)
-unfolding owed
-start-owed input b chunks e = ap (λ s. first-line ++ in-chunks [] chunks s) e ∙ chunks-hold chunks
+ahead-none : (next : Next) → ahead next [] ≡ []
+unfolding ahead
+ahead-none Stop = refl
+ahead-none (Read held) = refl
+ahead-none (Write p) = go (p .last)
+  where
+    go : (b : Bool) → _≡_ {A = List Bytes} (elim b [ true ↦ [] | false ↦ [] ]) []
+    go true = refl
+    go false = refl
 
 -- part of a chunk is answered
-continues-owed : {chunk : Bytes} {from held : ℕ} {b b′ : Buffers} {r : Next} → Continues chunk from held b r b′ → (input : Bytes) → take (length chunk) input ≡ chunk → (chunks : List Bytes)
-    → owed r input b′ chunks ≡ in-chunks (take held (b .line)) (drop from chunk ∷ chunks) (b .scratch)
-unfolding owed
-continues-owed {chunk} {from} {held} {b} {b′} a input e chunks =
-    let p = a .part in
-    let d = a .answered .done in
-    let l = lines-in (take held (b .line)) (slice from (p .next) chunk) in
-    ap (λ x. owed x input b′ chunks) (a .next)
-    ∙ ap₂ (λ v s. v ++ in-chunks (take (p .held) (b′ .line)) (drop (p .next) s ∷ chunks) (b′ .scratch)) (take-replied (d .replied)) e
-    ∙ ap₂ (λ h s. answers (l .ended) (b .scratch) .text ++ in-chunks h (drop (p .next) chunk ∷ chunks) s) (held-over d) (d .replied .works)
-    ∙ sym (in-parts (take held (b .line)) (slice from (p .next) chunk) (drop (p .next) chunk) (b .scratch) chunks)
-    ∙ ap (λ s. in-chunks (take held (b .line)) (s ∷ chunks) (b .scratch)) (sym (parts (p .next) (a .answered .forward) (a .answered .next-fits)))
-  where
-    parts : (next : ℕ) → from ≤ next → next ≤ length chunk → drop from chunk ≡ slice from next chunk ++ drop next chunk
-    parts next f g =
-        let whole = take-all (length chunk) chunk (omega arith) in
-        ap (drop from) (sym whole) ∙ slice-join chunk from next (length chunk) f g (omega arith) ∙ ap (λ s. slice from next chunk ++ drop next s) whole
-
--- ---- after a read
-
-module _ (held : ℕ) (input : Bytes) (b : Buffers) (s : Step) where
-  -- a chunk: what is owed is what was owed if the input went on with it
-  chunk-owed : (n : ℕ) → n ≤ length input → AfterRead (Chunk n) held input b s → (chunks : List Bytes) → owed-by s chunks ≡ owed (Read held) input b (take n input ∷ chunks)
-  unfolding AfterRead owed
-  chunk-owed n h a chunks = ap (λ v. owed (s .next) v (s .buffers) chunks) (a .1) ∙ continues-owed (a .0) input (ap (λ k. take k input) (length-take-le n input h)) chunks
-
-  -- the input's end: what was owed if there was no more
-  ended-owed : AfterRead Ended held input b s → (chunks : List Bytes) → owed-by s chunks ≡ owed (Read held) input b []
-  unfolding AfterRead finished owed in-chunks joined lines-in
-  ended-owed a chunks = ap (λ x. owed-by x chunks) a ∙ append-nil _ ∙ take-over (answers (last-line (take held (b .line))) (b .scratch) .text) (b .out)
-
--- ---- after a write that succeeded: what was written, and what is owed then, is what was owed
-module _ (p : Pending) (input : Bytes) (b : Buffers) (s : Step) (f : PendingIn p input b) (chunks : List Bytes) where
-  abbrev Paid : Type 0
-  Paid = take (p .end) (b .out) ++ owed-by s chunks ≡ owed (Write p) input b chunks
-
-  -- what is owed after a write, by whether it is the last
-  abbrev rest-of : Bool → Bytes
-  rest-of last = take (p .end) (b .out) ++ elim last [ true ↦ [] | false ↦ in-chunks (take (p .held) (b .line)) (slice (p .from) (p .to) input ∷ chunks) (b .scratch) ]
-
-  rest-owed : (more : Bool) → ltb (p .from) (p .to) ≡ more → AfterWrite true more p input b s → take (p .end) (b .out) ++ owed-by s chunks ≡ rest-of false
-  unfolding AfterWrite written waiting owed in-chunks joined
-  rest-owed true e a =
-      ap (λ v. take (p .end) (b .out) ++ v)
-      (ap (λ v. owed (s .next) v (s .buffers) chunks) (a .1) ∙ continues-owed (a .0) input (ap (λ k. take k input) (length-take-le (p .to) input (f .to-fits))) chunks)
-  rest-owed false e a =
-      let none : slice (p .from) (p .to) input ≡ [] = drop-of-length-le (take (p .to) input) {i = p .from} (omega (arith, length-take-le (p .to) input (f .to-fits), ltb-false (p .from) (p .to) e)) in
-      ap (λ x. take (p .end) (b .out) ++ owed-by x chunks) a ∙ ap (λ v. take (p .end) (b .out) ++ in-chunks (take (p .held) (b .line)) (v ∷ chunks) (b .scratch)) (sym none)
-
-  last-owed : (more : Bool) → AfterWrite false more p input b s → take (p .end) (b .out) ++ owed-by s chunks ≡ rest-of true
-  unfolding AfterWrite stopped owed
-  last-owed more a = ap (λ x. take (p .end) (b .out) ++ owed-by x chunks) a
-
-  written-owed : AfterWrite (true && not (p .last)) (ltb (p .from) (p .to)) p input b s → Paid
+module _ {chunk input : Bytes} {from held : ℕ} {b : Buffers} {s : State} (a : Continues chunk from held input b s) where
+  continues-owed : take (length chunk) input ≡ chunk → (chunks : List Bytes) → owed s chunks ≡ in-chunks (take held (b .line)) (drop from chunk ∷ chunks) (b .scratch)
   unfolding owed
-  written-owed a = go (p .last) a
+  continues-owed e chunks =
+      let p = a .part in
+      let d = a .answered .done in
+      let b′ = a .after in
+      let l = lines-in (take held (b .line)) (slice from (p .from) chunk) in
+      ap (λ x. owed x chunks) (a .state)
+      ∙ ap (λ v. take (p .end) (b′ .out) ++ v) (if-false (p .last) [] _ (a .answered .last))
+      ∙ ap₂ (λ v s. v ++ in-chunks (take (p .held) (b′ .line)) (drop (p .from) s ∷ chunks) (b′ .scratch)) (take-replied (d .replied)) (ap (λ n. take n input) (a .answered .to) ∙ e)
+      ∙ ap₂ (λ h s. answers (l .ended) (b .scratch) .text ++ in-chunks h (drop (p .from) chunk ∷ chunks) s) (held-over d) (d .replied .works)
+      ∙ sym (in-parts (take held (b .line)) (slice from (p .from) chunk) (drop (p .from) chunk) (b .scratch) chunks)
+      ∙ ap (λ s. in-chunks (take held (b .line)) (s ∷ chunks) (b .scratch)) (sym parts)
     where
-      go : (last : Bool) → AfterWrite (true && not last) (ltb (p .from) (p .to)) p input b s → take (p .end) (b .out) ++ owed-by s chunks ≡ rest-of last
-      go false a = rest-owed (ltb (p .from) (p .to)) refl a
-      go true a = last-owed (ltb (p .from) (p .to)) a
+      parts : drop from chunk ≡ slice from (a .part .from) chunk ++ drop (a .part .from) chunk
+      parts =
+          let whole = take-all (length chunk) chunk (omega arith) in
+          ap (drop from) (sym whole) ∙ slice-join chunk from (a .part .from) (length chunk) (a .answered .forward) (omega (arith, a .answered .from-fits, a .answered .to)) (omega arith)
+          ∙ ap (λ s. slice from (a .part .from) chunk ++ drop (a .part .from) s) whole
 
--- ---- a whole run
+  continues-ahead : (chunks : List Bytes) → ahead (s .next) chunks ≡ chunks
+  unfolding ahead
+  continues-ahead chunks = ap (λ (x : State). ahead (x .next) chunks) (a .state) ∙ if-false (a .part .last) [] chunks (a .answered .last)
 
-runs-owed : {next : Next} {input : Bytes} {b : Buffers} {chunks : List Bytes} {written : Bytes} → Runs next input b chunks written → written ≡ owed next input b chunks
-unfolding owed
-runs-owed (stops input b) = refl
-runs-owed (writes p input b s f a run) = ap (λ v. take (p .end) (b .out) ++ v) (runs-owed run) ∙ written-owed p input b s f _ a
-runs-owed (reads held n input input′ b s h a run) = runs-owed run ∙ chunk-owed held input′ b s n h a _
-runs-owed (ends held input input′ b s a run) = runs-owed run ∙ ended-owed held input′ b s a []
+-- ---- a step that goes well: what it wrote, and what is owed then, is what was owed
+record Pays (s : State) (t : Trace) (s′ : State) : Type 0 where
+  well : t .well ≡ true
+  pays : (chunks : List Bytes) → t .text ++ owed s′ chunks ≡ owed s (t .chunks ++ ahead (s′ .next) chunks)
+  keeps : (chunks : List Bytes) → ahead (s .next) (t .chunks ++ ahead (s′ .next) chunks) ≡ t .chunks ++ ahead (s′ .next) chunks
 
--- what is written after the first line, from scratch of zeros and nothing held, is the output
-pub runs-hold : {input : Bytes} {b : Buffers} {chunks : List Bytes} {written : Bytes} → Runs (started true) input b chunks written → b .scratch ≡ zeros → first-line ++ written ≡ output (joined chunks)
-unfolding started
-runs-hold {input} {b} {chunks} run e = ap (λ v. first-line ++ v) (runs-owed run) ∙ start-owed input b chunks e
+module _ (p : Pending) (input : Bytes) (b : Buffers) (s : State) (f : PendingIn p input b) where
+  abbrev pending : State
+  pending = record { next = Write p; input = input; buffers = b }
+
+  abbrev replies : Trace
+  replies = record { chunks = []; text = take (p .end) (b .out); well = true }
+
+  last-pays : (rest : Bool) → p .last ≡ true → GoesOn false rest p input b s → Pays pending replies s
+  unfolding GoesOn halted owed ahead
+  last-pays rest l a =
+      record {
+        well = refl;
+        pays = λ chunks. ap (λ (x : State). take (p .end) (b .out) ++ owed x chunks) a ∙ ap (λ v. take (p .end) (b .out) ++ v) (sym (if-true (p .last) [] _ l));
+        keeps = λ chunks. if-true (p .last) [] _ l ∙ ap (λ (x : State). ahead (x .next) chunks) (sym a);
+      }
+
+  rest-pays : (rest : Bool) → ltb (p .from) (p .to) ≡ rest → p .last ≡ false → GoesOn true rest p input b s → Pays pending replies s
+  unfolding GoesOn written waiting owed ahead in-chunks joined
+  rest-pays true e l a =
+      record {
+        well = refl;
+        pays =
+            λ chunks.
+            ap (λ v. take (p .end) (b .out) ++ v)
+            (continues-owed a (ap (λ k. take k input) (length-take-le (p .to) input (f .to-fits))) chunks ∙ sym (if-false (p .last) [] _ l)
+            ∙ ap (λ v. elim (p .last) [ true ↦ [] | false ↦ in-chunks (take (p .held) (b .line)) (slice (p .from) (p .to) input ∷ v) (b .scratch) ]) (sym (continues-ahead a chunks)));
+        keeps = λ chunks. if-false (p .last) [] _ l;
+      }
+  rest-pays false e l a =
+      let nothing : slice (p .from) (p .to) input ≡ [] = drop-of-length-le (take (p .to) input) {i = p .from} (omega (arith, length-take-le (p .to) input (f .to-fits), ltb-false (p .from) (p .to) e)) in
+      record {
+        well = refl;
+        pays =
+            λ chunks.
+            ap (λ v. take (p .end) (b .out) ++ v)
+            (ap (λ x. owed x chunks) a ∙ ap (λ v. in-chunks (take (p .held) (b .line)) (v ∷ chunks) (b .scratch)) (sym nothing) ∙ sym (if-false (p .last) [] _ l)
+            ∙ ap (λ (x : State). elim (p .last) [ true ↦ [] | false ↦ in-chunks (take (p .held) (b .line)) (slice (p .from) (p .to) input ∷ ahead (x .next) chunks) (b .scratch) ]) (sym a));
+        keeps = λ chunks. if-false (p .last) [] _ l;
+      }
+
+  write-pays : AfterWrite true p input b s → Pays pending replies s
+  write-pays a = go (p .last) refl a
+    where
+      go : (last : Bool) → p .last ≡ last → GoesOn (true && not last) (ltb (p .from) (p .to)) p input b s → Pays pending replies s
+      go true l a = last-pays (ltb (p .from) (p .to)) l a
+      go false l a = rest-pays (ltb (p .from) (p .to)) refl l a
+
+-- a step that fails stops
+record Fails (t : Trace) (s′ : State) : Type 0 where
+  trace : t ≡ record { chunks = []; text = []; well = false }
+  stop : s′ .next ≡ Stop
+
+step-goes : {s s′ : State} {t : Trace} → Steps s t s′ → Pays s t s′ ⊎ Fails t s′
+unfolding AfterRead GoesOn finished halted owed ahead in-chunks joined lines-in
+step-goes (read held n input input′ b s′ h a) =
+    inl
+    (record {
+      well = refl;
+      pays =
+          λ chunks.
+          continues-owed a (ap (λ k. take k input′) (length-take-le n input′ h)) chunks ∙ ap (λ v. in-chunks (take held (b .line)) (take n input′ ∷ v) (b .scratch)) (sym (continues-ahead a chunks));
+      keeps = λ chunks. refl;
+    })
+step-goes (end held input input′ b s′ a) =
+    inl
+    (record {
+      well = refl;
+      pays =
+          λ chunks.
+          ap (λ x. owed x chunks) a ∙ append-nil _ ∙ take-over (answers (last-line (take held (b .line))) (b .scratch) .text) (b .out)
+          ∙ ap (λ (x : State). in-chunks (take held (b .line)) (ahead (x .next) chunks) (b .scratch)) (sym a);
+      keeps = λ chunks. refl;
+    })
+step-goes (write p input b s′ f a) = inl (write-pays p input b s′ f a)
+step-goes (read-fails held input input′ b s′ a) = inr (record { trace = refl; stop = ap (λ (x : State). x .next) a })
+step-goes (write-fails p input b s′ f a) = inr (record { trace = refl; stop = ap (λ (x : State). x .next) a })
+
+-- nothing is done after a stop
+no-step : {s s′ : State} {t : Trace} → Steps s t s′ → s .next ≡ Stop → ⊥
+no-step (read held n input input′ b s′ h a) e = let z : _≡_ {A = ℕ} 0 1 = cc in omega arith
+no-step (end held input input′ b s′ a) e = let z : _≡_ {A = ℕ} 0 1 = cc in omega arith
+no-step (write p input b s′ f a) e = let z : _≡_ {A = ℕ} 0 1 = cc in omega arith
+no-step (read-fails held input input′ b s′ a) e = let z : _≡_ {A = ℕ} 0 1 = cc in omega arith
+no-step (write-fails p input b s′ f a) e = let z : _≡_ {A = ℕ} 0 1 = cc in omega arith
+
+-- ---- a run from the first read on
+
+module _ (input : Bytes) (b : Buffers) (fresh : b .scratch ≡ zeros) where
+  abbrev start : State
+  start = record { next = started true; input = input; buffers = b }
+
+  -- nothing has failed: what was written, and what is owed
+  record Going (t : Trace) (s : State) : Type 0 where
+    well : t .well ≡ true
+    owes : (chunks : List Bytes) → t .text ++ owed s chunks ≡ owed start (t .chunks ++ ahead (s .next) chunks)
+
+  -- something failed: what was written is a beginning
+  record Gone (t : Trace) (s : State) : Type 0 where
+    ill : t .well ≡ false
+    stop : s .next ≡ Stop
+    rest : Bytes
+    begins : t .text ++ rest ≡ owed start (t .chunks)
+
+  going-on : (t u : Trace) (s s′ : State) → Going t s → Pays s u s′ → Going (then t u) s′
+  unfolding then
+  going-on t u s s′ g a =
+      record {
+        well = ap₂ (λ v w. v && w) (g .well) (a .well);
+        owes =
+            λ chunks.
+            append-assoc (t .text) (u .text) _ ∙ ap (λ v. t .text ++ v) (a .pays chunks) ∙ g .owes (u .chunks ++ ahead (s′ .next) chunks)
+            ∙ ap (λ v. owed start (t .chunks ++ v)) (a .keeps chunks) ∙ ap (owed start) (sym (append-assoc (t .chunks) (u .chunks) _));
+      }
+
+  going-wrong : (t u : Trace) (s s′ : State) → Going t s → Fails u s′ → Gone (then t u) s′
+  unfolding then
+  going-wrong t u s s′ g f =
+      rw (f .trace)
+      (record {
+        ill = ap (λ w. w && false) (g .well);
+        stop = f .stop;
+        rest = owed s [];
+        begins = ap (λ v. v ++ owed s []) (append-nil (t .text)) ∙ g .owes [] ∙ ap (λ v. owed start (t .chunks ++ v)) (ahead-none (s .next));
+      })
+
+  runs-go : {turns : ℕ} {t : Trace} {s : State} → Runs start turns t s → Going t s ⊎ Gone t s
+  unfolding started owed ahead
+  runs-go none = inl (record { well = refl; owes = λ chunks. refl })
+  runs-go (more turns t u s s′ run step) =
+      ⊎-elim (λ g. ⊎-elim (λ a. inl (going-on t u s s′ g a)) (λ f. inr (going-wrong t u s s′ g f)) (step-goes step)) (λ d. absurd (no-step step (d .stop))) (runs-go run)
+
+  start-owed : (chunks : List Bytes) → first-line ++ owed start chunks ≡ output (joined chunks)
+  unfolding started owed
+  start-owed chunks = ap (λ s. first-line ++ in-chunks [] chunks s) fresh ∙ chunks-hold chunks
+
+  owes-none : (t : Trace) (s : State) → Going t s → t .text ++ owed s [] ≡ owed start (t .chunks)
+  owes-none t s g = g .owes [] ∙ ap (λ v. owed start (t .chunks ++ v)) (ahead-none (s .next)) ∙ ap (owed start) (append-nil (t .chunks))
+
+  -- what is written after the first line is always a beginning of the output, whatever fails
+  pub runs-begin : {turns : ℕ} {t : Trace} {s : State} → Runs start turns t s → (rest : Bytes) × (first-line ++ (t .text ++ rest) ≡ output (joined (t .chunks)))
+  runs-begin {t = t} {s} run =
+      ⊎-elim (λ g. (owed s [], ap (λ v. first-line ++ v) (owes-none t s g) ∙ start-owed (t .chunks))) (λ d. (d .rest, ap (λ v. first-line ++ v) (d .begins) ∙ start-owed (t .chunks))) (runs-go run)
+
+  -- and it is the output where nothing failed until it stopped
+  pub runs-hold : {turns : ℕ} {t : Trace} {s : State} → Runs start turns t s → t .well ≡ true → s .next ≡ Stop → first-line ++ t .text ≡ output (joined (t .chunks))
+  unfolding owed
+  runs-hold {t = t} {s} run w e =
+      ⊎-elim
+      (λ g.
+      let nothing : owed s [] ≡ [] = rw e in
+      ap (λ v. first-line ++ v) (sym (append-nil (t .text)) ∙ ap (λ v. t .text ++ v) (sym nothing) ∙ owes-none t s g) ∙ start-owed (t .chunks))
+      (λ d. absurd (let z : _≡_ {A = Bool} true false = sym w ∙ d .ill in let z : _≡_ {A = ℕ} 0 1 = cc in omega arith))
+      (runs-go run)

@@ -10,8 +10,8 @@ use Rattle.pattern.proofs.Tests.{le-or-lt}
 use Rattle.replies.specs.Sizes.{out-room}
 use Rattle.lines.specs.Output.{answers, LinesIn, lines-in}
 use Rattle.lines.specs.Taking.{one-line}
-use Rattle.lines.specs.Chunk.{Buffers, Answers}
-use Rattle.lines.specs.declared.chunk.Answered.{Answered}
+use Rattle.lines.specs.Chunk.{Buffers, Answered}
+use Rattle.lines.specs.declared.chunk.Pending.{Pending}
 use Rattle.lines.proofs.Lines.{taken-nothing}
 
 -- where nothing is taken nothing is written
@@ -20,11 +20,11 @@ unfolding answers one-line
 nothing-written held chunk scratch from = ap (λ (l : LinesIn). length (answers (l .ended) scratch .text)) (taken-nothing held chunk from)
 
 -- and then there is room for a reply, so more would be taken
-pub answers-move : {chunk : Bytes} {from held : ℕ} {b b′ : Buffers} {r : Answered} → Answers chunk from held b b′ r → out-room ≤ length (b .out) → from < length chunk → from < r .next
-answers-move {chunk} {from} {held} {b} {b′} {r} a o h = ⊎-elim stands (λ l. l) (le-or-lt (r .next) from)
+pub answers-move : {chunk : Bytes} {from held : ℕ} {b b′ : Buffers} {p : Pending} → Answered chunk from held b b′ p → out-room ≤ length (b .out) → from < length chunk → from < p .from
+answers-move {chunk} {from} {held} {b} {b′} {p} a o h = ⊎-elim stands (λ l. l) (le-or-lt (p .from) from)
   where
-    stands : r .next ≤ from → from < r .next
+    stands : p .from ≤ from → from < p .from
     stands l =
-        let e : r .next ≡ from = omega (arith, a .forward) in
-        let n : length (answers (lines-in (take held (b .line)) (slice from (r .next) chunk) .ended) (b .scratch) .text) ≡ 0 = rw e (nothing-written (take held (b .line)) chunk (b .scratch) from) in
-        absurd (omega (arith, a .fills (omega arith), a .done .replied .within .stores .next))
+        let e : p .from ≡ from = omega (arith, a .forward) in
+        let n : length (answers (lines-in (take held (b .line)) (slice from (p .from) chunk) .ended) (b .scratch) .text) ≡ 0 = rw e (nothing-written (take held (b .line)) chunk (b .scratch) from) in
+        absurd (omega (arith, a .fills (omega (arith, a .to)), a .done .replied .within .stores .next))

@@ -1,6 +1,6 @@
 -- What a read's answer means, and what lent bytes are after a session's steps. Assumes nothing.
 use mathlib.Core.Path.{_≡_, refl, sym, ap, _∙_, subst}
-use mathlib.Core.Bool.{true, false, cond}
+use mathlib.Core.Bool.{Bool, true, false, cond}
 use Prim.Native.Nat.{ℕ, zero, suc, min, _≤_}
 use native.Mathlib.Omega.{arith}
 use lib.Dec.{T}
@@ -13,10 +13,11 @@ use Rattle.pattern.proofs.Stores.{stored-over}
 use Rattle.replies.specs.Reply.{Reply}
 use Rattle.replies.specs.Stores.{zeroed, Replied}
 use Rattle.lines.specs.Chunk.{Buffers, lend}
-use Rattle.lines.specs.Session.{reading-of, Step, finished, AfterRead}
+use Rattle.lines.specs.Session.{reading-of, State, finished, AfterRead, PendingIn, AfterWrite, read, end, write, read-fails, write-fails, Moves}
 use Rattle.lines.specs.declared.session.Input.{Input}
 use Rattle.lines.specs.declared.session.Next.{Next}
-use Rattle.lines.specs.declared.session.Next.the-variants.{Write}
+use Rattle.lines.specs.declared.chunk.Pending.{Pending}
+use Rattle.lines.specs.declared.session.Next.the-variants.{Write, Read}
 use Rattle.lines.specs.declared.session.Input.the-variants.{Failed, Ended, Chunk}
 
 apart : {X : Type 0} → true ≡ false → X
@@ -60,13 +61,23 @@ module _ (room : ℕ) where
       counted (negsuc k) = omega arith
 
 -- by another name of what was read
-pub read-as : (i j : Input) (held : ℕ) (input : Bytes) (b : Buffers) (s : Step) → i ≡ j → AfterRead j held input b s → AfterRead i held input b s
+pub read-as : (i j : Input) (held : ℕ) (input : Bytes) (b : Buffers) (s : State) → i ≡ j → AfterRead j held input b s → AfterRead i held input b s
 read-as i j held input b s e a = subst (λ x. AfterRead x held input b s) (sym e) a
 
--- a step by its bytes
-pub step-by : {next : Next} {i i′ l l′ w w′ o o′ : Bytes} → i ≡ i′ → l ≡ l′ → w ≡ w′ → o ≡ o′
-    → _≡_ {A = Step} (record { next = next; input = i; buffers = lend l w o }) (record { next = next; input = i′; buffers = lend l′ w′ o′ })
-step-by a b c d = cc
+-- a read is a step, and so is a write
+pub read-moves : (i : Input) (held : ℕ) (input input′ : Bytes) (b : Buffers) (s : State) → AfterRead i held input′ b s → ((n : ℕ) → Chunk n ≡ i → n ≤ length input′) → Moves (record { next = Read held; input = input; buffers = b }) s
+read-moves Failed held input input′ b s a f = record { trace = _; step = read-fails held input input′ b s a }
+read-moves Ended held input input′ b s a f = record { trace = _; step = end held input input′ b s a }
+read-moves (Chunk n) held input input′ b s a f = record { trace = _; step = read held n input input′ b s (f n refl) a }
+
+pub write-moves : (wrote : Bool) (p : Pending) (input : Bytes) (b : Buffers) (s : State) → PendingIn p input b → AfterWrite wrote p input b s → Moves (record { next = Write p; input = input; buffers = b }) s
+write-moves true p input b s f a = record { trace = _; step = write p input b s f a }
+write-moves false p input b s f a = record { trace = _; step = write-fails p input b s f a }
+
+-- a state by its bytes
+pub state-by : {next : Next} {i i′ l l′ w w′ o o′ : Bytes} → i ≡ i′ → l ≡ l′ → w ≡ w′ → o ≡ o′
+    → _≡_ {A = State} (record { next = next; input = i; buffers = lend l w o }) (record { next = next; input = i′; buffers = lend l′ w′ o′ })
+state-by a b c d = cc
 
 -- the reply to the last line is over the output
 pub finished-by : (held : ℕ) (b : Buffers) {end : ℕ} {input scratch′ out′ line′ : Bytes} {last : Reply} → Replied (length (b .out)) last (b .out) 0 scratch′ out′ end → line′ ≡ zeroed held (b .line)
@@ -75,4 +86,4 @@ unfolding finished
 finished-by held b {last = last} a w =
     let r = a .within in
     let e : _ ≡ length (last .text) = r .stores .next ∙ omega arith in
-    rw e (step-by refl w (a .works) (r .stores .bytes ∙ stored-over (b .out) (last .text) (omega (arith, r .short, r .stores .next))))
+    rw e (state-by refl w (a .works) (r .stores .bytes ∙ stored-over (b .out) (last .text) (omega (arith, r .short, r .stores .next))))

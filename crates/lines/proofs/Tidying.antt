@@ -1,38 +1,43 @@
 -- "Patient data stays in no buffer": what each step of the line tool leaves in its buffers. Assumes nothing.
 use mathlib.Core.Path.{_≡_, refl, sym, ap, _∙_, subst}
-use mathlib.Core.Bool.{Bool, true, false}
+use mathlib.Core.Bool.{Bool, true, false, not, _&&_}
 use mathlib.Core.List.{[], _∷_}
 use Prim.Native.Nat.{ℕ, _+_, _-_, _≤_}
 use native.Mathlib.Omega.{arith}
-use lib.Dec.{eqb}
-use lib.IntN.{ℤ}
+use lib.Dec.{eqb, ltb}
 use lib.ListN.{length, take, drop, replicate, length-append, length-drop, length-replicate}
-use lib.Seq.{slice, drop-drop, length-take-le}
+use lib.Seq.{slice, drop-length, drop-drop, length-take-le}
 use Rattle.pattern.specs.Bytes.{Bytes, over}
 use Rattle.pattern.proofs.Stores.{puts-length}
-use Rattle.replies.specs.Sizes.{held-limit, newline-byte, out-room}
+use Rattle.replies.specs.Sizes.{newline-byte}
 use Rattle.replies.specs.Stores.{zeroed, Zero}
 use Rattle.replies.proofs.Zeros.{drop-zero, rest-zeroed}
 use Rattle.lines.specs.Output.{answers, last-line, hold, LinesIn, line-first, lines-in, wiped}
 use Rattle.lines.specs.Chunk.{Buffers}
-use Rattle.lines.specs.Session.{reading-of, started, Step, dropped, finished, Continues, AfterRead, PendingIn, written, stopped, waiting, AfterWrite, NextIn, Tidy, Sized, Sound}
-use Rattle.lines.specs.declared.session.Input.{Input}
-use Rattle.lines.specs.declared.session.Input.the-variants.{Failed, Ended, Chunk}
-use Rattle.lines.specs.declared.session.Pending.{Pending}
+use Rattle.lines.specs.Session.{started, State, halted, Continues, finished, AfterRead, PendingIn, written, waiting, GoesOn, Trace, Steps, read, end, write, read-fails, write-fails, NextIn, Tidy, Sized, Sound}
+use Rattle.lines.specs.declared.chunk.Pending.{Pending}
 use Rattle.lines.specs.declared.session.Next.{Next}
-use Rattle.lines.specs.declared.session.Next.the-variants.{Write, Read}
+use Rattle.lines.specs.declared.session.Next.the-variants.{Write}
 use Rattle.lines.proofs.Lines.{hold-longer}
 use Rattle.lines.proofs.Answering.{drop-over, drop-replied}
 use Rattle.lines.proofs.Chunks.{answers-same}
-use Rattle.lines.proofs.Sessions.{chunk-fits}
 
--- zeros further on
+-- ---- zeros
+
+-- further on
 later-zero : (i j : ℕ) (s : Bytes) → i ≤ j → Zero (drop i s) → Zero (drop j s)
 later-zero i j s h z = let e : i + (j - i) ≡ j = omega arith in subst Zero (drop-drop (j - i) i s ∙ ap (λ k. drop k s) e) (drop-zero (j - i) (drop i s) z)
 
+-- over all
+all-zeroed : (s : Bytes) → Zero (zeroed (length s) s)
+all-zeroed s = rest-zeroed (length s) s (subst Zero (sym (drop-length s)) refl)
+
 -- past a text that is over zeros
-past-zero : (n : ℕ) (v s : Bytes) → length v ≤ n → Zero s → Zero (drop n (over v s))
-past-zero n v s h z = subst Zero (sym (drop-over n v s h)) (drop-zero n s z)
+past-zero : (v s : Bytes) → Zero s → Zero (drop (length v) (over v s))
+past-zero v s z = subst Zero (sym (drop-over (length v) v s (omega arith))) (drop-zero (length v) s z)
+
+length-zeroed : (n : ℕ) (s : Bytes) → n ≤ length s → length (zeroed n s) ≡ length s
+length-zeroed n s h = omega (arith, length-append (replicate n 0) (drop n s), length-replicate {A = ℕ} n 0, length-drop n s)
 
 -- past what is held of a line there are zeros, if there were
 abbrev Blank : LinesIn → Bytes → Type 0
@@ -49,110 +54,109 @@ wiped-zero held (c ∷ s) line z =
     go true p q = p
     go false p q = q
 
-length-zeroed : (n : ℕ) (s : Bytes) → n ≤ length s → length (zeroed n s) ≡ length s
-length-zeroed n s h = omega (arith, length-append (replicate n 0) (drop n s), length-replicate {A = ℕ} n 0, length-drop n s)
+-- ---- the states after a step
 
--- ---- from step to step
+sound-as : {s t : State} → s ≡ t → (Sized t → Sound t) → Sized s → Sound s
+sound-as e f z = subst (λ x. Sized x → Sound x) (sym e) f z
 
-module _ {chunk : Bytes} {from held : ℕ} {b b′ : Buffers} {r : Next} (a : Continues chunk from held b r b′) where
-  continues-tidy : held ≤ length (b .line) → Zero (drop held (b .line)) → Zero (b .scratch) → Zero (b .out) → Tidy r b′
-  continues-tidy h z w o =
-      let d = a .answered .done in
-      let l = lines-in (take held (b .line)) (slice from (a .part .next) chunk) in
-      let begun : Zero (drop (length (take held (b .line))) (b .line)) = subst (λ n. Zero (drop n (b .line))) (sym (length-take-le held (b .line) h)) z in
-      subst (λ x. Tidy x b′) (sym (a .next))
-      (record {
-        line-zero =
-            subst Zero (sym (ap (drop (a .part .held)) (d .line) ∙ drop-over (a .part .held) (l .held) _ (omega (arith, d .held)) ∙ ap (λ n. drop n (wiped (l .ended) (b .line))) (d .held)))
-            (wiped-zero (take held (b .line)) (slice from (a .part .next) chunk) (b .line) begun);
-        scratch-zero = subst Zero (sym (d .replied .works ∙ answers-same (l .ended) (b .scratch) w)) w;
-        out-zero = subst Zero (sym (drop-replied (d .replied))) (drop-zero (a .part .end) (b .out) o);
-      })
+halted-sound : (input : Bytes) (b : Buffers) → Sized (halted input b) → Sound (halted input b)
+unfolding halted NextIn
+halted-sound input b z =
+    record { ready = tt; tidy = record { line-zero = all-zeroed (b .line); scratch-zero = all-zeroed (b .scratch); out-zero = all-zeroed (b .out); input-zero = λ e. all-zeroed input }; sized = z }
 
-  continues-ready : (input : Bytes) → length chunk ≤ length input → length (b′ .line) ≡ held-limit → out-room ≤ length (b .out) → NextIn r input b′
+-- a line's bytes past those held, scratch and output are zero
+module _ (held : ℕ) (input : Bytes) (b : Buffers) (line-zero : Zero (drop held (b .line))) (scratch-zero : Zero (b .scratch)) (out-zero : Zero (b .out)) (fits : held ≤ length (b .line)) where
+  continues-sound : {chunk : Bytes} {from : ℕ} (s : State) → Continues chunk from held input b s → length chunk ≤ length input → Sized s → Sound s
   unfolding NextIn
-  continues-ready input h k o =
+  continues-sound {chunk} {from} s a h z =
+      let p = a .part in
       let d = a .answered .done in
-      let e = puts-length (d .replied .within .stores) in
-      subst (λ x. NextIn x input b′) (sym (a .next))
-      (record {
-        from-fits = a .answered .next-fits;
-        to-fits = h;
-        end-fits = omega (arith, d .replied .within .short, e);
-        lent = record { line-size = k; held-fits = d .held-fits; out-size = omega (arith, e) };
+      let l = lines-in (take held (b .line)) (slice from (p .from) chunk) in
+      let begun : Zero (drop (length (take held (b .line))) (b .line)) = subst (λ n. Zero (drop n (b .line))) (sym (length-take-le held (b .line) fits)) line-zero in
+      sound-as (a .state)
+      (λ y.
+      record {
+        ready =
+            record {
+              from-fits = a .answered .from-fits;
+              to-fits = omega (arith, a .answered .to);
+              end-fits = omega (arith, d .replied .within .short, puts-length (d .replied .within .stores));
+              lent = record { line-size = y .line-size; held-fits = d .held-fits; out-size = y .out-size };
+            };
+        tidy =
+            record {
+              line-zero =
+                  subst Zero (sym (ap (drop (p .held)) (d .line) ∙ drop-over (p .held) (l .held) _ (omega (arith, d .held)) ∙ ap (λ n. drop n (wiped (l .ended) (b .line))) (d .held)))
+                  (wiped-zero (take held (b .line)) (slice from (p .from) chunk) (b .line) begun);
+              scratch-zero = subst Zero (sym (d .replied .works ∙ answers-same (l .ended) (b .scratch) scratch-zero)) scratch-zero;
+              out-zero = subst Zero (sym (drop-replied (d .replied))) (drop-zero (p .end) (b .out) out-zero);
+              input-zero = λ f. absurd (let z : _≡_ {A = ℕ} 0 1 = cc in omega arith);
+            };
+        sized = y;
       })
-
--- after a read
-module _ (held : ℕ) (input : Bytes) (b : Buffers) (s : Step) where
-  read-tidy : (i : Input) → AfterRead i held input b s → held ≤ length (b .line) → Tidy (Read held) b → Tidy (s .next) (s .buffers)
-  unfolding AfterRead dropped finished
-  read-tidy Failed a h t = subst (λ (x : Step). Tidy (x .next) (x .buffers)) (sym a) (record { line-zero = rest-zeroed held (b .line) (t .line-zero); scratch-zero = t .scratch-zero; out-zero = t .out-zero })
-  read-tidy Ended a h t =
-      let r = answers (last-line (take held (b .line))) (b .scratch) in
-      subst (λ (x : Step). Tidy (x .next) (x .buffers)) (sym a)
-      (record {
-        line-zero = rest-zeroed held (b .line) (t .line-zero);
-        scratch-zero = subst Zero (sym (answers-same (last-line (take held (b .line))) (b .scratch) (t .scratch-zero))) (t .scratch-zero);
-        out-zero = past-zero (length (r .text)) (r .text) (b .out) (omega arith) (t .out-zero);
-      })
-  read-tidy (Chunk n) a h t = continues-tidy (a .0) h (t .line-zero) (t .scratch-zero) (t .out-zero)
-
-  read-ready : (i : Input) → AfterRead i held input b s → ((n : ℕ) → i ≡ Chunk n → n ≤ length input) → out-room ≤ length (b .out) → Sized (s .input) (s .buffers) → NextIn (s .next) (s .input) (s .buffers)
-  unfolding AfterRead dropped finished over NextIn
-  read-ready Failed a f o z = subst (λ (x : Step). NextIn (x .next) (x .input) (x .buffers)) (sym a) tt
-  read-ready Ended a f o z =
-      let r = answers (last-line (take held (b .line))) (b .scratch) in
-      subst (λ (x : Step). Sized (x .input) (x .buffers) → NextIn (x .next) (x .input) (x .buffers)) (sym a)
-      (λ y. record { from-fits = omega arith; to-fits = omega arith; end-fits = omega (arith, length-append (r .text) (drop (length (r .text)) (b .out))); lent = record { line-size = y .line-size; held-fits = omega arith; out-size = y .out-size } })
       z
-  read-ready (Chunk n) a f o z =
-      continues-ready (a .0) (s .input) (omega (arith, ap length (a .1), length-take-le n input (f n refl), f n refl)) (z .line-size) o
 
--- after a write
-module _ (p : Pending) (input : Bytes) (b : Buffers) (s : Step) (f : PendingIn p input b) where
-  write-tidy : (goes-on rest : Bool) → AfterWrite goes-on rest p input b s → Tidy (Write p) b → Tidy (s .next) (s .buffers)
-  unfolding AfterWrite written stopped waiting
-  write-tidy false rest a t =
-      subst (λ (x : Step). Tidy (x .next) (x .buffers)) (sym a)
-      (record { line-zero = rest-zeroed (p .held) (b .line) (t .line-zero); scratch-zero = t .scratch-zero; out-zero = rest-zeroed (p .end) (b .out) (t .out-zero) })
-  write-tidy true true a t = continues-tidy (a .0) (omega (arith, f .lent .held-fits, f .lent .line-size)) (t .line-zero) (t .scratch-zero) (rest-zeroed (p .end) (b .out) (t .out-zero))
-  write-tidy true false a t =
-      subst (λ (x : Step). Tidy (x .next) (x .buffers)) (sym a) (record { line-zero = t .line-zero; scratch-zero = t .scratch-zero; out-zero = rest-zeroed (p .end) (b .out) (t .out-zero) })
+  finished-sound : (lines : Bytes) → Sized (finished (answers (last-line lines) (b .scratch)) held input b) → Sound (finished (answers (last-line lines) (b .scratch)) held input b)
+  unfolding finished over NextIn
+  finished-sound lines z =
+      let r = answers (last-line lines) (b .scratch) in
+      record {
+        ready = record { from-fits = omega arith; to-fits = omega arith; end-fits = omega (arith, length-append (r .text) (drop (length (r .text)) (b .out))); lent = record { line-size = z .line-size; held-fits = omega arith; out-size = z .out-size } };
+        tidy =
+            record {
+              line-zero = rest-zeroed held (b .line) line-zero;
+              scratch-zero = subst Zero (sym (answers-same (last-line lines) (b .scratch) scratch-zero)) scratch-zero;
+              out-zero = past-zero (r .text) (b .out) out-zero;
+              input-zero = λ f. absurd (let z : _≡_ {A = ℕ} 0 1 = cc in omega arith);
+            };
+        sized = z;
+      }
 
-  write-ready : (goes-on rest : Bool) → AfterWrite goes-on rest p input b s → Sized (s .input) (s .buffers) → NextIn (s .next) (s .input) (s .buffers)
-  unfolding AfterWrite written stopped waiting NextIn
-  write-ready false rest a z = subst (λ (x : Step). NextIn (x .next) (x .input) (x .buffers)) (sym a) tt
-  write-ready true true a z =
-      continues-ready (a .0) (s .input) (omega (arith, ap length (a .1), length-take-le (p .to) input (f .to-fits), f .to-fits)) (z .line-size)
-      (omega (arith, f .lent .out-size, f .end-fits, length-zeroed (p .end) (b .out) (f .end-fits)))
-  write-ready true false a z = subst (λ (x : Step). NextIn (x .next) (x .input) (x .buffers)) (sym a) (f .lent .held-fits)
+-- what was written is zeroed
+module _ (p : Pending) (input : Bytes) (b : Buffers) (f : PendingIn p input b) (t : Tidy (record { next = Write p; input = input; buffers = b })) where
+  goes-on-sound : (s : State) (rest : Bool) → GoesOn true rest p input b s → Sized s → Sound s
+  unfolding GoesOn written waiting NextIn
+  goes-on-sound s true a z =
+      continues-sound (p .held) input (written p b) (t .line-zero) (t .scratch-zero) (rest-zeroed (p .end) (b .out) (t .out-zero)) (omega (arith, f .lent .held-fits, f .lent .line-size)) s a
+      (omega (arith, length-take-le (p .to) input (f .to-fits), f .to-fits)) z
+  goes-on-sound s false a z =
+      sound-as a
+      (λ y.
+      record {
+        ready = f .lent .held-fits;
+        tidy = record { line-zero = t .line-zero; scratch-zero = t .scratch-zero; out-zero = rest-zeroed (p .end) (b .out) (t .out-zero); input-zero = λ f. absurd (let z : _≡_ {A = ℕ} 0 1 = cc in omega arith) };
+        sized = y;
+      })
+      z
+
+  write-sound : (s : State) (goes-on rest : Bool) → GoesOn goes-on rest p input b s → Sized s → Sound s
+  unfolding GoesOn
+  write-sound s false rest a z = sound-as a (halted-sound input b) z
+  write-sound s true rest a z = goes-on-sound s rest a z
+
+-- what holds between steps holds after each, if the buffers keep their sizes
+pub steps-sound : {s s′ : State} {t : Trace} → Steps s t s′ → Sound s → Sized s′ → Sound s′
+unfolding AfterRead NextIn
+steps-sound (read held n input input′ b s′ h a) y z =
+    continues-sound held input′ b (y .tidy .line-zero) (y .tidy .scratch-zero) (y .tidy .out-zero) (omega (arith, y .ready, y .sized .line-size)) s′ a (omega (arith, length-take-le n input′ h)) z
+steps-sound (end held input input′ b s′ a) y z =
+    sound-as a (finished-sound held input′ b (y .tidy .line-zero) (y .tidy .scratch-zero) (y .tidy .out-zero) (omega (arith, y .ready, y .sized .line-size)) (take held (b .line))) z
+steps-sound (write p input b s′ f a) y z = write-sound p input b f (y .tidy) s′ (true && not (p .last)) (ltb (p .from) (p .to)) a z
+steps-sound (read-fails held input input′ b s′ a) y z = sound-as a (halted-sound input′ b) z
+steps-sound (write-fails p input b s′ f a) y z = write-sound p input b f (y .tidy) s′ (false && not (p .last)) (ltb (p .from) (p .to)) a z
 
 -- ---- in the program
 
-pub sized-as : {input input′ : Bytes} {b b′ : Buffers} → Sized input b → length input′ ≡ length input → length (b′ .line) ≡ length (b .line) → length (b′ .scratch) ≡ length (b .scratch) → length (b′ .out) ≡ length (b .out) → Sized input′ b′
+pub sized-as : {s s′ : State} → Sized s → length (s′ .input) ≡ length (s .input) → length (s′ .buffers .line) ≡ length (s .buffers .line) → length (s′ .buffers .scratch) ≡ length (s .buffers .scratch) → length (s′ .buffers .out) ≡ length (s .buffers .out)
+    → Sized s′
 sized-as z i l w o = record { input-some = omega (arith, z .input-some); line-size = l ∙ z .line-size; scratch-full = w ∙ z .scratch-full; out-size = omega (arith, z .out-size) }
 
 -- at first
-pub start-sound : (wrote : Bool) {next : Next} {input : Bytes} {b : Buffers} → next ≡ started wrote → Zero (b .line) → Zero (b .scratch) → Zero (b .out) → Sized input b → Sound (record { next = next; input = input; buffers = b })
-start-sound wrote {next} {input} {b} e l s o z = subst (λ n. Sound (record { next = n; input = input; buffers = b })) (sym e) (go wrote)
+pub start-sound : (wrote : Bool) {next : Next} {input : Bytes} {b : Buffers} → next ≡ started wrote → Zero input → Zero (b .line) → Zero (b .scratch) → Zero (b .out) → Sized (record { next = next; input = input; buffers = b })
+    → Sound (record { next = next; input = input; buffers = b })
+unfolding started NextIn
+start-sound wrote {next} {input} {b} e i l w o z = sound-as (ap (λ n. record { next = n; input = input; buffers = b }) e) (go wrote) z
   where
-    go : (w : Bool) → Sound (record { next = started w; input = input; buffers = b })
-    go true = unfold started NextIn in record { ready = omega arith; tidy = record { line-zero = l; scratch-zero = s; out-zero = o }; sized = z }
-    go false = unfold started NextIn in record { ready = tt; tidy = record { line-zero = l; scratch-zero = s; out-zero = o }; sized = z }
-
--- a read keeps it so, whatever the input's buffer had before
-pub read-sound : (got : ℤ) (held : ℕ) (input : Bytes) (b : Buffers) (s : Step) → AfterRead (reading-of got (length (s .input))) held (s .input) b s → Sound (record { next = Read held; input = input; buffers = b })
-    → Sized (s .input) (s .buffers) → Sound s
-unfolding NextIn
-read-sound got held input b s a y z =
-    let i = reading-of got (length (s .input)) in
-    record {
-      ready = read-ready held (s .input) b s i a (λ n f. chunk-fits (length (s .input)) got n (sym f)) (y .sized .out-size) z;
-      tidy = read-tidy held (s .input) b s i a (omega (arith, y .ready, y .sized .line-size)) (y .tidy);
-      sized = z;
-    }
-
--- and a write
-pub write-sound : (goes-on rest : Bool) (p : Pending) (input : Bytes) (b : Buffers) (s : Step) → AfterWrite goes-on rest p input b s → Sound (record { next = Write p; input = input; buffers = b }) → Sized (s .input) (s .buffers) → Sound s
-unfolding NextIn
-write-sound g r p input b s a y z = record { ready = write-ready p input b s (y .ready) g r a z; tidy = write-tidy p input b s (y .ready) g r a (y .tidy); sized = z }
+    go : (x : Bool) → Sized (record { next = started x; input = input; buffers = b }) → Sound (record { next = started x; input = input; buffers = b })
+    go true y = record { ready = omega arith; tidy = record { line-zero = l; scratch-zero = w; out-zero = o; input-zero = λ f. i }; sized = y }
+    go false y = record { ready = tt; tidy = record { line-zero = l; scratch-zero = w; out-zero = o; input-zero = λ f. i }; sized = y }

@@ -1,5 +1,6 @@
 -- What answering the lines of a chunk promises. Assumes nothing.
 use mathlib.Core.Path.{_≡_}
+use mathlib.Core.Bool.{false}
 use Prim.Native.Nat.{ℕ, _+_, _≤_, _<_}
 use lib.ListN.{length, take}
 use lib.Seq.{slice}
@@ -7,7 +8,7 @@ use Rattle.pattern.specs.Bytes.{Bytes, over}
 use Rattle.replies.specs.Sizes.{held-limit, out-room}
 use Rattle.replies.specs.Stores.{Replied}
 use Rattle.lines.specs.Output.{answers, LinesIn, lines-in, wiped}
-use Rattle.lines.specs.declared.chunk.Answered.{Answered}
+use Rattle.lines.specs.declared.chunk.Pending.{Pending}
 
 -- the bytes that answering works in: a line's, scratch and the output
 pub record Buffers : Type 0 where
@@ -25,15 +26,17 @@ pub record Lent (held : ℕ) (b : Buffers) : Type 0 where
   pub out-size : out-room ≤ length (b .out)
 
 -- lines are answered: the replies to those that ended stand at the output's start, their bytes are zero, and the held one stands there
-pub record Done (l : LinesIn) (b b′ : Buffers) (r : Answered) : Type 0 where
-  pub replied : Replied (length (b .out)) (answers (l .ended) (b .scratch)) (b .out) 0 (b′ .scratch) (b′ .out) (r .end)
+pub record Done (l : LinesIn) (b b′ : Buffers) (p : Pending) : Type 0 where
+  pub replied : Replied (length (b .out)) (answers (l .ended) (b .scratch)) (b .out) 0 (b′ .scratch) (b′ .out) (p .end)
   pub line : b′ .line ≡ over (l .held) (wiped (l .ended) (b .line))
-  pub held : r .held ≡ length (l .held)
-  pub held-fits : r .held ≤ held-limit
+  pub held : p .held ≡ length (l .held)
+  pub held-fits : p .held ≤ held-limit
 
 -- the lines of a chunk from one place to another are; if the chunk has more, the rest of the output may be short of a reply
-pub record Answers (chunk : Bytes) (from held : ℕ) (b b′ : Buffers) (r : Answered) : Type 0 where
-  pub done : Done (lines-in (take held (b .line)) (slice from (r .next) chunk)) b b′ r
-  pub forward : from ≤ r .next
-  pub next-fits : r .next ≤ length chunk
-  pub fills : r .next < length chunk → length (b .out) < r .end + out-room
+pub record Answered (chunk : Bytes) (from held : ℕ) (b b′ : Buffers) (p : Pending) : Type 0 where
+  pub done : Done (lines-in (take held (b .line)) (slice from (p .from) chunk)) b b′ p
+  pub forward : from ≤ p .from
+  pub from-fits : p .from ≤ p .to
+  pub to : p .to ≡ length chunk
+  pub last : p .last ≡ false
+  pub fills : p .from < p .to → length (b .out) < p .end + out-room

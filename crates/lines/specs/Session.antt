@@ -1,8 +1,8 @@
--- What the line tool does after each read and each write, case by case, and every byte of its buffers then. Assumes nothing.
+-- What the line tool does after each read and each write, case by case, with every byte of its buffers then; and its runs. Assumes nothing.
 use mathlib.Core.Path.{_≡_}
 use mathlib.Core.Bool.{Bool, true, false, not, _&&_}
 use mathlib.Core.List.{List, [], _∷_, _++_}
-use Prim.Native.Nat.{ℕ, zero, suc, min, _≤_}
+use Prim.Native.Nat.{ℕ, zero, suc, min, _+_, _≤_}
 use lib.Dec.{ltb}
 use lib.IntN.{ℤ, pos, negsuc}
 use lib.ListN.{length, take, drop}
@@ -11,11 +11,10 @@ use Rattle.replies.specs.Sizes.{held-limit, scratch-size, out-room}
 use Rattle.replies.specs.Reply.{Reply}
 use Rattle.replies.specs.Stores.{zeroed, Zero}
 use Rattle.lines.specs.Output.{answers, last-line}
-use Rattle.lines.specs.Chunk.{Buffers, Lent, Answers}
-use Rattle.lines.specs.declared.chunk.Answered.{Answered}
+use Rattle.lines.specs.Chunk.{Buffers, lend, Lent, Answered}
+use Rattle.lines.specs.declared.chunk.Pending.{Pending}
 use Rattle.lines.specs.declared.session.Input.{Input}
 use Rattle.lines.specs.declared.session.Input.the-variants.{Failed, Ended, Chunk}
-use Rattle.lines.specs.declared.session.Pending.{Pending}
 use Rattle.lines.specs.declared.session.Next.{Next}
 use Rattle.lines.specs.declared.session.Next.the-variants.{Write, Read, Stop}
 
@@ -31,19 +30,33 @@ started true = Read 0
 started false = Stop
 
 -- what is to be done next, and the bytes then: the input's and those that answering works in
-pub record Step : Type 0 where
+pub record State : Type 0 where
   pub next : Next
   pub input : Bytes
   pub buffers : Buffers
 
+abbrev pub state-of : Next → (input line scratch out : Bytes) → State
+state-of next input line scratch out = record { next = next; input = input; buffers = lend line scratch out }
+
+-- zeros over all of them
+abbrev wiped-out : Bytes → Bytes
+wiped-out s = zeroed (length s) s
+
+-- "patient data stays in no buffer": it ends, and every byte is zero
+unfoldable pub halted : (input : Bytes) → Buffers → State
+halted input b = record { next = Stop; input = wiped-out input; buffers = record { line = wiped-out (b .line); scratch = wiped-out (b .scratch); out = wiped-out (b .out) } }
+
+-- a chunk is answered from a place on; the replies are to be written, and then the rest is answered
+pub record Continues (chunk : Bytes) (from held : ℕ) (input : Bytes) (b : Buffers) (s : State) : Type 0 where
+  pub part : Pending
+  pub after : Buffers
+  pub answered : Answered chunk from held b after part
+  pub state : s ≡ record { next = Write part; input = input; buffers = after }
+
 -- ---- after a read
 
--- it failed: nothing is answered of what is held
-unfoldable pub dropped : (held : ℕ) (input : Bytes) → Buffers → Step
-dropped held input b = record { next = Stop; input = input; buffers = record { line = zeroed held (b .line); scratch = b .scratch; out = b .out } }
-
 -- the input has ended, and what is held is the last line: its reply is to be written, and then nothing
-unfoldable pub finished : (last : Reply) (held : ℕ) (input : Bytes) → Buffers → Step
+unfoldable pub finished : (last : Reply) (held : ℕ) (input : Bytes) → Buffers → State
 finished last held input b =
     record {
       next = Write (record { from = 0; to = 0; held = 0; end = length (last .text); last = true });
@@ -51,16 +64,11 @@ finished last held input b =
       buffers = record { line = zeroed held (b .line); scratch = last .scratch; out = over (last .text) (b .out) };
     }
 
--- a chunk is answered from a place on; the replies are to be written, and then the rest is answered
-pub record Continues (chunk : Bytes) (from held : ℕ) (b : Buffers) (r : Next) (b′ : Buffers) : Type 0 where
-  pub part : Answered
-  pub next : r ≡ Write (record { from = part .next; to = length chunk; held = part .held; end = part .end; last = false })
-  pub answered : Answers chunk from held b b′ part
-
-unfoldable pub AfterRead : Input → (held : ℕ) (input : Bytes) → Buffers → Step → Type 0
-AfterRead Failed held input b s = s ≡ dropped held input b
+-- a failed read: nothing is answered of what is held
+unfoldable pub AfterRead : Input → (held : ℕ) (input : Bytes) → Buffers → State → Type 0
+AfterRead Failed held input b s = s ≡ halted input b
 AfterRead Ended held input b s = s ≡ finished (answers (last-line (take held (b .line))) (b .scratch)) held input b
-AfterRead (Chunk n) held input b s = Continues (take n input) 0 held b (s .next) (s .buffers) × (s .input ≡ input)
+AfterRead (Chunk n) held input b s = Continues (take n input) 0 held input b s
 
 -- ---- after a write
 
@@ -75,31 +83,53 @@ pub record PendingIn (p : Pending) (input : Bytes) (b : Buffers) : Type 0 where
 unfoldable pub written : Pending → Buffers → Buffers
 written p b = record { line = b .line; scratch = b .scratch; out = zeroed (p .end) (b .out) }
 
--- it ends, and all that was used is zero
-unfoldable pub stopped : Pending → (input : Bytes) → Buffers → Step
-stopped p input b = record { next = Stop; input = zeroed (p .to) input; buffers = record { line = zeroed (p .held) (b .line); scratch = b .scratch; out = zeroed (p .end) (b .out) } }
-
 -- the chunk was answered whole, and is zero: more is read
-unfoldable pub waiting : Pending → (input : Bytes) → Buffers → Step
+unfoldable pub waiting : Pending → (input : Bytes) → Buffers → State
 waiting p input b = record { next = Read (p .held); input = zeroed (p .to) input; buffers = written p b }
 
--- goes-on: the write succeeded and wasn't the last; rest: some of the chunk isn't answered yet
-unfoldable pub AfterWrite : (goes-on rest : Bool) → Pending → (input : Bytes) → Buffers → Step → Type 0
-AfterWrite false rest p input b s = s ≡ stopped p input b
-AfterWrite true true p input b s = Continues (take (p .to) input) (p .from) (p .held) (written p b) (s .next) (s .buffers) × (s .input ≡ input)
-AfterWrite true false p input b s = s ≡ waiting p input b
+-- by whether it goes on, and whether some of the chunk isn't answered yet
+unfoldable pub GoesOn : (goes-on rest : Bool) → Pending → (input : Bytes) → Buffers → State → Type 0
+GoesOn false rest p input b s = s ≡ halted input b
+GoesOn true true p input b s = Continues (take (p .to) input) (p .from) (p .held) input (written p b) s
+GoesOn true false p input b s = s ≡ waiting p input b
 
--- ---- a run in which no read and no write fails: the chunks that it reads before the input's end, and the bytes that it writes
-pub data Runs : Next → (input : Bytes) → Buffers → List Bytes → Bytes → Type 0 where
-  stops : (input : Bytes) (b : Buffers) → Runs Stop input b [] []
-  writes : (p : Pending) (input : Bytes) (b : Buffers) (s : Step) {chunks : List Bytes} {rest : Bytes}
-      → PendingIn p input b → AfterWrite (true && not (p .last)) (ltb (p .from) (p .to)) p input b s
-      → Runs (s .next) (s .input) (s .buffers) chunks rest → Runs (Write p) input b chunks (take (p .end) (b .out) ++ rest)
-  reads : (held n : ℕ) (input input′ : Bytes) (b : Buffers) (s : Step) {chunks : List Bytes} {rest : Bytes}
-      → n ≤ length input′ → AfterRead (Chunk n) held input′ b s
-      → Runs (s .next) (s .input) (s .buffers) chunks rest → Runs (Read held) input b (take n input′ ∷ chunks) rest
-  ends : (held : ℕ) (input input′ : Bytes) (b : Buffers) (s : Step) {rest : Bytes}
-      → AfterRead Ended held input′ b s → Runs (s .next) (s .input) (s .buffers) [] rest → Runs (Read held) input b [] rest
+-- it goes on exactly when the write succeeded and wasn't the last
+abbrev pub AfterWrite : (wrote : Bool) → Pending → (input : Bytes) → Buffers → State → Type 0
+AfterWrite wrote p input b s = GoesOn (wrote && not (p .last)) (ltb (p .from) (p .to)) p input b s
+
+-- ---- runs
+
+-- of some reads and writes: the chunks that were read, the bytes that were written, and whether none failed
+pub record Trace : Type 0 where
+  pub chunks : List Bytes
+  pub text : Bytes
+  pub well : Bool
+
+unfoldable pub then : Trace → Trace → Trace
+then t u = record { chunks = t .chunks ++ u .chunks; text = t .text ++ u .text; well = t .well && u .well }
+
+-- one read or one write, and the state after it
+pub data Steps : State → Trace → State → Type 0 where
+  read : (held n : ℕ) (input input′ : Bytes) (b : Buffers) (s : State) → n ≤ length input′ → AfterRead (Chunk n) held input′ b s
+      → Steps (record { next = Read held; input = input; buffers = b }) (record { chunks = take n input′ ∷ []; text = []; well = true }) s
+  end : (held : ℕ) (input input′ : Bytes) (b : Buffers) (s : State) → AfterRead Ended held input′ b s
+      → Steps (record { next = Read held; input = input; buffers = b }) (record { chunks = []; text = []; well = true }) s
+  write : (p : Pending) (input : Bytes) (b : Buffers) (s : State) → PendingIn p input b → AfterWrite true p input b s
+      → Steps (record { next = Write p; input = input; buffers = b }) (record { chunks = []; text = take (p .end) (b .out); well = true }) s
+  read-fails : (held : ℕ) (input input′ : Bytes) (b : Buffers) (s : State) → AfterRead Failed held input′ b s
+      → Steps (record { next = Read held; input = input; buffers = b }) (record { chunks = []; text = []; well = false }) s
+  write-fails : (p : Pending) (input : Bytes) (b : Buffers) (s : State) → PendingIn p input b → AfterWrite false p input b s
+      → Steps (record { next = Write p; input = input; buffers = b }) (record { chunks = []; text = []; well = false }) s
+
+-- some one of them was made
+pub record Moves (s s′ : State) : Type 0 where
+  pub trace : Trace
+  pub step : Steps s trace s′
+
+-- so many of them, one after the other
+pub data Runs (first : State) : (turns : ℕ) → Trace → State → Type 0 where
+  none : Runs first 0 (record { chunks = []; text = []; well = true }) first
+  more : (turns : ℕ) (t u : Trace) (s s′ : State) → Runs first turns t s → Steps s u s′ → Runs first (turns + 1) (then t u) s′
 
 -- ---- what holds between steps
 
@@ -119,20 +149,21 @@ end-of Stop = 0
 end-of (Read held) = 0
 end-of (Write p) = p .end
 
--- "patient data stays in no buffer": line, scratch and output are zero but for what is held of a line and what is to be written
-pub record Tidy (next : Next) (b : Buffers) : Type 0 where
-  pub line-zero : Zero (drop (held-of next) (b .line))
-  pub scratch-zero : Zero (b .scratch)
-  pub out-zero : Zero (drop (end-of next) (b .out))
+-- "patient data stays in no buffer": line, scratch and output are zero but for what is held of a line and what is to be written; so is the input where it stops
+pub record Tidy (s : State) : Type 0 where
+  pub line-zero : Zero (drop (held-of (s .next)) (s .buffers .line))
+  pub scratch-zero : Zero (s .buffers .scratch)
+  pub out-zero : Zero (drop (end-of (s .next)) (s .buffers .out))
+  pub input-zero : s .next ≡ Stop → Zero (s .input)
 
--- the buffers have their sizes
-pub record Sized (input : Bytes) (b : Buffers) : Type 0 where
-  pub input-some : 1 ≤ length input
-  pub line-size : length (b .line) ≡ held-limit
-  pub scratch-full : length (b .scratch) ≡ scratch-size
-  pub out-size : out-room ≤ length (b .out)
+-- the buffers' sizes
+pub record Sized (s : State) : Type 0 where
+  pub input-some : 1 ≤ length (s .input)
+  pub line-size : length (s .buffers .line) ≡ held-limit
+  pub scratch-full : length (s .buffers .scratch) ≡ scratch-size
+  pub out-size : out-room ≤ length (s .buffers .out)
 
-pub record Sound (s : Step) : Type 0 where
+pub record Sound (s : State) : Type 0 where
   pub ready : NextIn (s .next) (s .input) (s .buffers)
-  pub tidy : Tidy (s .next) (s .buffers)
-  pub sized : Sized (s .input) (s .buffers)
+  pub tidy : Tidy s
+  pub sized : Sized s

@@ -5,17 +5,20 @@ ghost use lib.ListN.{length};
 ghost use Rattle.replies.specs.Sizes.{out-room};
 ghost use Rattle.replies.specs.Stores.{Replied};
 ghost use Rattle.lines.specs.Output.{answers, last-line, first-line};
-ghost use Rattle.lines.specs.Chunk.{lend, Lent, Answers};
+ghost use Rattle.lines.specs.Chunk.{lend, Lent, Answered};
 use crate::line::take_line;
 use planes::clear::clear;
 use replies::reply::answer_line;
 use replies::sizes::OUT_ROOM;
 
-// Where to go on in the chunk, how many bytes of a line are held, and how many were written.
-pub struct Answered {
-    pub next: usize,
+// The first end bytes of the output are to be written. Then the bytes from..to of the input are still to be answered, with
+// held bytes of a line before them; or, if it was the last output, nothing.
+pub struct Pending {
+    pub from: usize,
+    pub to: usize,
     pub held: usize,
     pub end: usize,
+    pub last: bool,
 }
 
 // Answers lines until the chunk ends or there may be no room for a reply; the bytes of a line that was answered are zeroed.
@@ -26,16 +29,16 @@ pub fn answer_chunk(
     held: usize,
     scratch: &mut [u8],
     out: &mut [u8],
-) -> Answered
+) -> Pending
     requires { ⌜ from ≤ length (now chunk) ⌝ ∗ ⌜ Lent held (lend (now line) (now scratch) (now out)) ⌝ }
-    ensures { λ r. ⌜ Answers (now (chunk .entry)) from held (lend (now (line .entry)) (now (scratch .entry)) (now (out .entry))) (lend (now (line .exit)) (now (scratch .exit)) (now (out .exit))) r ⌝ }
+    ensures { λ r. ⌜ Answered (now (chunk .entry)) from held (lend (now (line .entry)) (now (scratch .entry)) (now (out .entry))) (lend (now (line .exit)) (now (scratch .exit)) (now (out .exit))) r ⌝ }
 {
     let mut next = from;
     let mut n = held;
     let mut end = 0;
     while next < chunk.len() {
         if out.len() - end < OUT_ROOM {
-            return Answered { next, held: n, end };
+            break;
         }
         let t = take_line(chunk, next, line, n);
         next = t.next;
@@ -46,7 +49,13 @@ pub fn answer_chunk(
             n = 0;
         }
     }
-    Answered { next, held: n, end }
+    Pending {
+        from: next,
+        to: chunk.len(),
+        held: n,
+        end,
+        last: false,
+    }
 }
 
 // Answers a last line without a newline, if it has bytes.

@@ -2,11 +2,10 @@
 // hands on how that went.
 ghost use mathlib.Core.Path.{_≡_};
 ghost use mathlib.Core.Bool.{not, _&&_};
-ghost use Prim.Native.Nat.{_≤_};
 ghost use lib.ListN.{length};
-ghost use lib.Dec.{ltb};
 ghost use Rattle.lines.specs.Chunk.{lend, Lent};
-ghost use Rattle.lines.specs.Session.{reading-of, started, Continues, AfterRead, PendingIn, AfterWrite};
+ghost use Rattle.lines.specs.Session.{reading-of, started, state-of, halted, AfterRead, PendingIn, AfterWrite};
+use crate::chunk::Pending;
 use crate::chunk::answer_chunk;
 use crate::chunk::answer_last;
 use planes::clear::clear;
@@ -16,16 +15,6 @@ pub enum Input {
     Failed,
     Ended,
     Chunk(usize),
-}
-
-// The first end bytes of the output are to be written. Then the bytes from..to of the input are still to be answered, with
-// held bytes of a line before them; or, if it was the last output, nothing.
-pub struct Pending {
-    pub from: usize,
-    pub to: usize,
-    pub held: usize,
-    pub end: usize,
-    pub last: bool,
 }
 
 // What the program is to do: write; read, with so many bytes of a line held; or stop.
@@ -59,26 +48,19 @@ pub fn start(wrote: bool) -> Next
     if wrote { Next::Read(0) } else { Next::Stop }
 }
 
-// Answers as much of a chunk as there is room for.
-fn answer_more(
-    chunk: &[u8],
-    from: usize,
-    line: &mut [u8],
-    held: usize,
-    scratch: &mut [u8],
-    out: &mut [u8],
-) -> Next
-    requires { ⌜ from ≤ length (now chunk) ⌝ ∗ ⌜ Lent held (lend (now line) (now scratch) (now out)) ⌝ }
-    ensures { λ r. ⌜ Continues (now (chunk .entry)) from held (lend (now (line .entry)) (now (scratch .entry)) (now (out .entry))) r (lend (now (line .exit)) (now (scratch .exit)) (now (out .exit))) ⌝ }
+// It ends, and every byte is zeroed.
+fn halt(buf: &mut [u8], line: &mut [u8], scratch: &mut [u8], out: &mut [u8]) -> Next
+    ensures { λ r. ⌜ state-of r (now (buf .exit)) (now (line .exit)) (now (scratch .exit)) (now (out .exit)) ≡ halted (now (buf .entry)) (lend (now (line .entry)) (now (scratch .entry)) (now (out .entry))) ⌝ }
 {
-    let a = answer_chunk(chunk, from, line, held, scratch, out);
-    Next::Write(Pending {
-        from: a.next,
-        to: chunk.len(),
-        held: a.held,
-        end: a.end,
-        last: false,
-    })
+    let input = buf.len();
+    let held = line.len();
+    let work = scratch.len();
+    let end = out.len();
+    clear(buf, input);
+    clear(line, held);
+    clear(scratch, work);
+    clear(out, end);
+    Next::Stop
 }
 
 // After a read: a failed one ends it, and what is held of a line is dropped, since it may be cut; at the input's end it is
@@ -86,19 +68,16 @@ fn answer_more(
 pub fn after_read(
     held: usize,
     got: isize,
-    buf: &[u8],
+    buf: &mut [u8],
     line: &mut [u8],
     scratch: &mut [u8],
     out: &mut [u8],
 ) -> Next
     requires { ⌜ Lent held (lend (now line) (now scratch) (now out)) ⌝ }
-    ensures { λ r. ⌜ AfterRead (reading-of got (length (now (buf .entry)))) held (now (buf .entry)) (lend (now (line .entry)) (now (scratch .entry)) (now (out .entry))) (record { next = r; input = now (buf .entry); buffers = lend (now (line .exit)) (now (scratch .exit)) (now (out .exit)) }) ⌝ }
+    ensures { λ r. ⌜ AfterRead (reading-of got (length (now (buf .entry)))) held (now (buf .entry)) (lend (now (line .entry)) (now (scratch .entry)) (now (out .entry))) (state-of r (now (buf .exit)) (now (line .exit)) (now (scratch .exit)) (now (out .exit))) ⌝ }
 {
     match reading(got, buf.len()) {
-        Input::Failed => {
-            clear(line, held);
-            Next::Stop
-        }
+        Input::Failed => halt(buf, line, scratch, out),
         Input::Ended => {
             let end = answer_last(&line[..held], scratch, out);
             clear(line, held);
@@ -110,7 +89,7 @@ pub fn after_read(
                 last: true,
             })
         }
-        Input::Chunk(n) => answer_more(&buf[..n], 0, line, held, scratch, out),
+        Input::Chunk(n) => Next::Write(answer_chunk(&buf[..n], 0, line, held, scratch, out)),
     }
 }
 
@@ -121,8 +100,8 @@ fn goes_on(wrote: bool, last: bool) -> bool
     if wrote { !last } else { false }
 }
 
-// After a write: the bytes written are zeroed, and those of a chunk that is answered whole. Where it doesn't go on, so are
-// all that were used.
+// After a write: where it doesn't go on, it ends. Else the bytes written are zeroed, and the rest of the chunk is answered; or,
+// if there is none, the chunk is zeroed and more is read.
 pub fn after_write(
     p: Pending,
     wrote: bool,
@@ -132,20 +111,17 @@ pub fn after_write(
     out: &mut [u8],
 ) -> Next
     requires { ⌜ PendingIn p (now buf) (lend (now line) (now scratch) (now out)) ⌝ }
-    ensures { λ r. ⌜ AfterWrite (wrote && not (p .last)) (ltb (p .from) (p .to)) p (now (buf .entry)) (lend (now (line .entry)) (now (scratch .entry)) (now (out .entry))) (record { next = r; input = now (buf .exit); buffers = lend (now (line .exit)) (now (scratch .exit)) (now (out .exit)) }) ⌝ }
+    ensures { λ r. ⌜ AfterWrite wrote p (now (buf .entry)) (lend (now (line .entry)) (now (scratch .entry)) (now (out .entry))) (state-of r (now (buf .exit)) (now (line .exit)) (now (scratch .exit)) (now (out .exit))) ⌝ }
 {
     let from = p.from;
     let to = p.to;
     let held = p.held;
-    let end = p.end;
-    clear(out, end);
     if !goes_on(wrote, p.last) {
-        clear(line, held);
-        clear(buf, to);
-        return Next::Stop;
+        return halt(buf, line, scratch, out);
     }
+    clear(out, p.end);
     if from < to {
-        return answer_more(&buf[..to], from, line, held, scratch, out);
+        return Next::Write(answer_chunk(&buf[..to], from, line, held, scratch, out));
     }
     clear(buf, to);
     Next::Read(held)

@@ -1,15 +1,14 @@
 // The line tool: reads lines of a source, a tab and a label, and writes an answer for each. What it does with what it
 // reads, and what it writes when, is told by lines::session.
-ghost use Rattle.lines.specs.Chunk.{lend};
-ghost use Rattle.lines.specs.Session.{Sound};
-ghost use Rattle.mptline.specs.Steps.{Reads, Writes};
+ghost use Rattle.lines.specs.Session.{state-of, Moves, Sound};
+ghost use Rattle.mptline.specs.Run.{Ran};
 ghost use Rattle.lines.specs.declared.session.Next.the-variants.{Write, Read};
 use libc::STDIN_FILENO;
 use libc::STDOUT_FILENO;
 use lines::chunk;
+use lines::chunk::Pending;
 use lines::session;
 use lines::session::Next;
-use lines::session::Pending;
 use replies::sizes;
 
 // Bytes of input and of output that are taken at a time.
@@ -17,8 +16,8 @@ const BUFFER_SIZE: usize = 65536;
 
 // Writes what is to be written.
 fn write(p: Pending, buf: &mut [u8], line: &mut [u8], scratch: &mut [u8], out: &mut [u8]) -> Next
-    requires { ⌜ Sound (record { next = Write p; input = now buf; buffers = lend (now line) (now scratch) (now out) }) ⌝ }
-    ensures { λ r. ⌜ Writes p (now (buf .entry)) (lend (now (line .entry)) (now (scratch .entry)) (now (out .entry))) (record { next = r; input = now (buf .exit); buffers = lend (now (line .exit)) (now (scratch .exit)) (now (out .exit)) }) ⌝ }
+    requires { ⌜ Sound (state-of (Write p) (now buf) (now line) (now scratch) (now out)) ⌝ }
+    ensures { λ r. ⌜ Moves (state-of (Write p) (now (buf .entry)) (now (line .entry)) (now (scratch .entry)) (now (out .entry))) (state-of r (now (buf .exit)) (now (line .exit)) (now (scratch .exit)) (now (out .exit))) ⌝ }
 {
     let end = p.end;
     let wrote = io::write_all(STDOUT_FILENO, &out[..end]);
@@ -27,8 +26,8 @@ fn write(p: Pending, buf: &mut [u8], line: &mut [u8], scratch: &mut [u8], out: &
 
 // Reads once.
 fn read(held: usize, buf: &mut [u8], line: &mut [u8], scratch: &mut [u8], out: &mut [u8]) -> Next
-    requires { ⌜ Sound (record { next = Read held; input = now buf; buffers = lend (now line) (now scratch) (now out) }) ⌝ }
-    ensures { λ r. ⌜ Reads held (lend (now (line .entry)) (now (scratch .entry)) (now (out .entry))) (record { next = r; input = now (buf .exit); buffers = lend (now (line .exit)) (now (scratch .exit)) (now (out .exit)) }) ⌝ }
+    requires { ⌜ Sound (state-of (Read held) (now buf) (now line) (now scratch) (now out)) ⌝ }
+    ensures { λ r. ⌜ Moves (state-of (Read held) (now (buf .entry)) (now (line .entry)) (now (scratch .entry)) (now (out .entry))) (state-of r (now (buf .exit)) (now (line .exit)) (now (scratch .exit)) (now (out .exit))) ⌝ }
 {
     let got = libc::read(STDIN_FILENO, buf);
     session::after_read(held, got, buf, line, scratch, out)
@@ -37,8 +36,8 @@ fn read(held: usize, buf: &mut [u8], line: &mut [u8], scratch: &mut [u8], out: &
 // Reads and writes until there is nothing left to do. A proved loop has to end, so its turns are counted down from a number
 // that no run uses up.
 fn run(first: Next, buf: &mut [u8], line: &mut [u8], scratch: &mut [u8], out: &mut [u8]) -> Next
-    requires { ⌜ Sound (record { next = first; input = now buf; buffers = lend (now line) (now scratch) (now out) }) ⌝ }
-    ensures { λ r. ⌜ Sound (record { next = r; input = now (buf .exit); buffers = lend (now (line .exit)) (now (scratch .exit)) (now (out .exit)) }) ⌝ }
+    requires { ⌜ Sound (state-of first (now buf) (now line) (now scratch) (now out)) ⌝ }
+    ensures { λ r. ⌜ Ran (state-of first (now (buf .entry)) (now (line .entry)) (now (scratch .entry)) (now (out .entry))) (state-of r (now (buf .exit)) (now (line .exit)) (now (scratch .exit)) (now (out .exit))) ⌝ }
 {
     let mut next = first;
     let mut turns = u64::MAX;

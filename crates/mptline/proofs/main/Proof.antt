@@ -34,7 +34,7 @@ slice-aggregate-run-4 c = search needs
 
 run-requires : tie.Need-run-requires
 run-requires c κs =
-    start-sound _ (c .before .before .before .before .start .ensures) (blank-zero held-limit _ refl) (blank-zero scratch-size _ refl) (blank-zero 65536 _ refl)
+    start-sound _ (c .before .before .before .before .start .ensures) (blank-zero 65536 _ refl) (blank-zero held-limit _ refl) (blank-zero scratch-size _ refl) (blank-zero 65536 _ refl)
     (record { input-some = omega arith; line-size = search needs; scratch-full = search needs; out-size = omega arith })
 
 returns : tie.Need-returns

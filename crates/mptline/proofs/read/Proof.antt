@@ -1,6 +1,9 @@
 -- `read` meets its contract. Assumes nothing.
 use native.Mathlib.Omega.{arith}
+use mir.Syntax.{w64}
+use mir.Val.{toZ, ofZ}
 use Rattle.lines.specs.Session.{NextIn}
+use Rattle.lines.proofs.Sessions.{chunk-fits, read-moves}
 use borrow.Author.Needs.{needs}
 use Rattle.mptline.proofs.read.Statement.{statement}
 use Rattle.mptline.proofs.read.Tie as tie
@@ -26,7 +29,9 @@ same-length-4 : tie.Need-same-length-4
 same-length-4 c = search needs
 
 returns : tie.Need-returns
-returns c = record { got = _; after = c .before .before .before .before .before .before .after-read .ensures }
+returns c =
+    let after = c .before .before .before .before .before .before .before .before in
+    read-moves _ _ _ _ _ _ (after .after-read .ensures) (chunk-fits _ (toZ w64 (ofZ w64 (after .before .before .before .before .before .before .before .read .result))))
 
 pub read-spec : {M : Type 1} → statement M
 read-spec =

@@ -2,6 +2,7 @@
 use mathlib.Core.Path.{sym}
 use lib.Seq.{length-take-le}
 use Rattle.lines.specs.Session.{NextIn}
+use Rattle.lines.proofs.Sessions.{write-moves}
 use borrow.Author.Needs.{needs}
 use Rattle.mptline.proofs.write.Statement.{statement}
 use Rattle.mptline.proofs.write.Tie as tie
@@ -31,9 +32,11 @@ same-length-4 : tie.Need-same-length-4
 same-length-4 c = search needs
 
 returns : tie.Need-returns
+unfolding NextIn
 returns c =
     let after = c .before .before .before .before .before .before .before .before in
-    record { wrote = after .before .before .before .before .before .write-all .result; after = after .after-write .ensures }
+    let done = after .before .before .before .before .before in
+    write-moves (done .write-all .result) _ _ _ _ (done .before .before .before .before .before .before .pre .ready) (after .after-write .ensures)
 
 pub write-spec : {M : Type 1} → statement M
 write-spec =

@@ -1,5 +1,6 @@
 -- `chunk::answer_chunk` meets its contract: what was taken of the chunk so far is done. What is left of the chunk falls. Assumes nothing.
 use mathlib.Core.Path.{_≡_, refl, sym, _∙_}
+use mathlib.Core.Bool.{false}
 use Prim.Native.Nat.{_-_, _≤_}
 use native.Mathlib.Omega.{arith}
 use lib.ListN.{length, take}
@@ -16,7 +17,7 @@ abbrev Inv-loop : tie.InvT-loop
 Inv-loop chunk from line₀ held scratch₀ out₀ next₀ n₀ end₀ line scratch out next n end =
     (length line ≡ length line₀) × (length scratch ≡ length scratch₀) × (length out ≡ length out₀)
     × (from ≤ next) × (next ≤ length chunk)
-    × Done (lines-in (take held line₀) (slice from next chunk)) (lend line₀ scratch₀ out₀) (lend line scratch out) (record { next = next; held = n; end = end })
+    × Done (lines-in (take held line₀) (slice from next chunk)) (lend line₀ scratch₀ out₀) (lend line scratch out) (record { from = next; to = length chunk; held = n; end = end; last = false })
 
 abbrev μ-loop : tie.MeasureT-loop
 μ-loop chunk from line₀ held scratch₀ out₀ next₀ n₀ end₀ line scratch out next n end = length chunk - next
@@ -26,18 +27,6 @@ loop-holds c = (refl, refl, refl, omega arith, omega arith, rw taken-nothing (do
 
 sub-if1 : tie.Need-sub-if1 Inv-loop μ-loop
 sub-if1 c = omega arith
-
-same-length : tie.Need-same-length Inv-loop μ-loop
-same-length c = c .before .before .loop .inv .0
-
-same-length-2 : tie.Need-same-length-2 Inv-loop μ-loop
-same-length-2 c = c .before .before .loop .inv .1
-
-same-length-3 : tie.Need-same-length-3 Inv-loop μ-loop
-same-length-3 c = c .before .before .loop .inv .2
-
-returns : tie.Need-returns Inv-loop μ-loop
-returns c = record { done = c .before .before .loop .inv .5; forward = omega arith; next-fits = omega arith; fills = λ m. omega arith }
 
 take-line-requires : tie.Need-take-line-requires Inv-loop μ-loop
 take-line-requires c κs = (omega arith, omega arith, omega arith)
@@ -96,17 +85,29 @@ loop-again-2 c =
     let t = after-take-line .take-line .ensures in
     (t .size ∙ k .inv .0, k .inv .1, k .inv .2, omega (arith, t .forward), t .next-fits, done-held _ _ (k .inv .5) (k .inv .3) t (omega (arith, t .held-fits, t .size)) (c .if2 .left))
 
+same-length : tie.Need-same-length Inv-loop μ-loop
+same-length c = c .before .loop .inv .0
+
+same-length-2 : tie.Need-same-length-2 Inv-loop μ-loop
+same-length-2 c = c .before .loop .inv .1
+
+same-length-3 : tie.Need-same-length-3 Inv-loop μ-loop
+same-length-3 c = c .before .loop .inv .2
+
+returns : tie.Need-returns Inv-loop μ-loop
+returns c = record { done = c .before .loop .inv .5; forward = omega arith; from-fits = omega arith; to = refl; last = refl; fills = λ m. omega arith }
+
 same-length-4 : tie.Need-same-length-4 Inv-loop μ-loop
-same-length-4 c = c .before .loop .inv .0
+same-length-4 c = c .before .before .loop .inv .0
 
 same-length-5 : tie.Need-same-length-5 Inv-loop μ-loop
-same-length-5 c = c .before .loop .inv .1
+same-length-5 c = c .before .before .loop .inv .1
 
 same-length-6 : tie.Need-same-length-6 Inv-loop μ-loop
-same-length-6 c = c .before .loop .inv .2
+same-length-6 c = c .before .before .loop .inv .2
 
 returns-2 : tie.Need-returns-2 Inv-loop μ-loop
-returns-2 c = record { done = c .before .loop .inv .5; forward = omega arith; next-fits = omega arith; fills = λ m. omega arith }
+returns-2 c = record { done = c .before .before .loop .inv .5; forward = omega arith; from-fits = omega arith; to = refl; last = refl; fills = λ m. omega arith }
 
 pub answer-chunk-spec : {M : Type 1} → statement M
 answer-chunk-spec =
@@ -116,10 +117,6 @@ answer-chunk-spec =
     μ-loop
     loop-holds
     sub-if1
-    same-length
-    same-length-2
-    same-length-3
-    returns
     take-line-requires
     slice-reshare-prefix-answer-line
     slice-aggregate-answer-line
@@ -129,6 +126,10 @@ answer-chunk-spec =
     loop-again
     loop-less-2
     loop-again-2
+    same-length
+    same-length-2
+    same-length-3
+    returns
     same-length-4
     same-length-5
     same-length-6

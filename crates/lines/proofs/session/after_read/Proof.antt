@@ -1,13 +1,12 @@
 -- `session::after_read` meets its contract, case by case. Assumes nothing.
 use mathlib.Core.Path.{_≡_, refl, sym, ap, _∙_}
-use native.Mathlib.Omega.{arith}
 use lib.ListN.{length}
 use lib.Seq.{length-take-le}
 use mir.Syntax.{w64}
 use mir.Val.{toZ, ofZ}
 use mir.ValLaws.{toZ-ofZ}
-use Rattle.lines.specs.Session.{reading-of, dropped, AfterRead}
-use Rattle.lines.proofs.Sessions.{chunk-fits, read-as, step-by, finished-by}
+use Rattle.lines.specs.Session.{reading-of, AfterRead}
+use Rattle.lines.proofs.Sessions.{chunk-fits, read-as, finished-by}
 use borrow.Author.Needs.{needs}
 use Rattle.lines.proofs.session.after_read.Statement.{statement}
 use Rattle.lines.proofs.session.after_read.Tie as tie
@@ -22,8 +21,8 @@ reading-requires c κs = search needs
 enum-told : tie.Need-enum-told
 enum-told c = search needs
 
-clear-requires : tie.Need-clear-requires
-clear-requires c κs = search needs
+halt-requires : tie.Need-halt-requires
+halt-requires c κs = search needs
 
 enum-told-2 : tie.Need-enum-told-2
 enum-told-2 c = search needs
@@ -37,30 +36,23 @@ slice-aggregate-answer-last c = sym (length-take-le _ _ (search needs))
 answer-last-requires : tie.Need-answer-last-requires
 answer-last-requires c κs = search needs
 
-clear-requires-2 : tie.Need-clear-requires-2
-clear-requires-2 c κs = search needs
+clear-requires : tie.Need-clear-requires
+clear-requires c κs = search needs
 
 enum-known-n : tie.Need-enum-known-n
 enum-known-n c = search needs
 
-slice-aggregate-answer-more : tie.Need-slice-aggregate-answer-more
-slice-aggregate-answer-more c =
-    let some = c .before .before in
-    let read = some .before .before in
-    sym (length-take-le _ _ (omega (arith, chunk-fits _ _ _ (sym (some .n .given .1) ∙ read .reading .ensures))))
+slice-reshare-prefix-answer-chunk : tie.Need-slice-reshare-prefix-answer-chunk
+slice-reshare-prefix-answer-chunk c = chunk-fits _ _ _ (sym (c .before .n .given .1) ∙ c .before .before .before .reading .ensures)
 
-answer-more-requires : tie.Need-answer-more-requires
-answer-more-requires c κs = search needs
+slice-aggregate-answer-chunk : tie.Need-slice-aggregate-answer-chunk
+slice-aggregate-answer-chunk c = sym (length-take-le _ _ (chunk-fits _ _ _ (sym (c .before .before .n .given .1) ∙ c .before .before .before .before .reading .ensures)))
+
+answer-chunk-requires : tie.Need-answer-chunk-requires
+answer-chunk-requires c κs = search needs
 
 same-length : tie.Need-same-length
 same-length c = search needs
-
-returns : tie.Need-returns
-returns c =
-    let after-clear = c .before .before in
-    let failed = after-clear .before .before in
-    let read = failed .before .before in
-    read-as _ _ _ _ _ _ (read-back (read .before .before .before .before .before) ∙ sym (read .reading .ensures) ∙ failed .enum-told .given .1) (unfold AfterRead dropped in step-by refl (after-clear .clear .ensures) refl refl)
 
 same-length-2 : tie.Need-same-length-2
 same-length-2 c = search needs
@@ -71,13 +63,8 @@ same-length-3 c = search needs
 same-length-4 : tie.Need-same-length-4
 same-length-4 c = search needs
 
-returns-2 : tie.Need-returns-2
-returns-2 c =
-    let after-clear = c .before .before in
-    let answered = after-clear .before .before .before .before .before .before in
-    let ended = answered .before .before .before .before in
-    let read = ended .before .before in
-    read-as _ _ _ _ _ _ (read-back (read .before .before .before .before .before) ∙ sym (read .reading .ensures) ∙ ended .enum-told2 .given .1) (unfold AfterRead in finished-by _ _ (answered .answer-last .ensures) (after-clear .clear2 .ensures))
+returns : tie.Need-returns
+returns c = read-as _ _ _ _ _ _ (read-back (c .before .before .before .before .before .before .before .before .before .before .before .before .before .before .before .before .before .before .before .before) ∙ sym (c .before .before .before .before .before .before .before .before .before .before .before .before .before .before .before .reading .ensures) ∙ c .before .before .before .before .before .before .before .before .before .before .before .before .before .enum-told .given .1) (unfold AfterRead in c .before .before .before .before .before .before .before .before .halt .ensures)
 
 same-length-5 : tie.Need-same-length-5
 same-length-5 c = search needs
@@ -88,12 +75,23 @@ same-length-6 c = search needs
 same-length-7 : tie.Need-same-length-7
 same-length-7 c = search needs
 
+returns-2 : tie.Need-returns-2
+returns-2 c = read-as _ _ _ _ _ _ (read-back (c .before .before .before .before .before .before .before .before .before .before .before .before .before .before .before .before .before .before .before) ∙ sym (c .before .before .before .before .before .before .before .before .before .before .before .before .before .before .reading .ensures) ∙ c .before .before .before .before .before .before .before .before .before .before .before .before .enum-told2 .given .1) (unfold AfterRead in finished-by _ _ (c .before .before .before .before .before .before .before .before .answer-last .ensures) (c .before .before .clear .ensures))
+
+same-length-8 : tie.Need-same-length-8
+same-length-8 c = search needs
+
+same-length-9 : tie.Need-same-length-9
+same-length-9 c = search needs
+
+same-length-10 : tie.Need-same-length-10
+same-length-10 c = search needs
+
+same-length-11 : tie.Need-same-length-11
+same-length-11 c = search needs
+
 returns-3 : tie.Need-returns-3
-returns-3 c =
-    let answered = c .before .before .before .before .before .before in
-    let some = answered .before .before .before .before .before .before in
-    let read = some .before .before in
-    read-as _ _ _ _ _ _ (read-back (read .before .before .before .before .before) ∙ sym (read .reading .ensures) ∙ some .n .given .1) (unfold AfterRead in (answered .answer-more .ensures, refl))
+returns-3 c = read-as _ _ _ _ _ _ (read-back (c .before .before .before .before .before .before .before .before .before .before .before .before .before .before .before .before .before .before .before) ∙ sym (c .before .before .before .before .before .before .before .before .before .before .before .before .before .before .reading .ensures) ∙ c .before .before .before .before .before .before .before .before .before .before .before .before .n .given .1) (unfold AfterRead in record { part = _; after = _; answered = c .before .before .before .before .before .before .answer-chunk .ensures; state = refl })
 
 pub after-read-spec : {M : Type 1} → statement M
 after-read-spec =
@@ -101,22 +99,27 @@ after-read-spec =
     (tie.spec
     reading-requires
     enum-told
-    clear-requires
+    halt-requires
     enum-told-2
     slice-reshare-prefix-answer-last
     slice-aggregate-answer-last
     answer-last-requires
-    clear-requires-2
+    clear-requires
     enum-known-n
-    slice-aggregate-answer-more
-    answer-more-requires
+    slice-reshare-prefix-answer-chunk
+    slice-aggregate-answer-chunk
+    answer-chunk-requires
     same-length
-    returns
     same-length-2
     same-length-3
     same-length-4
-    returns-2
+    returns
     same-length-5
     same-length-6
     same-length-7
+    returns-2
+    same-length-8
+    same-length-9
+    same-length-10
+    same-length-11
     returns-3)
