@@ -25,9 +25,9 @@ pub fn emit(
         return Compiled::Refused(refusal::ROOM, size);
     }
     let mark = limits::marked();
-    copy(&mark, 5, table, 0);
-    table[5] = atoms as u8;
-    put16(table, 6, text as u16);
+    copy(&mark, limits::ATOMS_PLACE, table, 0);
+    table[limits::ATOMS_PLACE] = atoms as u8;
+    put16(table, limits::LENGTH_PLACE, text as u16);
     copy(
         recs,
         limits::RECORD_SIZE * atoms,

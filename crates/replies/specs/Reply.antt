@@ -1,4 +1,4 @@
--- The answer to one line, without its newline. Assumes nothing.
+-- The reply to one line. Assumes nothing.
 use mathlib.Core.Bool.{true, false}
 use mathlib.Core.List.{[], _∷_, _++_}
 use mathlib.Core.Option.{Option, none, some}
@@ -23,10 +23,11 @@ cut-at k line = elim (ltb k (length line)) [ true ↦ some (take k line, drop (s
 unfoldable pub cut : Bytes → Option (Bytes × Bytes)
 cut line = cut-at (first tab-byte line) line
 
--- the verdict with its parts, or the refusal, of a match
+-- the verdict with its parts
 unfoldable pub verdict-text : Matched → Bytes
 verdict-text m = elim (eqb (m .answer .value) 0) [ true ↦ bytes "0" | false ↦ matched-text (m .parts) ]
 
+-- or the refusal of a match
 unfoldable pub match-text : Matched → Bytes
 match-text m = elim (eqb (m .answer .number) 0) [ true ↦ verdict-text m | false ↦ unmatched-text (m .answer .number) ]
 

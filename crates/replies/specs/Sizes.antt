@@ -1,5 +1,6 @@
 -- The numbers and the bytes of the line tool, each named once. Assumes nothing.
-use Prim.Native.Nat.{ℕ, _+_}
+use Prim.Native.Nat.{ℕ, _+_, _*_}
+use Rattle.pattern.specs.Numbers.{parts-room}
 
 -- "lines of at most 1,024 bytes, newline not counted"
 abbrev pub line-limit : ℕ
@@ -50,10 +51,10 @@ refused-room = coded-room + 1 + number-room
 abbrev pub part-room : ℕ
 part-room = 6
 
--- a reply without its newline
+-- a reply without its newline: the longest is a yes with a byte and three digits for each part
 abbrev pub reply-room : ℕ
-reply-room = 400
+reply-room = 1 + 3 * parts-room
 
 -- the output bytes that are lent at least
 abbrev pub out-room : ℕ
-out-room = 512
+out-room = reply-room + 1

@@ -1,7 +1,4 @@
-// The sizes and the bytes of the line tool, each once.
-ghost use mathlib.Core.Path.{_≡_};
-ghost use Rattle.pattern.specs.Numbers.{table-room, parts-room};
-ghost use Rattle.replies.specs.Sizes.{line-limit, held-limit, scratch-size, budget, unset, tab-byte, newline-byte, space-byte, out-room};
+// The sizes and the bytes of the line tool, each once. That they are those of specs/Sizes is part of the proofs that use them.
 use pattern::limits;
 
 // "lines of at most 1,024 bytes, newline not counted"
@@ -23,9 +20,6 @@ pub const NEWLINE: u8 = b'\n';
 
 pub const SPACE: u8 = b' ';
 
-// More than any reply has.
-pub const OUT_ROOM: usize = 512;
-
 // Every table fits, and the parts of every table.
 pub const TABLE_ROOM: usize = limits::HEADER_SIZE
     + limits::RECORD_SIZE * limits::ATOM_LIMIT
@@ -33,35 +27,5 @@ pub const TABLE_ROOM: usize = limits::HEADER_SIZE
 
 pub const PARTS_ROOM: usize = 2 * limits::ATOM_LIMIT;
 
-pub struct Sizes {
-    pub line: usize,
-    pub held: usize,
-    pub scratch: usize,
-    pub budget: u64,
-    pub unset: u8,
-    pub tab: u8,
-    pub newline: u8,
-    pub space: u8,
-    pub out: usize,
-    pub table: usize,
-    pub parts: usize,
-}
-
-// The constants are the numbers of the definitions.
-pub fn all() -> Sizes
-    ensures { λ r. ⌜ r ≡ record { line = line-limit; held = held-limit; scratch = scratch-size; budget = budget; unset = unset; tab = tab-byte; newline = newline-byte; space = space-byte; out = out-room; table = table-room; parts = parts-room } ⌝ }
-{
-    Sizes {
-        line: LINE_LIMIT,
-        held: HELD_LIMIT,
-        scratch: SCRATCH_SIZE,
-        budget: BUDGET,
-        unset: UNSET,
-        tab: TAB,
-        newline: NEWLINE,
-        space: SPACE,
-        out: OUT_ROOM,
-        table: TABLE_ROOM,
-        parts: PARTS_ROOM,
-    }
-}
+// A reply fits, its newline too: the longest is a yes with a comma and three digits for each part.
+pub const OUT_ROOM: usize = 2 + 3 * PARTS_ROOM;
