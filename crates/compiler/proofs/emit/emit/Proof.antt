@@ -49,7 +49,7 @@ copy-requires-2 c κs =
     let after-copy = after-put16 .before .before .before .before in
     let after-if1 = after-copy .before .before .before .before in
     let start = after-if1 .before .before .before .before in
-    let k = simp length-set at (after-put16 .put16 .kept .0) in (start .pre .recs-there, omega (arith, k, after-copy .copy .kept .1 .1 .0, after-if1 .if1 .left))
+    let k = simp length-set at (after-put16 .put16 .kept .0) in (omega (arith, start .pre .recs-there), omega (arith, k, after-copy .copy .kept .1 .1 .0, after-if1 .if1 .left))
 
 copy-requires-3 : tie.Need-copy-requires-3
 copy-requires-3 c κs =
@@ -58,7 +58,7 @@ copy-requires-3 c κs =
     let after-copy = after-put16 .before .before .before .before in
     let after-if1 = after-copy .before .before .before .before in
     let start = after-if1 .before .before .before .before in
-    let k = simp length-set at (after-put16 .put16 .kept .0) in (start .pre .text-there, omega (arith, k, after-copy2 .copy2 .kept .1 .1 .0, after-copy .copy .kept .1 .1 .0, after-if1 .if1 .left))
+    let k = simp length-set at (after-put16 .put16 .kept .0) in (omega (arith, start .pre .text-there), omega (arith, k, after-copy2 .copy2 .kept .1 .1 .0, after-copy .copy .kept .1 .1 .0, after-if1 .if1 .left))
 
 same-length : tie.Need-same-length
 same-length c =
