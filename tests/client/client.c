@@ -45,7 +45,7 @@ static size_t compile(const char *text, uint32_t number, uint64_t position)
 {
     memset(table, DIRT, sizeof table);
     uint32_t found = mpt_compile((const uint8_t *)text, strlen(text), table, sizeof table, answer, sizeof answer);
-    size_t len = mpt_answer_value(answer);
+    size_t len = (size_t)mpt_answer_value(answer);
     printf("compile %.60s: %s at %u, length %u\n", text, mpt_refusal_name(found), (unsigned)mpt_answer_position(answer),
            (unsigned)len);
     expect(found == number, "number of a compile");

@@ -136,7 +136,7 @@ module _ (s : Bytes) (j m : ℕ) (w : j < length s) (e : Ender) (f : kind-at s j
   branch-next t k q g = let (x, y) = ended-quiet t k in onward s j m w (ended k t) q g x y
 
 module _ (s : Bytes) (j m : ℕ) (t : Syntax pattern) (k : Around) (l : ℕ) (h : Option ℕ) (others : List (Syntax pattern)) where
-  -- a closing bracket after a branch
+  -- a closing parenthesis after a branch
   pub closes : j < length s → closing-byte ≡ getD s j 0 → scanned s (ended (within k l h others []) t) j m ≡ scanned s (after l h (group (fork others (only t))), k) (suc j) m
   unfolding kind between chain
   closes w e = branch-next s j m w closing (ap kind (sym e)) t (within k l h others []) _ (rw e at (ended-closes k l h others t []))

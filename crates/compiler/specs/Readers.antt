@@ -124,7 +124,7 @@ unfoldable pub PatternRead : Bytes → State → ℕ → (recs recs′ text text
 PatternRead s st d recs recs′ text text′ (parsed.Done u) = PatternIs s st d recs recs′ text text′ u
 PatternRead s st d recs recs′ text text′ (parsed.Fault f q) = Refused s (st .at .at) (st .atoms) d f q
 
--- the branches of a group, itself in d - 1 groups, with the closing bracket
+-- the branches of a group, itself in d - 1 groups, with the closing parenthesis
 pub record GroupIs (s : Bytes) (st : State) (d : ℕ) (recs recs′ text text′ : Bytes) (u : State) (c : ℕ) : Type 0 where
   pub tree : Syntax branches
   pub moved : Moved s st u

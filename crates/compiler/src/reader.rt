@@ -152,7 +152,7 @@ fn read_atom(s: &[u8], st: State, depth: usize, recs: &mut [u8], pool: &mut [u8]
     }
 }
 
-// The branches of a group, with the closing bracket.
+// The branches of a group, with the closing parenthesis.
 fn read_group(s: &[u8], st: State, depth: usize, recs: &mut [u8], pool: &mut [u8]) -> Grouped
     requires { ⌜ Ready (now s) st depth × Room (now s) (now recs) (now pool) ⌝ }
     ensures { λ r. ⌜ GroupRead (now (s .entry)) st depth (now (recs .entry)) (now (recs .exit)) (now (pool .entry)) (now (pool .exit)) r ⌝ }

@@ -6,7 +6,7 @@ use mathlib.Core.List.{List, [], _∷_, _++_, append-assoc, append-nil}
 use Prim.Native.Nat.{ℕ}
 use native.Mathlib.Omega.{arith}
 use lib.Dec.{ltb}
-use lib.ListN.{length, take, drop, drop-of-length-le}
+use lib.ListN.{length, take, drop, replicate, drop-of-length-le}
 use lib.Seq.{slice, take-all, length-take-le}
 use borrow.Author.Tests.{ltb-false}
 use Rattle.pattern.specs.Bytes.{Bytes}
@@ -14,7 +14,7 @@ use Rattle.pattern.proofs.Tests.{if-true, if-false}
 use Rattle.replies.specs.Reply.{zeros}
 use Rattle.lines.specs.Output.{answers, last-line, first-line, output, lines-in, joined}
 use Rattle.lines.specs.Chunk.{Buffers}
-use Rattle.lines.specs.Session.{started, State, halted, Continues, finished, AfterRead, PendingIn, written, waiting, GoesOn, AfterWrite, Trace, then, Steps, read, end, write, read-fails, write-fails, Runs, none, more}
+use Rattle.lines.specs.Session.{started, State, halted, Continues, finished, AfterRead, PendingIn, written, waiting, GoesOn, AfterWrite, Trace, then, Steps, read, end, write, read-fails, write-fails, Runs, none, more, Sound}
 use Rattle.lines.specs.declared.chunk.Pending.{Pending}
 use Rattle.lines.specs.declared.session.Next.{Next}
 use Rattle.lines.specs.declared.session.Next.the-variants.{Write, Read, Stop}
@@ -166,7 +166,7 @@ no-step (write-fails p input b s′ f a) e = let z : _≡_ {A = ℕ} 0 1 = cc in
 
 -- ---- a run from the first read on
 
-module _ (input : Bytes) (b : Buffers) (fresh : b .scratch ≡ zeros) where
+module _ (input : Bytes) (b : Buffers) where
   abbrev start : State
   start = record { next = started true; input = input; buffers = b }
 
@@ -210,25 +210,26 @@ module _ (input : Bytes) (b : Buffers) (fresh : b .scratch ≡ zeros) where
   runs-go (more turns t u s s′ run step) =
       ⊎-elim (λ g. ⊎-elim (λ a. inl (going-on t u s s′ g a)) (λ f. inr (going-wrong t u s s′ g f)) (step-goes step)) (λ d. absurd (no-step step (d .stop))) (runs-go run)
 
-  start-owed : (chunks : List Bytes) → first-line ++ owed start chunks ≡ output (joined chunks)
-  unfolding started owed
-  start-owed chunks = ap (λ s. first-line ++ in-chunks [] chunks s) fresh ∙ chunks-hold chunks
+  -- scratch is zeros at first
+  start-owed : Sound start → (chunks : List Bytes) → first-line ++ owed start chunks ≡ output (joined chunks)
+  unfolding started owed zeros
+  start-owed y chunks = ap (λ s. first-line ++ in-chunks [] chunks s) (y .tidy .scratch-zero ∙ ap (λ n. replicate n 0) (y .sized .scratch-full)) ∙ chunks-hold chunks
 
   owes-none : (t : Trace) (s : State) → Going t s → t .text ++ owed s [] ≡ owed start (t .chunks)
   owes-none t s g = g .owes [] ∙ ap (λ v. owed start (t .chunks ++ v)) (ahead-none (s .next)) ∙ ap (owed start) (append-nil (t .chunks))
 
   -- what is written after the first line is always a beginning of the output, whatever fails
-  pub runs-begin : {turns : ℕ} {t : Trace} {s : State} → Runs start turns t s → (rest : Bytes) × (first-line ++ (t .text ++ rest) ≡ output (joined (t .chunks)))
-  runs-begin {t = t} {s} run =
-      ⊎-elim (λ g. (owed s [], ap (λ v. first-line ++ v) (owes-none t s g) ∙ start-owed (t .chunks))) (λ d. (d .rest, ap (λ v. first-line ++ v) (d .begins) ∙ start-owed (t .chunks))) (runs-go run)
+  pub runs-begin : {turns : ℕ} {t : Trace} {s : State} → Sound start → Runs start turns t s → (rest : Bytes) × (first-line ++ (t .text ++ rest) ≡ output (joined (t .chunks)))
+  runs-begin {t = t} {s} y run =
+      ⊎-elim (λ g. (owed s [], ap (λ v. first-line ++ v) (owes-none t s g) ∙ start-owed y (t .chunks))) (λ d. (d .rest, ap (λ v. first-line ++ v) (d .begins) ∙ start-owed y (t .chunks))) (runs-go run)
 
   -- and it is the output where nothing failed until it stopped
-  pub runs-hold : {turns : ℕ} {t : Trace} {s : State} → Runs start turns t s → t .well ≡ true → s .next ≡ Stop → first-line ++ t .text ≡ output (joined (t .chunks))
+  pub runs-hold : {turns : ℕ} {t : Trace} {s : State} → Sound start → Runs start turns t s → t .well ≡ true → s .next ≡ Stop → first-line ++ t .text ≡ output (joined (t .chunks))
   unfolding owed
-  runs-hold {t = t} {s} run w e =
+  runs-hold {t = t} {s} y run w e =
       ⊎-elim
       (λ g.
       let nothing : owed s [] ≡ [] = rw e in
-      ap (λ v. first-line ++ v) (sym (append-nil (t .text)) ∙ ap (λ v. t .text ++ v) (sym nothing) ∙ owes-none t s g) ∙ start-owed (t .chunks))
+      ap (λ v. first-line ++ v) (sym (append-nil (t .text)) ∙ ap (λ v. t .text ++ v) (sym nothing) ∙ owes-none t s g) ∙ start-owed y (t .chunks))
       (λ d. absurd (let z : _≡_ {A = Bool} true false = sym w ∙ d .ill in let z : _≡_ {A = ℕ} 0 1 = cc in omega arith))
       (runs-go run)

@@ -1,5 +1,5 @@
 -- The turns of the program's loop: each is a step of its run. Assumes nothing.
-use mathlib.Core.Path.{_≡_, refl, subst}
+use mathlib.Core.Path.{_≡_, refl}
 use Prim.Native.Nat.{ℕ, _+_}
 use native.Mathlib.Omega.{arith}
 use Rattle.lines.specs.Session.{State, Trace, then, Moves, Runs, none, more, Sized, Sound}

@@ -1,10 +1,12 @@
-//! How long a label of digits may be with the scratch and budget that the line tool lends: the tables of docs/LINES.md.
+//! How long a label may be with the scratch and budget that the line tool lends: the tables of docs/LINES.md.
 
 use crate::documents::TELEPHONE;
 use crate::join;
 
-/// A source, the longest label that is answered, and the refusal of one byte more.
-type Longest = (String, usize, &'static str);
+/// A source, the byte of which the label is made, the longest label that is answered, and the refusal of one byte more.
+type Longest = (String, &'static str, usize, &'static str);
+
+const DIGIT: &str = "7";
 
 const SCRATCH: &str = "M 13";
 const BUDGET: &str = "M 15";
@@ -36,22 +38,32 @@ const ATOMS: [(usize, usize, usize, &str); 7] = [
     (64, 21, 21, SCRATCH),
 ];
 
+/// Open groups on bytes that no branch takes.
+const UNTAKEN: [(&str, usize); 3] = [
+    (".(.N,.A)", 65),
+    (".(.(.N,.A))", 60),
+    (".(.(.(.N,.A)))", 57),
+];
+
 fn longest() -> Vec<Longest> {
-    let patterns = PATTERNS.map(|(source, length, refusal)| (source.to_string(), length, refusal));
+    let patterns =
+        PATTERNS.map(|(source, length, refusal)| (source.to_string(), DIGIT, length, refusal));
     let atoms = ATOMS.map(|(count, exact, open, refusal)| {
-        let exact = ("1N".repeat(count), exact, SCRATCH);
-        [exact, (".N".repeat(count), open, refusal)]
+        let exact = ("1N".repeat(count), DIGIT, exact, SCRATCH);
+        [exact, (".N".repeat(count), DIGIT, open, refusal)]
     });
-    [patterns.to_vec(), atoms.concat()].concat()
+    let untaken = UNTAKEN.map(|(source, length)| (source.to_string(), "!", length, BUDGET));
+    [patterns.to_vec(), atoms.concat(), untaken.to_vec()].concat()
 }
 
-fn digits(source: &str, length: usize) -> Vec<u8> {
-    join(source, "7".repeat(length))
+fn line(source: &str, byte: &str, length: usize) -> Vec<u8> {
+    join(source, byte.repeat(length))
 }
 
 pub fn lines() -> Vec<Vec<u8>> {
-    let pair =
-        |(source, length, _): Longest| [digits(&source, length), digits(&source, length + 1)];
+    let pair = |(source, byte, length, _): Longest| {
+        [line(&source, byte, length), line(&source, byte, length + 1)]
+    };
     longest().into_iter().flat_map(pair).collect()
 }
 
@@ -61,10 +73,10 @@ mod tests {
 
     #[test]
     fn as_the_tables_say() {
-        let answer = |source: &str, length| second::line::answer(&digits(source, length));
-        for (source, length, refusal) in longest() {
-            assert!(!answer(&source, length).starts_with('M'), "{source}");
-            assert_eq!(answer(&source, length + 1), refusal, "{source}");
+        let answer = |source: &str, byte, length| second::line::answer(&line(source, byte, length));
+        for (source, byte, length, refusal) in longest() {
+            assert!(!answer(&source, byte, length).starts_with('M'), "{source}");
+            assert_eq!(answer(&source, byte, length + 1), refusal, "{source}");
         }
     }
 }

@@ -46,7 +46,7 @@ slice-reshare-prefix-answer-chunk : tie.Need-slice-reshare-prefix-answer-chunk
 slice-reshare-prefix-answer-chunk c = chunk-fits _ _ _ (sym (c .before .n .given .1) ∙ c .before .before .before .reading .ensures)
 
 slice-aggregate-answer-chunk : tie.Need-slice-aggregate-answer-chunk
-slice-aggregate-answer-chunk c = sym (length-take-le _ _ (chunk-fits _ _ _ (sym (c .before .before .n .given .1) ∙ c .before .before .before .before .reading .ensures)))
+slice-aggregate-answer-chunk c = let some = c .before .before in sym (length-take-le _ _ (chunk-fits _ _ _ (sym (some .n .given .1) ∙ some .before .before .reading .ensures)))
 
 answer-chunk-requires : tie.Need-answer-chunk-requires
 answer-chunk-requires c κs = search needs
@@ -64,7 +64,11 @@ same-length-4 : tie.Need-same-length-4
 same-length-4 c = search needs
 
 returns : tie.Need-returns
-returns c = read-as _ _ _ _ _ _ (read-back (c .before .before .before .before .before .before .before .before .before .before .before .before .before .before .before .before .before .before .before .before) ∙ sym (c .before .before .before .before .before .before .before .before .before .before .before .before .before .before .before .reading .ensures) ∙ c .before .before .before .before .before .before .before .before .before .before .before .before .before .enum-told .given .1) (unfold AfterRead in c .before .before .before .before .before .before .before .before .halt .ensures)
+returns c =
+    let after-halt = c .before .before .before .before .before .before .before .before in
+    let failed = after-halt .before .before .before .before .before in
+    let read = failed .before .before in
+    read-as _ _ _ _ _ _ (read-back (read .before .before .before .before .before) ∙ sym (read .reading .ensures) ∙ failed .enum-told .given .1) (unfold AfterRead in after-halt .halt .ensures)
 
 same-length-5 : tie.Need-same-length-5
 same-length-5 c = search needs
@@ -76,7 +80,12 @@ same-length-7 : tie.Need-same-length-7
 same-length-7 c = search needs
 
 returns-2 : tie.Need-returns-2
-returns-2 c = read-as _ _ _ _ _ _ (read-back (c .before .before .before .before .before .before .before .before .before .before .before .before .before .before .before .before .before .before .before) ∙ sym (c .before .before .before .before .before .before .before .before .before .before .before .before .before .before .reading .ensures) ∙ c .before .before .before .before .before .before .before .before .before .before .before .before .enum-told2 .given .1) (unfold AfterRead in finished-by _ _ (c .before .before .before .before .before .before .before .before .answer-last .ensures) (c .before .before .clear .ensures))
+returns-2 c =
+    let after-clear = c .before .before in
+    let answered = after-clear .before .before .before .before .before .before in
+    let ended = answered .before .before .before .before in
+    let read = ended .before .before in
+    read-as _ _ _ _ _ _ (read-back (read .before .before .before .before .before) ∙ sym (read .reading .ensures) ∙ ended .enum-told2 .given .1) (unfold AfterRead in finished-by _ _ (answered .answer-last .ensures) (after-clear .clear .ensures))
 
 same-length-8 : tie.Need-same-length-8
 same-length-8 c = search needs
@@ -91,7 +100,12 @@ same-length-11 : tie.Need-same-length-11
 same-length-11 c = search needs
 
 returns-3 : tie.Need-returns-3
-returns-3 c = read-as _ _ _ _ _ _ (read-back (c .before .before .before .before .before .before .before .before .before .before .before .before .before .before .before .before .before .before .before) ∙ sym (c .before .before .before .before .before .before .before .before .before .before .before .before .before .before .reading .ensures) ∙ c .before .before .before .before .before .before .before .before .before .before .before .before .n .given .1) (unfold AfterRead in record { part = _; after = _; answered = c .before .before .before .before .before .before .answer-chunk .ensures; state = refl })
+returns-3 c =
+    let answered = c .before .before .before .before .before .before in
+    let some = answered .before .before .before .before .before .before in
+    let read = some .before .before in
+    read-as _ _ _ _ _ _ (read-back (read .before .before .before .before .before) ∙ sym (read .reading .ensures) ∙ some .n .given .1)
+    (unfold AfterRead in record { part = _; after = _; answered = answered .answer-chunk .ensures; state = refl })
 
 pub after-read-spec : {M : Type 1} → statement M
 after-read-spec =

@@ -29,7 +29,10 @@ same-length-4 c = search needs
 
 returns : tie.Need-returns
 unfolding GoesOn
-returns c = rw (sym (c .before .before .before .before .before .before .before .before .before .before .before .before .before .before .goes-on .ensures) ∙ not-true _ (c .before .before .before .before .before .before .before .before .before .before .before .before .before .if1 .taken)) (c .before .before .before .before .before .before .before .before .halt .ensures)
+returns c =
+    let after-halt = c .before .before .before .before .before .before .before .before in
+    let wrote = after-halt .before .before .before .before .before .before in
+    rw (sym (wrote .goes-on .ensures) ∙ not-true _ (after-halt .before .before .before .before .before .if1 .taken)) (after-halt .halt .ensures)
 
 clear-requires : tie.Need-clear-requires
 clear-requires c κs = search needs
@@ -61,8 +64,12 @@ same-length-8 c = search needs
 returns-2 : tie.Need-returns-2
 unfolding GoesOn written
 returns-2 c =
-    rw (sym (c .before .before .before .before .before .before .before .before .before .before .before .before .before .before .before .before .before .goes-on .ensures) ∙ not-false _ (c .before .before .before .before .before .before .before .before .before .before .before .before .before .before .before .before .if1 .left), lt-ltb _ _ (c .before .before .before .before .before .before .before .before .before .before .before .if2 .taken))
-    (record { part = _; after = _; answered = rw (c .before .before .before .before .before .before .before .before .before .before .before .before .before .before .clear .ensures) at (c .before .before .before .before .before .before .answer-chunk .ensures); state = refl })
+    let answered = c .before .before .before .before .before .before in
+    let more = answered .before .before .before .before .before in
+    let cleared = more .before .before .before in
+    let wrote = cleared .before .before .before in
+    rw (sym (wrote .goes-on .ensures) ∙ not-false _ (cleared .before .before .if1 .left), lt-ltb _ _ (more .if2 .taken))
+    (record { part = _; after = _; answered = rw (cleared .clear .ensures) at (answered .answer-chunk .ensures); state = refl })
 
 clear-requires-2 : tie.Need-clear-requires-2
 clear-requires-2 c κs = search needs
@@ -76,8 +83,10 @@ same-length-10 c = search needs
 returns-3 : tie.Need-returns-3
 unfolding GoesOn written waiting
 returns-3 c =
-    rw (sym (c .before .before .before .before .before .before .before .before .before .before .goes-on .ensures) ∙ not-false _ (c .before .before .before .before .before .before .before .before .before .if1 .left), le-ltb _ _ (c .before .before .before .before .if2 .left))
-    (state-by (c .before .before .clear2 .ensures) refl refl (c .before .before .before .before .before .before .before .clear .ensures))
+    let whole = c .before .before .before .before in
+    let cleared = whole .before .before .before in
+    let wrote = cleared .before .before .before in
+    rw (sym (wrote .goes-on .ensures) ∙ not-false _ (cleared .before .before .if1 .left), le-ltb _ _ (whole .if2 .left)) (state-by (c .before .before .clear2 .ensures) refl refl (cleared .clear .ensures))
 
 pub after-write-spec : {M : Type 1} → statement M
 after-write-spec =
