@@ -5,7 +5,7 @@ use mathlib.Core.List.{[], _∷_}
 use Prim.Native.Nat.{ℕ, _+_, _-_, _≤_}
 use native.Mathlib.Omega.{arith}
 use lib.Dec.{eqb, ltb}
-use lib.ListN.{length, take, drop, replicate, length-append, length-drop, length-replicate}
+use lib.ListN.{length, take, drop, length-append}
 use lib.Seq.{slice, drop-length, drop-drop, length-take-le}
 use Rattle.pattern.specs.Bytes.{Bytes, over}
 use Rattle.pattern.proofs.Stores.{puts-length}
@@ -35,9 +35,6 @@ all-zeroed s = rest-zeroed (length s) s (subst Zero (sym (drop-length s)) refl)
 -- past a text that is over zeros
 past-zero : (v s : Bytes) → Zero s → Zero (drop (length v) (over v s))
 past-zero v s z = subst Zero (sym (drop-over (length v) v s (omega arith))) (drop-zero (length v) s z)
-
-length-zeroed : (n : ℕ) (s : Bytes) → n ≤ length s → length (zeroed n s) ≡ length s
-length-zeroed n s h = omega (arith, length-append (replicate n 0) (drop n s), length-replicate {A = ℕ} n 0, length-drop n s)
 
 -- past what is held of a line there are zeros, if there were
 abbrev Blank : LinesIn → Bytes → Type 0

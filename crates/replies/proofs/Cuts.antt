@@ -1,9 +1,10 @@
 -- A source without a tab, a tab and a label are cut so. Assumes nothing.
-use mathlib.Core.Path.{_≡_, refl, ap, ap₂, _∙_}
+use mathlib.Core.Path.{_≡_, refl, sym, ap, ap₂, _∙_}
 use mathlib.Core.Bool.{Bool, true, false}
 use mathlib.Core.List.{[], _∷_, _++_}
 use mathlib.Core.Option.{some}
 use Prim.Native.Nat.{ℕ, suc, _+_, _<_}
+use native.Mathlib.Numerals.{add-one}
 use native.Mathlib.Omega.{arith}
 use lib.Dec.{eqb}
 use lib.ListN.{length, drop, length-append}
@@ -25,13 +26,10 @@ first-after b (c ∷ u) w e = go (eqb c b) e (first-after b u w)
     go false e r = ap suc (r (omega arith))
 
 -- "cut at the first tab"
-cut-first : (source label : Bytes) → first tab-byte source ≡ length source → cut (source ++ tab-byte ∷ label) ≡ some (source, label)
+pub cut-first : (source label : Bytes) → first tab-byte source ≡ length source → cut (source ++ tab-byte ∷ label) ≡ some (source, label)
 unfolding cut cut-at
 cut-first source label e =
     let line : Bytes = source ++ tab-byte ∷ label in
     let there : length source < length line = omega (arith, length-append source (tab-byte ∷ label)) in
     ap (λ k. cut-at k line) (first-after tab-byte source label e) ∙ if-true _ _ _ (lt-ltb (length source) (length line) there)
-    ∙ ap₂ (λ x y. some (x, y)) (take-append-seam source (tab-byte ∷ label)) (ap (λ k. drop k line) (add-one′ (length source)) ∙ drop-append-add source (tab-byte ∷ label) 1)
-  where
-    add-one′ : (n : ℕ) → suc n ≡ n + 1
-    add-one′ n = omega arith
+    ∙ ap₂ (λ x y. some (x, y)) (take-append-seam source (tab-byte ∷ label)) (ap (λ k. drop k line) (sym (add-one (length source))) ∙ drop-append-add source (tab-byte ∷ label) 1)
