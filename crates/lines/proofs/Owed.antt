@@ -3,11 +3,11 @@ use mathlib.Core.Path.{_≡_, refl, sym, ap, ap₂, _∙_}
 use mathlib.Core.Logic.{_⊎_, inl, inr, ⊎-elim}
 use mathlib.Core.Bool.{Bool, true, false, not, _&&_}
 use mathlib.Core.List.{List, [], _∷_, _++_, append-assoc, append-nil}
-use Prim.Native.Nat.{ℕ}
+use Prim.Native.Nat.{ℕ, _≤_}
 use native.Mathlib.Omega.{arith}
 use lib.Dec.{ltb}
-use lib.ListN.{length, take, drop, replicate, drop-of-length-le}
-use lib.Seq.{slice, take-all, length-take-le}
+use lib.ListN.{length, take, drop, replicate, drop-of-length-le, take-append-drop}
+use lib.Seq.{slice, take-all, take-take, length-take-le}
 use borrow.Author.Tests.{ltb-false}
 use Rattle.pattern.specs.Bytes.{Bytes}
 use Rattle.pattern.proofs.Tests.{if-true, if-false}
@@ -19,6 +19,7 @@ use Rattle.lines.specs.declared.chunk.Pending.{Pending}
 use Rattle.lines.specs.declared.session.Next.{Next}
 use Rattle.lines.specs.declared.session.Next.the-variants.{Write, Read, Stop}
 use Rattle.lines.proofs.Lines.{slice-join}
+use Rattle.lines.proofs.Sessions.{apart, not-stop-read, not-stop-write}
 use Rattle.lines.proofs.Answering.{take-over, take-replied, held-over}
 use Rattle.lines.proofs.Chunks.{in-chunks, in-parts, chunks-hold}
 
@@ -126,14 +127,22 @@ module _ (p : Pending) (input : Bytes) (b : Buffers) (s : State) (f : PendingIn 
       go true l a = last-pays (ltb (p .from) (p .to)) l a
       go false l a = rest-pays (ltb (p .from) (p .to)) refl l a
 
--- a step that fails stops
-record Fails (t : Trace) (s′ : State) : Type 0 where
-  trace : t ≡ record { chunks = []; text = []; well = false }
+-- the first bytes of a text that is written, the rest of it, and more
+in-two : (k n : ℕ) (s v : Bytes) → k ≤ n → take k s ++ (drop k (take n s) ++ v) ≡ take n s ++ v
+in-two k n s v h =
+    ap (λ x. x ++ (drop k (take n s) ++ v)) (sym (take-take k n s h)) ∙ sym (append-assoc (take k (take n s)) (drop k (take n s)) v) ∙ ap (λ x. x ++ v) (take-append-drop k (take n s))
+
+-- a step that fails stops, and what it wrote is a beginning of what was owed
+record Fails (s : State) (t : Trace) (s′ : State) : Type 0 where
+  ill : t .well ≡ false
+  unread : t .chunks ≡ []
+  rest : Bytes
+  begins : t .text ++ rest ≡ owed s []
   stop : s′ .next ≡ Stop
 
-step-goes : {s s′ : State} {t : Trace} → Steps s t s′ → Pays s t s′ ⊎ Fails t s′
+step-goes : {s s′ : State} {t : Trace} → Steps s t s′ → Pays s t s′ ⊎ Fails s t s′
 unfolding AfterRead GoesOn finished halted owed ahead in-chunks joined lines-in
-step-goes (read held n input input′ b s′ h a) =
+step-goes (read held n input input′ b s′ g h a) =
     inl
     (record {
       well = refl;
@@ -153,22 +162,30 @@ step-goes (end held input input′ b s′ a) =
       keeps = λ chunks. refl;
     })
 step-goes (write p input b s′ f a) = inl (write-pays p input b s′ f a)
-step-goes (read-fails held input input′ b s′ a) = inr (record { trace = refl; stop = ap (λ (x : State). x .next) a })
-step-goes (write-fails p input b s′ f a) = inr (record { trace = refl; stop = ap (λ (x : State). x .next) a })
+step-goes (read-fails held input input′ b s′ a) = inr (record { ill = refl; unread = refl; rest = _; begins = refl; stop = ap (λ (x : State). x .next) a })
+step-goes (write-fails p k input b s′ h f a) =
+    inr
+    (record {
+      ill = refl;
+      unread = refl;
+      rest = drop k (take (p .end) (b .out)) ++ _;
+      begins = in-two k (p .end) (b .out) _ h;
+      stop = ap (λ (x : State). x .next) a;
+    })
 
 -- nothing is done after a stop
 no-step : {s s′ : State} {t : Trace} → Steps s t s′ → s .next ≡ Stop → ⊥
-no-step (read held n input input′ b s′ h a) e = let z : _≡_ {A = ℕ} 0 1 = cc in omega arith
-no-step (end held input input′ b s′ a) e = let z : _≡_ {A = ℕ} 0 1 = cc in omega arith
-no-step (write p input b s′ f a) e = let z : _≡_ {A = ℕ} 0 1 = cc in omega arith
-no-step (read-fails held input input′ b s′ a) e = let z : _≡_ {A = ℕ} 0 1 = cc in omega arith
-no-step (write-fails p input b s′ f a) e = let z : _≡_ {A = ℕ} 0 1 = cc in omega arith
+no-step (read held n input input′ b s′ g h a) e = not-stop-read e
+no-step (end held input input′ b s′ a) e = not-stop-read e
+no-step (write p input b s′ f a) e = not-stop-write e
+no-step (read-fails held input input′ b s′ a) e = not-stop-read e
+no-step (write-fails p k input b s′ h f a) e = not-stop-write e
 
--- ---- a run from the first read on
+-- ---- a whole run
 
 module _ (input : Bytes) (b : Buffers) where
   abbrev start : State
-  start = record { next = started true; input = input; buffers = b }
+  start = started input b
 
   -- nothing has failed: what was written, and what is owed
   record Going (t : Trace) (s : State) : Type 0 where
@@ -176,7 +193,7 @@ module _ (input : Bytes) (b : Buffers) where
     owes : (chunks : List Bytes) → t .text ++ owed s chunks ≡ owed start (t .chunks ++ ahead (s .next) chunks)
 
   -- something failed: what was written is a beginning
-  record Gone (t : Trace) (s : State) : Type 0 where
+  record Broken (t : Trace) (s : State) : Type 0 where
     ill : t .well ≡ false
     stop : s .next ≡ Stop
     rest : Bytes
@@ -193,43 +210,44 @@ module _ (input : Bytes) (b : Buffers) where
             ∙ ap (λ v. owed start (t .chunks ++ v)) (a .keeps chunks) ∙ ap (owed start) (sym (append-assoc (t .chunks) (u .chunks) _));
       }
 
-  going-wrong : (t u : Trace) (s s′ : State) → Going t s → Fails u s′ → Gone (then t u) s′
+  going-wrong : (t u : Trace) (s s′ : State) → Going t s → Fails s u s′ → Broken (then t u) s′
   unfolding then
   going-wrong t u s s′ g f =
-      rw (f .trace)
-      (record {
-        ill = ap (λ w. w && false) (g .well);
+      record {
+        ill = ap₂ (λ v w. v && w) (g .well) (f .ill);
         stop = f .stop;
-        rest = owed s [];
-        begins = ap (λ v. v ++ owed s []) (append-nil (t .text)) ∙ g .owes [] ∙ ap (λ v. owed start (t .chunks ++ v)) (ahead-none (s .next));
-      })
+        rest = f .rest;
+        begins =
+            append-assoc (t .text) (u .text) (f .rest) ∙ ap (λ v. t .text ++ v) (f .begins) ∙ g .owes [] ∙ ap (λ v. owed start (t .chunks ++ v)) (ahead-none (s .next) ∙ sym (f .unread));
+      }
 
-  runs-go : {turns : ℕ} {t : Trace} {s : State} → Runs start turns t s → Going t s ⊎ Gone t s
+  runs-go : {turns : ℕ} {t : Trace} {s : State} → Runs start turns t s → Going t s ⊎ Broken t s
   unfolding started owed ahead
   runs-go none = inl (record { well = refl; owes = λ chunks. refl })
   runs-go (more turns t u s s′ run step) =
       ⊎-elim (λ g. ⊎-elim (λ a. inl (going-on t u s s′ g a)) (λ f. inr (going-wrong t u s s′ g f)) (step-goes step)) (λ d. absurd (no-step step (d .stop))) (runs-go run)
 
   -- scratch is zeros at first
-  start-owed : Sound start → (chunks : List Bytes) → first-line ++ owed start chunks ≡ output (joined chunks)
-  unfolding started owed zeros
-  start-owed y chunks = ap (λ s. first-line ++ in-chunks [] chunks s) (y .tidy .scratch-zero ∙ ap (λ n. replicate n 0) (y .sized .scratch-full)) ∙ chunks-hold chunks
+  start-owed : Sound (record { next = Stop; input = input; buffers = b }) → (chunks : List Bytes) → owed start chunks ≡ output (joined chunks)
+  unfolding started owed zeros joined in-chunks
+  start-owed y chunks =
+      ap₂ (λ v s. v ++ in-chunks [] ([] ∷ chunks) s) (take-over first-line (b .out)) (y .tidy .scratch-zero ∙ ap (λ n. replicate n 0) (y .sized .scratch-full)) ∙ chunks-hold ([] ∷ chunks)
 
   owes-none : (t : Trace) (s : State) → Going t s → t .text ++ owed s [] ≡ owed start (t .chunks)
   owes-none t s g = g .owes [] ∙ ap (λ v. owed start (t .chunks ++ v)) (ahead-none (s .next)) ∙ ap (owed start) (append-nil (t .chunks))
 
-  -- what is written after the first line is always a beginning of the output, whatever fails
-  pub runs-begin : {turns : ℕ} {t : Trace} {s : State} → Sound start → Runs start turns t s → (rest : Bytes) × (first-line ++ (t .text ++ rest) ≡ output (joined (t .chunks)))
-  runs-begin {t = t} {s} y run =
-      ⊎-elim (λ g. (owed s [], ap (λ v. first-line ++ v) (owes-none t s g) ∙ start-owed y (t .chunks))) (λ d. (d .rest, ap (λ v. first-line ++ v) (d .begins) ∙ start-owed y (t .chunks))) (runs-go run)
+  module _ (fresh : Sound (record { next = Stop; input = input; buffers = b })) where
+    -- what is written is always a beginning of the output, whatever fails
+    pub runs-begin : {turns : ℕ} {t : Trace} {s : State} → Runs start turns t s → (rest : Bytes) × (t .text ++ rest ≡ output (joined (t .chunks)))
+    runs-begin {t = t} {s} run = ⊎-elim (λ g. (owed s [], owes-none t s g ∙ start-owed fresh (t .chunks))) (λ d. (d .rest, d .begins ∙ start-owed fresh (t .chunks))) (runs-go run)
 
-  -- and it is the output where nothing failed until it stopped
-  pub runs-hold : {turns : ℕ} {t : Trace} {s : State} → Sound start → Runs start turns t s → t .well ≡ true → s .next ≡ Stop → first-line ++ t .text ≡ output (joined (t .chunks))
-  unfolding owed
-  runs-hold {t = t} {s} y run w e =
-      ⊎-elim
-      (λ g.
-      let nothing : owed s [] ≡ [] = rw e in
-      ap (λ v. first-line ++ v) (sym (append-nil (t .text)) ∙ ap (λ v. t .text ++ v) (sym nothing) ∙ owes-none t s g) ∙ start-owed y (t .chunks))
-      (λ d. absurd (let z : _≡_ {A = Bool} true false = sym w ∙ d .ill in let z : _≡_ {A = ℕ} 0 1 = cc in omega arith))
-      (runs-go run)
+    -- and it is the output where nothing failed until it stopped
+    pub runs-hold : {turns : ℕ} {t : Trace} {s : State} → Runs start turns t s → t .well ≡ true → s .next ≡ Stop → t .text ≡ output (joined (t .chunks))
+    unfolding owed
+    runs-hold {t = t} {s} run w e =
+        ⊎-elim
+        (λ g.
+        let nothing : owed s [] ≡ [] = rw e in
+        sym (append-nil (t .text)) ∙ ap (λ v. t .text ++ v) (sym nothing) ∙ owes-none t s g ∙ start-owed fresh (t .chunks))
+        (λ d. apart (sym w ∙ d .ill))
+        (runs-go run)

@@ -1,5 +1,5 @@
 -- What a read's answer means, and what lent bytes are after a session's steps. Assumes nothing.
-use mathlib.Core.Path.{_≡_, refl, sym, ap, _∙_, subst}
+use mathlib.Core.Path.{_≡_, refl, sym, ap, ap₂, _∙_, subst}
 use mathlib.Core.Bool.{Bool, true, false, cond}
 use Prim.Native.Nat.{ℕ, zero, suc, min, _≤_}
 use native.Mathlib.Omega.{arith}
@@ -13,15 +13,21 @@ use Rattle.pattern.proofs.Stores.{stored-over}
 use Rattle.replies.specs.Reply.{Reply}
 use Rattle.replies.specs.Stores.{zeroed, Replied}
 use Rattle.lines.specs.Chunk.{Buffers, lend}
-use Rattle.lines.specs.Session.{reading-of, State, finished, AfterRead, PendingIn, AfterWrite, read, end, write, read-fails, write-fails, Moves}
+use Rattle.lines.specs.Session.{reading-of, State, started, Starts, finished, AfterRead, PendingIn, AfterWrite, read, end, write, read-fails, write-fails, Moves}
 use Rattle.lines.specs.declared.session.Input.{Input}
 use Rattle.lines.specs.declared.session.Next.{Next}
 use Rattle.lines.specs.declared.chunk.Pending.{Pending}
-use Rattle.lines.specs.declared.session.Next.the-variants.{Write, Read}
+use Rattle.lines.specs.declared.session.Next.the-variants.{Write, Read, Stop}
 use Rattle.lines.specs.declared.session.Input.the-variants.{Failed, Ended, Chunk}
 
-apart : {X : Type 0} → true ≡ false → X
+pub apart : {X : Type 0} → true ≡ false → X
 apart e = absurd (omega (arith, ap (λ b. cond b (suc 0) 0) e))
+
+pub not-stop-read : {X : Type 0} {held : ℕ} → Read held ≡ Stop → X
+not-stop-read e = absurd (let z : _≡_ {A = ℕ} 0 1 = cc in omega arith)
+
+pub not-stop-write : {X : Type 0} {p : Pending} → Write p ≡ Stop → X
+not-stop-write e = absurd (let z : _≡_ {A = ℕ} 0 1 = cc in omega arith)
 
 pub not-negative : (z : ℤ) → ltZ z (pos 0) ≡ false → T (nonNeg z)
 not-negative (pos k) e = tt
@@ -60,24 +66,36 @@ module _ (room : ℕ) where
       counted (pos (suc k)) = omega arith
       counted (negsuc k) = omega arith
 
+  -- and it has bytes
+  pub chunk-some : 1 ≤ room → (z : ℤ) (n : ℕ) → Chunk n ≡ reading-of z room → 1 ≤ n
+  unfolding reading-of
+  chunk-some h (pos zero) n e = absurd (let z : _≡_ {A = ℕ} 0 1 = cc in omega arith)
+  chunk-some h (pos (suc k)) n e = omega (arith, ap count-of e)
+  chunk-some h (negsuc k) n e = absurd (let z : _≡_ {A = ℕ} 0 1 = cc in omega arith)
+
 -- by another name of what was read
 pub read-as : (i j : Input) (held : ℕ) (input : Bytes) (b : Buffers) (s : State) → i ≡ j → AfterRead j held input b s → AfterRead i held input b s
 read-as i j held input b s e a = subst (λ x. AfterRead x held input b s) (sym e) a
 
 -- a read is a step, and so is a write
-pub read-moves : (i : Input) (held : ℕ) (input input′ : Bytes) (b : Buffers) (s : State) → AfterRead i held input′ b s → ((n : ℕ) → Chunk n ≡ i → n ≤ length input′) → Moves (record { next = Read held; input = input; buffers = b }) s
+pub read-moves : (i : Input) (held : ℕ) (input input′ : Bytes) (b : Buffers) (s : State) → AfterRead i held input′ b s → ((n : ℕ) → Chunk n ≡ i → (1 ≤ n) × (n ≤ length input′)) → Moves (record { next = Read held; input = input; buffers = b }) s
 read-moves Failed held input input′ b s a f = record { trace = _; step = read-fails held input input′ b s a }
 read-moves Ended held input input′ b s a f = record { trace = _; step = end held input input′ b s a }
-read-moves (Chunk n) held input input′ b s a f = record { trace = _; step = read held n input input′ b s (f n refl) a }
+read-moves (Chunk n) held input input′ b s a f = record { trace = _; step = read held n input input′ b s (f n refl .0) (f n refl .1) a }
 
 pub write-moves : (wrote : Bool) (p : Pending) (input : Bytes) (b : Buffers) (s : State) → PendingIn p input b → AfterWrite wrote p input b s → Moves (record { next = Write p; input = input; buffers = b }) s
 write-moves true p input b s f a = record { trace = _; step = write p input b s f a }
-write-moves false p input b s f a = record { trace = _; step = write-fails p input b s f a }
+write-moves false p input b s f a = record { trace = _; step = write-fails p 0 input b s (omega arith) f a }
 
 -- a state by its bytes
 pub state-by : {next : Next} {i i′ l l′ w w′ o o′ : Bytes} → i ≡ i′ → l ≡ l′ → w ≡ w′ → o ≡ o′
     → _≡_ {A = State} (record { next = next; input = i; buffers = lend l w o }) (record { next = next; input = i′; buffers = lend l′ w′ o′ })
 state-by a b c d = cc
+
+-- the first state
+pub started-by : (input line scratch : Bytes) {out out′ : Bytes} {r : Next} → Starts out out′ r → record { next = r; input = input; buffers = lend line scratch out′ } ≡ started input (lend line scratch out)
+unfolding started
+started-by input line scratch a = ap₂ (λ n o. record { next = n; input = input; buffers = lend line scratch o }) (a .next) (a .bytes)
 
 -- the reply to the last line is over the output
 pub finished-by : (held : ℕ) (b : Buffers) {end : ℕ} {input scratch′ out′ line′ : Bytes} {last : Reply} → Replied (length (b .out)) last (b .out) 0 scratch′ out′ end → line′ ≡ zeroed held (b .line)

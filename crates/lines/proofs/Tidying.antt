@@ -7,20 +7,20 @@ use native.Mathlib.Omega.{arith}
 use lib.Dec.{eqb, ltb}
 use lib.ListN.{length, take, drop, length-append}
 use lib.Seq.{slice, drop-length, drop-drop, length-take-le}
-use Rattle.pattern.specs.Bytes.{Bytes, over}
+use Rattle.pattern.specs.Bytes.{Bytes, over, bytes}
 use Rattle.pattern.proofs.Stores.{puts-length}
 use Rattle.replies.specs.Sizes.{newline-byte}
 use Rattle.replies.specs.Stores.{zeroed, Zero}
 use Rattle.replies.proofs.Zeros.{drop-zero, rest-zeroed}
-use Rattle.lines.specs.Output.{answers, last-line, hold, LinesIn, line-first, lines-in, wiped}
+use Rattle.lines.specs.Output.{answers, last-line, first-line, hold, LinesIn, line-first, lines-in, wiped}
 use Rattle.lines.specs.Chunk.{Buffers}
 use Rattle.lines.specs.Session.{started, State, halted, Continues, finished, AfterRead, PendingIn, written, waiting, GoesOn, Trace, Steps, read, end, write, read-fails, write-fails, NextIn, Tidy, Sized, Sound}
 use Rattle.lines.specs.declared.chunk.Pending.{Pending}
-use Rattle.lines.specs.declared.session.Next.{Next}
-use Rattle.lines.specs.declared.session.Next.the-variants.{Write}
+use Rattle.lines.specs.declared.session.Next.the-variants.{Write, Stop}
 use Rattle.lines.proofs.Lines.{hold-longer}
 use Rattle.lines.proofs.Answering.{drop-over, drop-replied}
 use Rattle.lines.proofs.Chunks.{answers-same}
+use Rattle.lines.proofs.Sessions.{not-stop-read, not-stop-write}
 
 -- ---- zeros
 
@@ -87,7 +87,7 @@ module _ (held : ℕ) (input : Bytes) (b : Buffers) (line-zero : Zero (drop held
                   (wiped-zero (take held (b .line)) (slice from (p .from) chunk) (b .line) begun);
               scratch-zero = subst Zero (sym (d .replied .works ∙ answers-same (l .ended) (b .scratch) scratch-zero)) scratch-zero;
               out-zero = subst Zero (sym (drop-replied (d .replied))) (drop-zero (p .end) (b .out) out-zero);
-              input-zero = λ f. absurd (let z : _≡_ {A = ℕ} 0 1 = cc in omega arith);
+              input-zero = not-stop-write;
             };
         sized = y;
       })
@@ -104,7 +104,7 @@ module _ (held : ℕ) (input : Bytes) (b : Buffers) (line-zero : Zero (drop held
               line-zero = rest-zeroed held (b .line) line-zero;
               scratch-zero = subst Zero (sym (answers-same (last-line lines) (b .scratch) scratch-zero)) scratch-zero;
               out-zero = past-zero (r .text) (b .out) out-zero;
-              input-zero = λ f. absurd (let z : _≡_ {A = ℕ} 0 1 = cc in omega arith);
+              input-zero = not-stop-write;
             };
         sized = z;
       }
@@ -121,7 +121,7 @@ module _ (p : Pending) (input : Bytes) (b : Buffers) (f : PendingIn p input b) (
       (λ y.
       record {
         ready = f .lent .held-fits;
-        tidy = record { line-zero = t .line-zero; scratch-zero = t .scratch-zero; out-zero = rest-zeroed (p .end) (b .out) (t .out-zero); input-zero = λ f. absurd (let z : _≡_ {A = ℕ} 0 1 = cc in omega arith) };
+        tidy = record { line-zero = t .line-zero; scratch-zero = t .scratch-zero; out-zero = rest-zeroed (p .end) (b .out) (t .out-zero); input-zero = not-stop-read };
         sized = y;
       })
       z
@@ -134,13 +134,13 @@ module _ (p : Pending) (input : Bytes) (b : Buffers) (f : PendingIn p input b) (
 -- what holds between steps holds after each, if the buffers keep their sizes
 pub steps-sound : {s s′ : State} {t : Trace} → Steps s t s′ → Sound s → Sized s′ → Sound s′
 unfolding AfterRead NextIn
-steps-sound (read held n input input′ b s′ h a) y z =
+steps-sound (read held n input input′ b s′ g h a) y z =
     continues-sound held input′ b (y .tidy .line-zero) (y .tidy .scratch-zero) (y .tidy .out-zero) (omega (arith, y .ready, y .sized .line-size)) s′ a (omega (arith, length-take-le n input′ h)) z
 steps-sound (end held input input′ b s′ a) y z =
     sound-as a (finished-sound held input′ b (y .tidy .line-zero) (y .tidy .scratch-zero) (y .tidy .out-zero) (omega (arith, y .ready, y .sized .line-size)) (take held (b .line))) z
 steps-sound (write p input b s′ f a) y z = write-sound p input b f (y .tidy) s′ (true && not (p .last)) (ltb (p .from) (p .to)) a z
 steps-sound (read-fails held input input′ b s′ a) y z = sound-as a (halted-sound input′ b) z
-steps-sound (write-fails p input b s′ f a) y z = write-sound p input b f (y .tidy) s′ (false && not (p .last)) (ltb (p .from) (p .to)) a z
+steps-sound (write-fails p k input b s′ h f a) y z = write-sound p input b f (y .tidy) s′ (false && not (p .last)) (ltb (p .from) (p .to)) a z
 
 -- ---- in the program
 
@@ -148,12 +148,12 @@ pub sized-as : {s s′ : State} → Sized s → length (s′ .input) ≡ length 
     → Sized s′
 sized-as z i l w o = record { input-some = omega (arith, z .input-some); line-size = l ∙ z .line-size; scratch-full = w ∙ z .scratch-full; out-size = omega (arith, z .out-size) }
 
--- at first
-pub start-sound : (wrote : Bool) {next : Next} {input : Bytes} {b : Buffers} → next ≡ started wrote → Zero input → Zero (b .line) → Zero (b .scratch) → Zero (b .out) → Sized (record { next = next; input = input; buffers = b })
-    → Sound (record { next = next; input = input; buffers = b })
-unfolding started NextIn
-start-sound wrote {next} {input} {b} e i l w o z = sound-as (ap (λ n. record { next = n; input = input; buffers = b }) e) (go wrote) z
-  where
-    go : (x : Bool) → Sized (record { next = started x; input = input; buffers = b }) → Sound (record { next = started x; input = input; buffers = b })
-    go true y = record { ready = omega arith; tidy = record { line-zero = l; scratch-zero = w; out-zero = o; input-zero = λ f. i }; sized = y }
-    go false y = record { ready = tt; tidy = record { line-zero = l; scratch-zero = w; out-zero = o; input-zero = λ f. i }; sized = y }
+-- at first, from buffers of zeros
+pub start-sound : {input : Bytes} {b : Buffers} → Sound (record { next = Stop; input = input; buffers = b }) → Sized (started input b) → Sound (started input b)
+unfolding started NextIn first-line bytes over
+start-sound {input} {b} y z =
+    record {
+      ready = record { from-fits = omega arith; to-fits = omega arith; end-fits = omega (arith, y .sized .out-size, z .out-size); lent = record { line-size = z .line-size; held-fits = omega arith; out-size = z .out-size } };
+      tidy = record { line-zero = y .tidy .line-zero; scratch-zero = y .tidy .scratch-zero; out-zero = past-zero first-line (b .out) (y .tidy .out-zero); input-zero = not-stop-write };
+      sized = z;
+    }

@@ -1,4 +1,4 @@
--- What the line tool does after each read and each write, case by case, with every byte of its buffers then; and its runs. Assumes nothing.
+-- What the line tool does at first and after each read and each write, case by case, with every byte of its buffers then; and its runs. Assumes nothing.
 use mathlib.Core.Path.{_≡_}
 use mathlib.Core.Bool.{Bool, true, false, not, _&&_}
 use mathlib.Core.List.{List, [], _∷_, _++_}
@@ -10,7 +10,7 @@ use Rattle.pattern.specs.Bytes.{Bytes, over}
 use Rattle.replies.specs.Sizes.{held-limit, scratch-size, out-room}
 use Rattle.replies.specs.Reply.{Reply}
 use Rattle.replies.specs.Stores.{zeroed, Zero}
-use Rattle.lines.specs.Output.{answers, last-line}
+use Rattle.lines.specs.Output.{answers, last-line, first-line}
 use Rattle.lines.specs.Chunk.{Buffers, lend, Lent, Answered}
 use Rattle.lines.specs.declared.chunk.Pending.{Pending}
 use Rattle.lines.specs.declared.session.Input.{Input}
@@ -24,11 +24,6 @@ reading-of (negsuc k) room = Failed
 reading-of (pos zero) room = Ended
 reading-of (pos (suc k)) room = Chunk (min (suc k) room)
 
--- after the first line was written, or was not
-unfoldable pub started : (wrote : Bool) → Next
-started true = Read 0
-started false = Stop
-
 -- what is to be done next, and the bytes then: the input's and those that answering works in
 pub record State : Type 0 where
   pub next : Next
@@ -38,13 +33,24 @@ pub record State : Type 0 where
 abbrev pub state-of : Next → (input line scratch out : Bytes) → State
 state-of next input line scratch out = record { next = next; input = input; buffers = lend line scratch out }
 
+-- at first the line that the output begins with is to be written, and then the input is read
+abbrev first-pending : Pending
+first-pending = record { from = 0; to = 0; held = 0; end = length first-line; last = false }
+
+unfoldable pub started : (input : Bytes) → Buffers → State
+started input b = record { next = Write first-pending; input = input; buffers = record { line = b .line; scratch = b .scratch; out = over first-line (b .out) } }
+
+pub record Starts (out out′ : Bytes) (r : Next) : Type 0 where
+  pub next : r ≡ Write first-pending
+  pub bytes : out′ ≡ over first-line out
+
 -- zeros over all of them
-abbrev wiped-out : Bytes → Bytes
-wiped-out s = zeroed (length s) s
+abbrev blanked : Bytes → Bytes
+blanked s = zeroed (length s) s
 
 -- "patient data stays in no buffer": it ends, and every byte is zero
 unfoldable pub halted : (input : Bytes) → Buffers → State
-halted input b = record { next = Stop; input = wiped-out input; buffers = record { line = wiped-out (b .line); scratch = wiped-out (b .scratch); out = wiped-out (b .out) } }
+halted input b = record { next = Stop; input = blanked input; buffers = record { line = blanked (b .line); scratch = blanked (b .scratch); out = blanked (b .out) } }
 
 -- a chunk is answered from a place on; the replies are to be written, and then the rest is answered
 pub record Continues (chunk : Bytes) (from held : ℕ) (input : Bytes) (b : Buffers) (s : State) : Type 0 where
@@ -108,9 +114,9 @@ pub record Trace : Type 0 where
 unfoldable pub then : Trace → Trace → Trace
 then t u = record { chunks = t .chunks ++ u .chunks; text = t .text ++ u .text; well = t .well && u .well }
 
--- one read or one write, and the state after it
+-- one read or one write, and the state after it; of a write that failed some bytes may be written
 pub data Steps : State → Trace → State → Type 0 where
-  read : (held n : ℕ) (input input′ : Bytes) (b : Buffers) (s : State) → n ≤ length input′ → AfterRead (Chunk n) held input′ b s
+  read : (held n : ℕ) (input input′ : Bytes) (b : Buffers) (s : State) → 1 ≤ n → n ≤ length input′ → AfterRead (Chunk n) held input′ b s
       → Steps (record { next = Read held; input = input; buffers = b }) (record { chunks = take n input′ ∷ []; text = []; well = true }) s
   end : (held : ℕ) (input input′ : Bytes) (b : Buffers) (s : State) → AfterRead Ended held input′ b s
       → Steps (record { next = Read held; input = input; buffers = b }) (record { chunks = []; text = []; well = true }) s
@@ -118,8 +124,8 @@ pub data Steps : State → Trace → State → Type 0 where
       → Steps (record { next = Write p; input = input; buffers = b }) (record { chunks = []; text = take (p .end) (b .out); well = true }) s
   read-fails : (held : ℕ) (input input′ : Bytes) (b : Buffers) (s : State) → AfterRead Failed held input′ b s
       → Steps (record { next = Read held; input = input; buffers = b }) (record { chunks = []; text = []; well = false }) s
-  write-fails : (p : Pending) (input : Bytes) (b : Buffers) (s : State) → PendingIn p input b → AfterWrite false p input b s
-      → Steps (record { next = Write p; input = input; buffers = b }) (record { chunks = []; text = []; well = false }) s
+  write-fails : (p : Pending) (k : ℕ) (input : Bytes) (b : Buffers) (s : State) → k ≤ p .end → PendingIn p input b → AfterWrite false p input b s
+      → Steps (record { next = Write p; input = input; buffers = b }) (record { chunks = []; text = take k (b .out); well = false }) s
 
 -- some one of them was made
 pub record Moves (s s′ : State) : Type 0 where

@@ -1,10 +1,9 @@
 // The replies to the lines of an input, chunk by chunk.
-ghost use mathlib.Core.Path.{_≡_};
 ghost use Prim.Native.Nat.{_≤_};
 ghost use lib.ListN.{length};
 ghost use Rattle.replies.specs.Sizes.{out-room};
 ghost use Rattle.replies.specs.Stores.{Replied};
-ghost use Rattle.lines.specs.Output.{answers, last-line, first-line};
+ghost use Rattle.lines.specs.Output.{answers, last-line};
 ghost use Rattle.lines.specs.Chunk.{lend, Lent, Answered};
 use crate::line::take_line;
 use planes::clear::clear;
@@ -67,11 +66,4 @@ pub fn answer_last(line: &[u8], scratch: &mut [u8], out: &mut [u8]) -> usize
         return 0;
     }
     answer_line(line, scratch, out, 0)
-}
-
-// What the output begins with.
-pub fn first_line() -> [u8; 6]
-    ensures { λ r. ⌜ r ≡ first-line ⌝ }
-{
-    *b"MPT 1\n"
 }

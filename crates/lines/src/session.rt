@@ -2,13 +2,16 @@
 // hands on how that went.
 ghost use mathlib.Core.Path.{_≡_};
 ghost use mathlib.Core.Bool.{not, _&&_};
+ghost use Prim.Native.Nat.{_≤_};
 ghost use lib.ListN.{length};
+ghost use Rattle.replies.specs.Sizes.{out-room};
 ghost use Rattle.lines.specs.Chunk.{lend, Lent};
-ghost use Rattle.lines.specs.Session.{reading-of, started, state-of, halted, AfterRead, PendingIn, AfterWrite};
+ghost use Rattle.lines.specs.Session.{reading-of, state-of, Starts, halted, AfterRead, PendingIn, AfterWrite};
 use crate::chunk::Pending;
 use crate::chunk::answer_chunk;
 use crate::chunk::answer_last;
 use planes::clear::clear;
+use replies::sizes::NEWLINE;
 
 // What a read gave: nothing, since it failed; the end of the input; or the first bytes of the buffer.
 pub enum Input {
@@ -41,11 +44,24 @@ pub fn reading(got: isize, room: usize) -> Input
     Input::Chunk(n)
 }
 
-// After the first line: if it was written, the input is read.
-pub fn start(wrote: bool) -> Next
-    ensures { λ r. ⌜ r ≡ started wrote ⌝ }
+// At first: the line that the output begins with is to be written.
+pub fn start(out: &mut [u8]) -> Next
+    requires { ⌜ out-room ≤ length (now out) ⌝ }
+    ensures { λ r. ⌜ Starts (now (out .entry)) (now (out .exit)) r ⌝ }
 {
-    if wrote { Next::Read(0) } else { Next::Stop }
+    out[0] = b'M';
+    out[1] = b'P';
+    out[2] = b'T';
+    out[3] = b' ';
+    out[4] = b'1';
+    out[5] = NEWLINE;
+    Next::Write(Pending {
+        from: 0,
+        to: 0,
+        held: 0,
+        end: 6,
+        last: false,
+    })
 }
 
 // It ends, and every byte is zeroed.

@@ -1,26 +1,32 @@
--- The turns of the program's loop: each is a step of its run. Assumes nothing.
+-- The turns of the program's loop, each a step of its run, and what the run writes. Assumes nothing.
 use mathlib.Core.Path.{_≡_, refl}
+use mathlib.Core.Bool.{true}
+use mathlib.Core.List.{_++_}
 use Prim.Native.Nat.{ℕ, _+_}
 use native.Mathlib.Omega.{arith}
-use Rattle.lines.specs.Session.{State, Trace, then, Moves, Runs, none, more, Sized, Sound}
+use Rattle.pattern.specs.Bytes.{Bytes}
+use Rattle.lines.specs.Output.{output, joined}
+use Rattle.lines.specs.Chunk.{Buffers}
+use Rattle.lines.specs.Session.{State, started, Trace, then, Moves, Runs, none, more, Sized, Sound}
 use Rattle.lines.specs.declared.session.Next.the-variants.{Stop}
+use Rattle.lines.proofs.Owed.{runs-begin, runs-hold}
 use Rattle.lines.proofs.Tidying.{steps-sound}
 use Rattle.mptline.specs.Run.{turn-limit, Ran}
 
 -- the run so far, with so many turns left
-pub record Gone (first s : State) (left : ℕ) : Type 0 where
+pub record SoFar (first s : State) (left : ℕ) : Type 0 where
   pub turns : ℕ
   pub trace : Trace
   pub runs : Runs first turns trace s
   pub all : turns + left ≡ turn-limit
   pub sound : Sound s
 
-pub gone-none : {first : State} → Sound first → Gone first first turn-limit
-gone-none y = record { turns = 0; trace = _; runs = none; all = refl; sound = y }
+pub so-far-none : {first : State} → Sound first → SoFar first first turn-limit
+so-far-none y = record { turns = 0; trace = _; runs = none; all = refl; sound = y }
 
-module _ {first s : State} {left : ℕ} (g : Gone first s left) where
-  pub gone-on : {s′ : State} {rest : ℕ} → Moves s s′ → Sized s′ → left ≡ rest + 1 → Gone first s′ rest
-  gone-on {s′} m z e =
+module _ {first s : State} {left : ℕ} (g : SoFar first s left) where
+  pub so-far-on : {s′ : State} {rest : ℕ} → Moves s s′ → Sized s′ → left ≡ rest + 1 → SoFar first s′ rest
+  so-far-on {s′} m z e =
       record {
         turns = g .turns + 1;
         trace = then (g .trace) (m .trace);
@@ -30,8 +36,16 @@ module _ {first s : State} {left : ℕ} (g : Gone first s left) where
       }
 
   -- it was told to stop, or no turn is left
-  pub gone-stop : s .next ≡ Stop → Ran first s
-  gone-stop e = record { turns = g .turns; trace = g .trace; runs = g .runs; until = λ f. absurd (f e); sound = g .sound }
+  pub so-far-stop : s .next ≡ Stop → Ran first s
+  so-far-stop e = record { turns = g .turns; trace = g .trace; runs = g .runs; until = λ f. absurd (f e); sound = g .sound }
 
-  pub gone-all : left ≡ 0 → Ran first s
-  gone-all e = record { turns = g .turns; trace = g .trace; runs = g .runs; until = λ f. omega (arith, g .all); sound = g .sound }
+  pub so-far-all : left ≡ 0 → Ran first s
+  so-far-all e = record { turns = g .turns; trace = g .trace; runs = g .runs; until = λ f. omega (arith, g .all); sound = g .sound }
+
+-- the program's run, from buffers of zeros: what it writes is a beginning of the output, and all of it where nothing failed and it was told to stop
+module _ (input : Bytes) (b : Buffers) (fresh : Sound (record { next = Stop; input = input; buffers = b })) {s : State} (r : Ran (started input b) s) where
+  pub ran-begins : (rest : Bytes) × (r .trace .text ++ rest ≡ output (joined (r .trace .chunks)))
+  ran-begins = runs-begin input b fresh (r .runs)
+
+  pub ran-holds : r .trace .well ≡ true → s .next ≡ Stop → r .trace .text ≡ output (joined (r .trace .chunks))
+  ran-holds = runs-hold input b fresh (r .runs)

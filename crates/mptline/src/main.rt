@@ -1,11 +1,11 @@
 // The line tool: reads lines of a source, a tab and a label, and writes an answer for each. What it does with what it
 // reads, and what it writes when, is told by lines::session.
-ghost use Rattle.lines.specs.Session.{state-of, Moves, Sound};
+ghost use Rattle.lines.specs.Chunk.{lend};
+ghost use Rattle.lines.specs.Session.{state-of, started, Moves, Sound};
 ghost use Rattle.mptline.specs.Run.{Ran};
-ghost use Rattle.lines.specs.declared.session.Next.the-variants.{Write, Read};
+ghost use Rattle.lines.specs.declared.session.Next.the-variants.{Write, Read, Stop};
 use libc::STDIN_FILENO;
 use libc::STDOUT_FILENO;
-use lines::chunk;
 use lines::chunk::Pending;
 use lines::session;
 use lines::session::Next;
@@ -33,8 +33,8 @@ fn read(held: usize, buf: &mut [u8], line: &mut [u8], scratch: &mut [u8], out: &
     session::after_read(held, got, buf, line, scratch, out)
 }
 
-// Reads and writes until there is nothing left to do. A proved loop has to end, so its turns are counted down from a number
-// that no run uses up.
+// Reads and writes until it is told to stop. A proved loop has to end, so its turns are counted down from a number that no
+// run uses up; what is answered says which it was.
 fn run(first: Next, buf: &mut [u8], line: &mut [u8], scratch: &mut [u8], out: &mut [u8]) -> Next
     requires { ⌜ Sound (state-of first (now buf) (now line) (now scratch) (now out)) ⌝ }
     ensures { λ r. ⌜ Ran (state-of first (now (buf .entry)) (now (line .entry)) (now (scratch .entry)) (now (out .entry))) (state-of r (now (buf .exit)) (now (line .exit)) (now (scratch .exit)) (now (out .exit))) ⌝ }
@@ -58,18 +58,19 @@ fn run(first: Next, buf: &mut [u8], line: &mut [u8], scratch: &mut [u8], out: &m
     next
 }
 
+// All of it, from buffers of zeros.
+fn answer_input(buf: &mut [u8], line: &mut [u8], scratch: &mut [u8], out: &mut [u8]) -> Next
+    requires { ⌜ Sound (state-of Stop (now buf) (now line) (now scratch) (now out)) ⌝ }
+    ensures { λ r. ⌜ Ran (started (now (buf .entry)) (lend (now (line .entry)) (now (scratch .entry)) (now (out .entry)))) (state-of r (now (buf .exit)) (now (line .exit)) (now (scratch .exit)) (now (out .exit))) ⌝ }
+{
+    let first = session::start(out);
+    run(first, buf, line, scratch, out)
+}
+
 fn main() {
     let mut buf = [0u8; BUFFER_SIZE];
     let mut line = [0u8; sizes::HELD_LIMIT];
     let mut scratch = [0u8; sizes::SCRATCH_SIZE];
     let mut out = [0u8; BUFFER_SIZE];
-    let first = chunk::first_line();
-    let wrote = io::write_all(STDOUT_FILENO, &first);
-    run(
-        session::start(wrote),
-        &mut buf,
-        &mut line,
-        &mut scratch,
-        &mut out,
-    );
+    answer_input(&mut buf, &mut line, &mut scratch, &mut out);
 }

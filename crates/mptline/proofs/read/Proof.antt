@@ -3,7 +3,7 @@ use native.Mathlib.Omega.{arith}
 use mir.Syntax.{w64}
 use mir.Val.{toZ, ofZ}
 use Rattle.lines.specs.Session.{NextIn}
-use Rattle.lines.proofs.Sessions.{chunk-fits, read-moves}
+use Rattle.lines.proofs.Sessions.{chunk-fits, chunk-some, read-moves}
 use borrow.Author.Needs.{needs}
 use Rattle.mptline.proofs.read.Statement.{statement}
 use Rattle.mptline.proofs.read.Tie as tie
@@ -31,7 +31,10 @@ same-length-4 c = search needs
 returns : tie.Need-returns
 returns c =
     let after = c .before .before .before .before .before .before .before .before in
-    read-moves _ _ _ _ _ _ (after .after-read .ensures) (chunk-fits _ (toZ w64 (ofZ w64 (after .before .before .before .before .before .before .before .read .result))))
+    let read = after .before .before .before .before .before .before .before in
+    let got = toZ w64 (ofZ w64 (read .read .result)) in
+    let s = read .before .before .before .before .before .before .pre in
+    read-moves _ _ _ _ _ _ (after .after-read .ensures) (λ n e. (chunk-some _ (omega (arith, s .sized .input-some)) got n e, chunk-fits _ got n e))
 
 pub read-spec : {M : Type 1} → statement M
 read-spec =

@@ -6,19 +6,19 @@ use lib.ListN.{length}
 use borrow.Author.Needs.{needs}
 use Rattle.lines.specs.Session.{state-of}
 use Rattle.lines.proofs.Tidying.{sized-as}
-use Rattle.mptline.proofs.Turns.{Gone, gone-none, gone-on, gone-stop, gone-all}
+use Rattle.mptline.proofs.Turns.{SoFar, so-far-none, so-far-on, so-far-stop, so-far-all}
 use Rattle.mptline.proofs.run.Statement.{statement}
 use Rattle.mptline.proofs.run.Tie as tie
 
 abbrev Inv-loop : tie.InvT-loop
 Inv-loop buf₀ line₀ scratch₀ out₀ next₀ turns₀ buf line scratch out next turns =
-    (length buf ≡ length buf₀) × (length line ≡ length line₀) × (length scratch ≡ length scratch₀) × (length out ≡ length out₀) × Gone (state-of next₀ buf₀ line₀ scratch₀ out₀) (state-of next buf line scratch out) turns
+    (length buf ≡ length buf₀) × (length line ≡ length line₀) × (length scratch ≡ length scratch₀) × (length out ≡ length out₀) × SoFar (state-of next₀ buf₀ line₀ scratch₀ out₀) (state-of next buf line scratch out) turns
 
 abbrev μ-loop : tie.MeasureT-loop
 μ-loop buf₀ line₀ scratch₀ out₀ next₀ turns₀ buf line scratch out next turns = turns
 
 loop-holds : tie.Need-loop-holds Inv-loop μ-loop
-loop-holds c = (refl, refl, refl, refl, gone-none (c .before .before .before .before .pre))
+loop-holds c = (refl, refl, refl, refl, so-far-none (c .before .before .before .before .pre))
 
 enum-known-next : tie.Need-enum-known-next Inv-loop μ-loop
 enum-known-next c = search needs
@@ -48,7 +48,7 @@ same-length-4 : tie.Need-same-length-4 Inv-loop μ-loop
 same-length-4 c = c .before .before .before .loop .inv .3
 
 returns : tie.Need-returns Inv-loop μ-loop
-returns c = gone-stop (c .before .before .before .loop .inv .4) (c .enum-told .given .1)
+returns c = so-far-stop (c .before .before .before .loop .inv .4) (c .enum-told .given .1)
 
 sub-turns : tie.Need-sub-turns Inv-loop μ-loop
 sub-turns c = omega arith
@@ -63,11 +63,11 @@ loop-again c =
     (λ w.
     let l = w .7 .kept .1 in
     rw (w .16, w .17, w .18, w .19, w .20)
-    (l .0 ∙ k .0, l .1 .0 ∙ k .1, l .1 .1 .0 ∙ k .2, l .1 .1 .1 .0 ∙ k .3, gone-on (rw (w .1 .given .1) at (k .4)) (w .7 .ensures) (sized-as (k .4 .sound .sized) (l .0) (l .1 .0) (l .1 .1 .0) (l .1 .1 .1 .0)) (omega arith)))
+    (l .0 ∙ k .0, l .1 .0 ∙ k .1, l .1 .1 .0 ∙ k .2, l .1 .1 .1 .0 ∙ k .3, so-far-on (rw (w .1 .given .1) at (k .4)) (w .7 .ensures) (sized-as (k .4 .sound .sized) (l .0) (l .1 .0) (l .1 .1 .0) (l .1 .1 .1 .0)) (omega arith)))
     (λ w.
     let l = w .7 .kept .1 in
     rw (w .16, w .17, w .18, w .19, w .20)
-    (l .0 ∙ k .0, l .1 .0 ∙ k .1, l .1 .1 .0 ∙ k .2, l .1 .1 .1 .0 ∙ k .3, gone-on (rw (w .1 .given .1) at (k .4)) (w .7 .ensures) (sized-as (k .4 .sound .sized) (l .0) (l .1 .0) (l .1 .1 .0) (l .1 .1 .1 .0)) (omega arith)))
+    (l .0 ∙ k .0, l .1 .0 ∙ k .1, l .1 .1 .0 ∙ k .2, l .1 .1 .1 .0 ∙ k .3, so-far-on (rw (w .1 .given .1) at (k .4)) (w .7 .ensures) (sized-as (k .4 .sound .sized) (l .0) (l .1 .0) (l .1 .1 .0) (l .1 .1 .1 .0)) (omega arith)))
     (c .match .came)
 
 same-length-5 : tie.Need-same-length-5 Inv-loop μ-loop
@@ -83,7 +83,7 @@ same-length-8 : tie.Need-same-length-8 Inv-loop μ-loop
 same-length-8 c = c .before .loop .inv .3
 
 returns-2 : tie.Need-returns-2 Inv-loop μ-loop
-returns-2 c = gone-all (c .before .loop .inv .4) (omega arith)
+returns-2 c = so-far-all (c .before .loop .inv .4) (omega arith)
 
 pub run-spec : {M : Type 1} → statement M
 run-spec =

@@ -1,7 +1,7 @@
 -- `chunk::answer_chunk` meets its contract: what was taken of the chunk so far is done. What is left of the chunk falls. Assumes nothing.
 use mathlib.Core.Path.{_≡_, refl, sym, _∙_}
 use mathlib.Core.Bool.{false}
-use Prim.Native.Nat.{_-_, _≤_}
+use Prim.Native.Nat.{_-_, _≤_, _<_}
 use native.Mathlib.Omega.{arith}
 use lib.ListN.{length, take}
 use lib.Seq.{slice, length-take-le}
@@ -18,12 +18,13 @@ Inv-loop chunk from line₀ held scratch₀ out₀ next₀ n₀ end₀ line scra
     (length line ≡ length line₀) × (length scratch ≡ length scratch₀) × (length out ≡ length out₀)
     × (from ≤ next) × (next ≤ length chunk)
     × Done (lines-in (take held line₀) (slice from next chunk)) (lend line₀ scratch₀ out₀) (lend line scratch out) (record { from = next; to = length chunk; held = n; end = end; last = false })
+    × (0 < end → next < length chunk → n ≡ 0)
 
 abbrev μ-loop : tie.MeasureT-loop
 μ-loop chunk from line₀ held scratch₀ out₀ next₀ n₀ end₀ line scratch out next n end = length chunk - next
 
 loop-holds : tie.Need-loop-holds Inv-loop μ-loop
-loop-holds c = (refl, refl, refl, omega arith, omega arith, rw taken-nothing (done-none _ _ (omega arith) (omega arith)))
+loop-holds c = (refl, refl, refl, omega arith, omega arith, rw taken-nothing (done-none _ _ (omega arith) (omega arith)), λ e m. absurd (omega arith))
 
 sub-if1 : tie.Need-sub-if1 Inv-loop μ-loop
 sub-if1 c = omega arith
@@ -70,6 +71,7 @@ loop-again c =
       omega (arith, t .forward),
       t .next-fits,
       done-ended _ _ (k .inv .5) (k .inv .3) t (omega (arith, t .held-fits, t .size, k .inv .0, lent)) (after-if2 .if2 .taken) r (omega arith) (after-clear .clear .ensures),
+      λ e m. refl,
     )
 
 loop-less-2 : tie.Need-loop-less-2 Inv-loop μ-loop
@@ -83,7 +85,7 @@ loop-again-2 c =
     let after-take-line = c .before .before .before in
     let k = after-take-line .before .before .before .before .loop in
     let t = after-take-line .take-line .ensures in
-    (t .size ∙ k .inv .0, k .inv .1, k .inv .2, omega (arith, t .forward), t .next-fits, done-held _ _ (k .inv .5) (k .inv .3) t (omega (arith, t .held-fits, t .size)) (c .if2 .left))
+    (t .size ∙ k .inv .0, k .inv .1, k .inv .2, omega (arith, t .forward), t .next-fits, done-held _ _ (k .inv .5) (k .inv .3) t (omega (arith, t .held-fits, t .size)) (c .if2 .left), λ e m. absurd (omega (arith, t .stops (c .if2 .left))))
 
 same-length : tie.Need-same-length Inv-loop μ-loop
 same-length c = c .before .loop .inv .0
@@ -95,7 +97,7 @@ same-length-3 : tie.Need-same-length-3 Inv-loop μ-loop
 same-length-3 c = c .before .loop .inv .2
 
 returns : tie.Need-returns Inv-loop μ-loop
-returns c = record { done = c .before .loop .inv .5; forward = omega arith; from-fits = omega arith; to = refl; last = refl; fills = λ m. omega arith }
+returns c = record { done = c .before .loop .inv .5; forward = omega arith; from-fits = omega arith; to = refl; last = refl; whole = λ m. absurd (omega arith); fills = λ m. omega arith }
 
 same-length-4 : tie.Need-same-length-4 Inv-loop μ-loop
 same-length-4 c = c .before .before .loop .inv .0
@@ -107,7 +109,7 @@ same-length-6 : tie.Need-same-length-6 Inv-loop μ-loop
 same-length-6 c = c .before .before .loop .inv .2
 
 returns-2 : tie.Need-returns-2 Inv-loop μ-loop
-returns-2 c = record { done = c .before .before .loop .inv .5; forward = omega arith; from-fits = omega arith; to = refl; last = refl; fills = λ m. omega arith }
+returns-2 c = record { done = c .before .before .loop .inv .5; forward = omega arith; from-fits = omega arith; to = refl; last = refl; whole = λ m. c .before .before .loop .inv .6 (omega arith) m; fills = λ m. omega arith }
 
 pub answer-chunk-spec : {M : Type 1} → statement M
 answer-chunk-spec =
