@@ -16,16 +16,16 @@ use Rattle.lines.specs.Output.{hold, LinesIn, line-first, lines-in}
 use Rattle.lines.specs.Taking.{one-line}
 
 -- a chunk after another
-abbrev then : LinesIn → Bytes → LinesIn
-then l s = let m = lines-in (l .held) s in record { ended = l .ended ++ m .ended; held = m .held }
+abbrev chunk-after : LinesIn → Bytes → LinesIn
+chunk-after l s = let m = lines-in (l .held) s in record { ended = l .ended ++ m .ended; held = m .held }
 
-pub lines-append : (held s t : Bytes) → lines-in held (s ++ t) ≡ then (lines-in held s) t
+pub lines-append : (held s t : Bytes) → lines-in held (s ++ t) ≡ chunk-after (lines-in held s) t
 unfolding lines-in line-first
 lines-append held [] t = refl
 lines-append held (c ∷ s) t = go (eqb c newline-byte) (lines-append [] s t) (lines-append (hold held c) s t)
   where
-    go : (b : Bool) → lines-in [] (s ++ t) ≡ then (lines-in [] s) t → lines-in (hold held c) (s ++ t) ≡ then (lines-in (hold held c) s) t
-        → (elim b [ true ↦ line-first held (lines-in [] (s ++ t)) | false ↦ lines-in (hold held c) (s ++ t) ]) ≡ then (elim b [ true ↦ line-first held (lines-in [] s) | false ↦ lines-in (hold held c) s ]) t
+    go : (b : Bool) → lines-in [] (s ++ t) ≡ chunk-after (lines-in [] s) t → lines-in (hold held c) (s ++ t) ≡ chunk-after (lines-in (hold held c) s) t
+        → (elim b [ true ↦ line-first held (lines-in [] (s ++ t)) | false ↦ lines-in (hold held c) (s ++ t) ]) ≡ chunk-after (elim b [ true ↦ line-first held (lines-in [] s) | false ↦ lines-in (hold held c) s ]) t
     go true x y = ap (line-first held) x
     go false x y = y
 
@@ -68,7 +68,7 @@ module _ (held₀ chunk line : Bytes) (from at n : ℕ) (begun : lines-in held�
   unfolding one-line
   one-more =
       ap (lines-in held₀) (slice-join chunk from at (at + 1) before (omega arith) (omega arith)) ∙ lines-append held₀ (slice from at chunk) (slice at (at + 1) chunk)
-      ∙ ap (λ l. then l (slice at (at + 1) chunk)) begun ∙ ap (lines-in (take n line)) (slice-one chunk at more)
+      ∙ ap (λ l. chunk-after l (slice at (at + 1) chunk)) begun ∙ ap (lines-in (take n line)) (slice-one chunk at more)
 
   pub turn-newline : getD chunk at 0 ≡ newline-byte → lines-in held₀ (slice from (at + 1) chunk) ≡ one-line true (take n line)
   unfolding lines-in line-first one-line

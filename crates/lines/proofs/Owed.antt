@@ -14,7 +14,9 @@ use Rattle.pattern.proofs.Tests.{if-true, if-false}
 use Rattle.replies.specs.Reply.{zeros}
 use Rattle.lines.specs.Output.{answers, last-line, first-line, output, lines-in, joined}
 use Rattle.lines.specs.Chunk.{Buffers}
-use Rattle.lines.specs.Session.{started, State, halted, Continues, finished, AfterRead, PendingIn, written, waiting, GoesOn, AfterWrite, Trace, then, Steps, read, end, write, read-fails, write-fails, Runs, none, more, Sound}
+use Rattle.lines.specs.Session.{started, State, halted, Continues, finished, AfterRead, PendingIn, written, waiting, GoesOn, AfterWrite}
+use Rattle.lines.specs.Trace.{Trace, followed-by, Steps, read, end, write, read-fails, write-fails, Runs, none, more}
+use Rattle.lines.specs.Invariant.{Sound}
 use Rattle.lines.specs.declared.chunk.Pending.{Pending}
 use Rattle.lines.specs.declared.session.Next.{Next}
 use Rattle.lines.specs.declared.session.Next.the-variants.{Write, Read, Stop}
@@ -199,8 +201,8 @@ module _ (input : Bytes) (b : Buffers) where
     rest : Bytes
     begins : t .text ++ rest ≡ owed start (t .chunks)
 
-  going-on : (t u : Trace) (s s′ : State) → Going t s → Pays s u s′ → Going (then t u) s′
-  unfolding then
+  going-on : (t u : Trace) (s s′ : State) → Going t s → Pays s u s′ → Going (followed-by t u) s′
+  unfolding followed-by
   going-on t u s s′ g a =
       record {
         well = ap₂ (λ v w. v && w) (g .well) (a .well);
@@ -210,8 +212,8 @@ module _ (input : Bytes) (b : Buffers) where
             ∙ ap (λ v. owed start (t .chunks ++ v)) (a .keeps chunks) ∙ ap (owed start) (sym (append-assoc (t .chunks) (u .chunks) _));
       }
 
-  going-wrong : (t u : Trace) (s s′ : State) → Going t s → Fails s u s′ → Broken (then t u) s′
-  unfolding then
+  going-wrong : (t u : Trace) (s s′ : State) → Going t s → Fails s u s′ → Broken (followed-by t u) s′
+  unfolding followed-by
   going-wrong t u s s′ g f =
       record {
         ill = ap₂ (λ v w. v && w) (g .well) (f .ill);

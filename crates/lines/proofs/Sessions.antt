@@ -13,7 +13,8 @@ use Rattle.pattern.proofs.Stores.{stored-over}
 use Rattle.replies.specs.Reply.{Reply}
 use Rattle.replies.specs.Stores.{zeroed, Replied}
 use Rattle.lines.specs.Chunk.{Buffers, lend}
-use Rattle.lines.specs.Session.{reading-of, State, started, Starts, finished, AfterRead, PendingIn, AfterWrite, read, end, write, read-fails, write-fails, Moves}
+use Rattle.lines.specs.Session.{reading-of, State, started, Starts, finished, AfterRead, PendingIn, AfterWrite}
+use Rattle.lines.specs.Trace.{read, end, write, read-fails, write-fails, Moves}
 use Rattle.lines.specs.declared.session.Input.{Input}
 use Rattle.lines.specs.declared.session.Next.{Next}
 use Rattle.lines.specs.declared.chunk.Pending.{Pending}

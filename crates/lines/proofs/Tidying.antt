@@ -14,7 +14,9 @@ use Rattle.replies.specs.Stores.{zeroed, Zero}
 use Rattle.replies.proofs.Zeros.{drop-zero, rest-zeroed}
 use Rattle.lines.specs.Output.{answers, last-line, first-line, hold, LinesIn, line-first, lines-in, wiped}
 use Rattle.lines.specs.Chunk.{Buffers}
-use Rattle.lines.specs.Session.{started, State, halted, Continues, finished, AfterRead, PendingIn, written, waiting, GoesOn, Trace, Steps, read, end, write, read-fails, write-fails, NextIn, Tidy, Sized, Sound}
+use Rattle.lines.specs.Session.{started, State, halted, Continues, finished, AfterRead, PendingIn, written, waiting, GoesOn}
+use Rattle.lines.specs.Trace.{Trace, Steps, read, end, write, read-fails, write-fails}
+use Rattle.lines.specs.Invariant.{NextIn, Tidy, Sized, Sound}
 use Rattle.lines.specs.declared.chunk.Pending.{Pending}
 use Rattle.lines.specs.declared.session.Next.the-variants.{Write, Stop}
 use Rattle.lines.proofs.Lines.{hold-longer}

@@ -3,3 +3,5 @@ pub mod Taking
 pub mod Examples
 pub mod Chunk
 pub mod Session
+pub mod Trace
+pub mod Invariant

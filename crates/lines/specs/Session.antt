@@ -1,15 +1,13 @@
--- What the line tool does at first and after each read and each write, case by case, with every byte of its buffers then; and its runs. Assumes nothing.
+-- What the line tool does at first and after each read and each write, case by case, with every byte of its buffers then. Assumes nothing.
 use mathlib.Core.Path.{_≡_}
 use mathlib.Core.Bool.{Bool, true, false, not, _&&_}
-use mathlib.Core.List.{List, [], _∷_, _++_}
-use Prim.Native.Nat.{ℕ, zero, suc, min, _+_, _≤_}
+use Prim.Native.Nat.{ℕ, zero, suc, min, _≤_}
 use lib.Dec.{ltb}
 use lib.IntN.{ℤ, pos, negsuc}
-use lib.ListN.{length, take, drop}
+use lib.ListN.{length, take}
 use Rattle.pattern.specs.Bytes.{Bytes, over}
-use Rattle.replies.specs.Sizes.{held-limit, scratch-size, out-room}
 use Rattle.replies.specs.Reply.{Reply}
-use Rattle.replies.specs.Stores.{zeroed, Zero}
+use Rattle.replies.specs.Stores.{zeroed}
 use Rattle.lines.specs.Output.{answers, last-line, first-line}
 use Rattle.lines.specs.Chunk.{Buffers, lend, Lent, Answered}
 use Rattle.lines.specs.declared.chunk.Pending.{Pending}
@@ -102,74 +100,3 @@ GoesOn true false p input b s = s ≡ waiting p input b
 -- it goes on exactly when the write succeeded and wasn't the last
 abbrev pub AfterWrite : (wrote : Bool) → Pending → (input : Bytes) → Buffers → State → Type 0
 AfterWrite wrote p input b s = GoesOn (wrote && not (p .last)) (ltb (p .from) (p .to)) p input b s
-
--- ---- runs
-
--- of some reads and writes: the chunks that were read, the bytes that were written, and whether none failed
-pub record Trace : Type 0 where
-  pub chunks : List Bytes
-  pub text : Bytes
-  pub well : Bool
-
-unfoldable pub then : Trace → Trace → Trace
-then t u = record { chunks = t .chunks ++ u .chunks; text = t .text ++ u .text; well = t .well && u .well }
-
--- one read or one write, and the state after it; of a write that failed some bytes may be written
-pub data Steps : State → Trace → State → Type 0 where
-  read : (held n : ℕ) (input input′ : Bytes) (b : Buffers) (s : State) → 1 ≤ n → n ≤ length input′ → AfterRead (Chunk n) held input′ b s
-      → Steps (record { next = Read held; input = input; buffers = b }) (record { chunks = take n input′ ∷ []; text = []; well = true }) s
-  end : (held : ℕ) (input input′ : Bytes) (b : Buffers) (s : State) → AfterRead Ended held input′ b s
-      → Steps (record { next = Read held; input = input; buffers = b }) (record { chunks = []; text = []; well = true }) s
-  write : (p : Pending) (input : Bytes) (b : Buffers) (s : State) → PendingIn p input b → AfterWrite true p input b s
-      → Steps (record { next = Write p; input = input; buffers = b }) (record { chunks = []; text = take (p .end) (b .out); well = true }) s
-  read-fails : (held : ℕ) (input input′ : Bytes) (b : Buffers) (s : State) → AfterRead Failed held input′ b s
-      → Steps (record { next = Read held; input = input; buffers = b }) (record { chunks = []; text = []; well = false }) s
-  write-fails : (p : Pending) (k : ℕ) (input : Bytes) (b : Buffers) (s : State) → k ≤ p .end → PendingIn p input b → AfterWrite false p input b s
-      → Steps (record { next = Write p; input = input; buffers = b }) (record { chunks = []; text = take k (b .out); well = false }) s
-
--- some one of them was made
-pub record Moves (s s′ : State) : Type 0 where
-  pub trace : Trace
-  pub step : Steps s trace s′
-
--- so many of them, one after the other
-pub data Runs (first : State) : (turns : ℕ) → Trace → State → Type 0 where
-  none : Runs first 0 (record { chunks = []; text = []; well = true }) first
-  more : (turns : ℕ) (t u : Trace) (s s′ : State) → Runs first turns t s → Steps s u s′ → Runs first (turns + 1) (then t u) s′
-
--- ---- what holds between steps
-
--- what is held and pending lies in the buffers
-unfoldable pub NextIn : Next → (input : Bytes) → Buffers → Type 0
-NextIn Stop input b = Unit {0}
-NextIn (Read held) input b = held ≤ held-limit
-NextIn (Write p) input b = PendingIn p input b
-
-abbrev pub held-of : Next → ℕ
-held-of Stop = 0
-held-of (Read held) = held
-held-of (Write p) = p .held
-
-abbrev pub end-of : Next → ℕ
-end-of Stop = 0
-end-of (Read held) = 0
-end-of (Write p) = p .end
-
--- "patient data stays in no buffer": line, scratch and output are zero but for what is held of a line and what is to be written; so is the input where it stops
-pub record Tidy (s : State) : Type 0 where
-  pub line-zero : Zero (drop (held-of (s .next)) (s .buffers .line))
-  pub scratch-zero : Zero (s .buffers .scratch)
-  pub out-zero : Zero (drop (end-of (s .next)) (s .buffers .out))
-  pub input-zero : s .next ≡ Stop → Zero (s .input)
-
--- the buffers' sizes
-pub record Sized (s : State) : Type 0 where
-  pub input-some : 1 ≤ length (s .input)
-  pub line-size : length (s .buffers .line) ≡ held-limit
-  pub scratch-full : length (s .buffers .scratch) ≡ scratch-size
-  pub out-size : out-room ≤ length (s .buffers .out)
-
-pub record Sound (s : State) : Type 0 where
-  pub ready : NextIn (s .next) (s .input) (s .buffers)
-  pub tidy : Tidy s
-  pub sized : Sized s

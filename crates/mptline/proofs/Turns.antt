@@ -7,7 +7,9 @@ use native.Mathlib.Omega.{arith}
 use Rattle.pattern.specs.Bytes.{Bytes}
 use Rattle.lines.specs.Output.{output, joined}
 use Rattle.lines.specs.Chunk.{Buffers}
-use Rattle.lines.specs.Session.{State, started, Trace, then, Moves, Runs, none, more, Sized, Sound}
+use Rattle.lines.specs.Session.{State, started}
+use Rattle.lines.specs.Trace.{Trace, followed-by, Moves, Runs, none, more}
+use Rattle.lines.specs.Invariant.{Sized, Sound}
 use Rattle.lines.specs.declared.session.Next.the-variants.{Stop}
 use Rattle.lines.proofs.Owed.{runs-begin, runs-hold}
 use Rattle.lines.proofs.Tidying.{steps-sound}
@@ -29,7 +31,7 @@ module _ {first s : State} {left : ℕ} (g : SoFar first s left) where
   so-far-on {s′} m z e =
       record {
         turns = g .turns + 1;
-        trace = then (g .trace) (m .trace);
+        trace = followed-by (g .trace) (m .trace);
         runs = more (g .turns) (g .trace) (m .trace) s s′ (g .runs) (m .step);
         all = omega (arith, g .all);
         sound = steps-sound (m .step) (g .sound) z;

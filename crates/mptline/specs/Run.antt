@@ -1,7 +1,9 @@
 -- What the program does from its first read on. Assumes nothing.
 use mathlib.Core.Path.{_≡_}
 use Prim.Native.Nat.{ℕ}
-use Rattle.lines.specs.Session.{State, Trace, Runs, Sound}
+use Rattle.lines.specs.Session.{State}
+use Rattle.lines.specs.Trace.{Trace, Runs}
+use Rattle.lines.specs.Invariant.{Sound}
 use Rattle.lines.specs.declared.session.Next.the-variants.{Stop}
 
 -- a proved loop has to end: no run uses up so many turns

@@ -1,7 +1,9 @@
 // The line tool: reads lines of a source, a tab and a label, and writes an answer for each. What it does with what it
 // reads, and what it writes when, is told by lines::session.
 ghost use Rattle.lines.specs.Chunk.{lend};
-ghost use Rattle.lines.specs.Session.{state-of, started, Moves, Sound};
+ghost use Rattle.lines.specs.Session.{state-of, started};
+ghost use Rattle.lines.specs.Trace.{Moves};
+ghost use Rattle.lines.specs.Invariant.{Sound};
 ghost use Rattle.mptline.specs.Run.{Ran};
 ghost use Rattle.lines.specs.declared.session.Next.the-variants.{Write, Read, Stop};
 use libc::STDIN_FILENO;

@@ -3,7 +3,7 @@ use mathlib.Core.Path.{refl}
 use native.Mathlib.Omega.{arith}
 use Rattle.replies.specs.Sizes.{held-limit, scratch-size}
 use Rattle.replies.proofs.Zeros.{blank-zero}
-use Rattle.lines.specs.Session.{NextIn}
+use Rattle.lines.specs.Invariant.{NextIn}
 use borrow.Author.Needs.{needs}
 use Rattle.mptline.proofs.main.Statement.{statement}
 use Rattle.mptline.proofs.main.Tie as tie

@@ -2,7 +2,7 @@
 use native.Mathlib.Omega.{arith}
 use mir.Syntax.{w64}
 use mir.Val.{toZ, ofZ}
-use Rattle.lines.specs.Session.{NextIn}
+use Rattle.lines.specs.Invariant.{NextIn}
 use Rattle.lines.proofs.Sessions.{chunk-fits, chunk-some, read-moves}
 use borrow.Author.Needs.{needs}
 use Rattle.mptline.proofs.read.Statement.{statement}

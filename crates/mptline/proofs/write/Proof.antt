@@ -1,7 +1,7 @@
 -- `write` meets its contract. Assumes nothing.
 use mathlib.Core.Path.{sym}
 use lib.Seq.{length-take-le}
-use Rattle.lines.specs.Session.{NextIn}
+use Rattle.lines.specs.Invariant.{NextIn}
 use Rattle.lines.proofs.Sessions.{write-moves}
 use borrow.Author.Needs.{needs}
 use Rattle.mptline.proofs.write.Statement.{statement}
