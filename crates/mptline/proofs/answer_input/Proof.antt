@@ -1,5 +1,5 @@
 -- `answer_input` meets its contract: the loop begins with the first line to be written. Assumes nothing.
-use mathlib.Core.Path.{refl, sym, ap, subst}
+use mathlib.Core.Path.{refl, ap}
 use native.Mathlib.Omega.{arith}
 use lib.ListN.{length}
 use Rattle.lines.specs.Session.{started}
