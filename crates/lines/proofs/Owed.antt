@@ -1,7 +1,7 @@
 -- What the line tool writes is the output: at each step what was written and what is still owed come to it. Assumes nothing.
 use mathlib.Core.Path.{_≡_, refl, sym, ap, ap₂, _∙_}
 use mathlib.Core.Logic.{_⊎_, inl, inr, ⊎-elim}
-use mathlib.Core.Bool.{Bool, true, false, not, _&&_}
+use mathlib.Core.Bool.{Bool, true, false, not, _&&_, _||_}
 use mathlib.Core.List.{List, [], _∷_, _++_, append-assoc, append-nil}
 use Prim.Native.Nat.{ℕ, _≤_}
 use native.Mathlib.Omega.{arith}
@@ -15,7 +15,7 @@ use Rattle.replies.specs.Reply.{zeros}
 use Rattle.lines.specs.Output.{answers, last-line, first-line, output, lines-in, joined}
 use Rattle.lines.specs.Chunk.{Buffers}
 use Rattle.lines.specs.Session.{started, State, halted, Continues, finished, AfterRead, PendingIn, written, waiting, GoesOn, AfterWrite}
-use Rattle.lines.specs.Trace.{Trace, followed-by, Steps, read, end, write, read-fails, write-fails, Runs, none, more}
+use Rattle.lines.specs.Trace.{Trace, followed-by, Steps, read, end, write, read-fails, write-fails, Runs, none, more, to-come}
 use Rattle.lines.specs.Invariant.{Sound}
 use Rattle.lines.specs.declared.chunk.Pending.{Pending}
 use Rattle.lines.specs.declared.session.Next.{Next}
@@ -39,16 +39,6 @@ unfoldable ahead : Next → List Bytes → List Bytes
 ahead Stop chunks = []
 ahead (Read held) chunks = chunks
 ahead (Write p) chunks = elim (p .last) [ true ↦ [] | false ↦ chunks ]
-
-ahead-none : (next : Next) → ahead next [] ≡ []
-unfolding ahead
-ahead-none Stop = refl
-ahead-none (Read held) = refl
-ahead-none (Write p) = go (p .last)
-  where
-    go : (b : Bool) → _≡_ {A = List Bytes} (elim b [ true ↦ [] | false ↦ [] ]) []
-    go true = refl
-    go false = refl
 
 -- part of a chunk is answered
 module _ {chunk input : Bytes} {from held : ℕ} {b : Buffers} {s : State} (a : Continues chunk from held input b s) where
@@ -81,25 +71,27 @@ record Pays (s : State) (t : Trace) (s′ : State) : Type 0 where
   well : t .well ≡ true
   pays : (chunks : List Bytes) → t .text ++ owed s′ chunks ≡ owed s (t .chunks ++ ahead (s′ .next) chunks)
   keeps : (chunks : List Bytes) → ahead (s .next) (t .chunks ++ ahead (s′ .next) chunks) ≡ t .chunks ++ ahead (s′ .next) chunks
+  awaits : (chunks : List Bytes) → ahead (s′ .next) chunks ≡ to-come (t .ended) (ahead (s .next) chunks)
 
 module _ (p : Pending) (input : Bytes) (b : Buffers) (s : State) (f : PendingIn p input b) where
   abbrev pending : State
   pending = record { next = Write p; input = input; buffers = b }
 
   abbrev replies : Trace
-  replies = record { chunks = []; text = take (p .end) (b .out); well = true }
+  replies = record { chunks = []; ended = false; text = take (p .end) (b .out); well = true }
 
   last-pays : (rest : Bool) → p .last ≡ true → GoesOn false rest p input b s → Pays pending replies s
-  unfolding GoesOn halted owed ahead
+  unfolding GoesOn halted owed ahead to-come
   last-pays rest l a =
       record {
         well = refl;
         pays = λ chunks. ap (λ (x : State). take (p .end) (b .out) ++ owed x chunks) a ∙ ap (λ v. take (p .end) (b .out) ++ v) (sym (if-true (p .last) [] _ l));
         keeps = λ chunks. if-true (p .last) [] _ l ∙ ap (λ (x : State). ahead (x .next) chunks) (sym a);
+        awaits = λ chunks. ap (λ (x : State). ahead (x .next) chunks) a ∙ sym (if-true (p .last) [] _ l);
       }
 
   rest-pays : (rest : Bool) → ltb (p .from) (p .to) ≡ rest → p .last ≡ false → GoesOn true rest p input b s → Pays pending replies s
-  unfolding GoesOn written waiting owed ahead in-chunks joined
+  unfolding GoesOn written waiting owed ahead in-chunks joined to-come
   rest-pays true e l a =
       record {
         well = refl;
@@ -109,6 +101,7 @@ module _ (p : Pending) (input : Bytes) (b : Buffers) (s : State) (f : PendingIn 
             (continues-owed a (ap (λ k. take k input) (length-take-le (p .to) input (f .to-fits))) chunks ∙ sym (if-false (p .last) [] _ l)
             ∙ ap (λ v. elim (p .last) [ true ↦ [] | false ↦ in-chunks (take (p .held) (b .line)) (slice (p .from) (p .to) input ∷ v) (b .scratch) ]) (sym (continues-ahead a chunks)));
         keeps = λ chunks. if-false (p .last) [] _ l;
+        awaits = λ chunks. continues-ahead a chunks ∙ sym (if-false (p .last) [] _ l);
       }
   rest-pays false e l a =
       let nothing : slice (p .from) (p .to) input ≡ [] = drop-of-length-le (take (p .to) input) {i = p .from} (omega (arith, length-take-le (p .to) input (f .to-fits), ltb-false (p .from) (p .to) e)) in
@@ -120,6 +113,7 @@ module _ (p : Pending) (input : Bytes) (b : Buffers) (s : State) (f : PendingIn 
             (ap (λ x. owed x chunks) a ∙ ap (λ v. in-chunks (take (p .held) (b .line)) (v ∷ chunks) (b .scratch)) (sym nothing) ∙ sym (if-false (p .last) [] _ l)
             ∙ ap (λ (x : State). elim (p .last) [ true ↦ [] | false ↦ in-chunks (take (p .held) (b .line)) (slice (p .from) (p .to) input ∷ ahead (x .next) chunks) (b .scratch) ]) (sym a));
         keeps = λ chunks. if-false (p .last) [] _ l;
+        awaits = λ chunks. ap (λ (x : State). ahead (x .next) chunks) a ∙ sym (if-false (p .last) [] _ l);
       }
 
   write-pays : AfterWrite true p input b s → Pays pending replies s
@@ -138,12 +132,12 @@ in-two k n s v h =
 record Fails (s : State) (t : Trace) (s′ : State) : Type 0 where
   ill : t .well ≡ false
   unread : t .chunks ≡ []
-  rest : Bytes
-  begins : t .text ++ rest ≡ owed s []
+  unended : t .ended ≡ false
+  begins : (chunks : List Bytes) → (rest : Bytes) × (t .text ++ rest ≡ owed s chunks)
   stop : s′ .next ≡ Stop
 
 step-goes : {s s′ : State} {t : Trace} → Steps s t s′ → Pays s t s′ ⊎ Fails s t s′
-unfolding AfterRead GoesOn finished halted owed ahead in-chunks joined lines-in
+unfolding AfterRead GoesOn finished halted owed ahead in-chunks joined lines-in to-come
 step-goes (read held n input input′ b s′ g h a) =
     inl
     (record {
@@ -152,6 +146,7 @@ step-goes (read held n input input′ b s′ g h a) =
           λ chunks.
           continues-owed a (ap (λ k. take k input′) (length-take-le n input′ h)) chunks ∙ ap (λ v. in-chunks (take held (b .line)) (take n input′ ∷ v) (b .scratch)) (sym (continues-ahead a chunks));
       keeps = λ chunks. refl;
+      awaits = λ chunks. continues-ahead a chunks;
     })
 step-goes (end held input input′ b s′ a) =
     inl
@@ -162,18 +157,12 @@ step-goes (end held input input′ b s′ a) =
           ap (λ x. owed x chunks) a ∙ append-nil _ ∙ take-over (answers (last-line (take held (b .line))) (b .scratch) .text) (b .out)
           ∙ ap (λ (x : State). in-chunks (take held (b .line)) (ahead (x .next) chunks) (b .scratch)) (sym a);
       keeps = λ chunks. refl;
+      awaits = λ chunks. ap (λ (x : State). ahead (x .next) chunks) a;
     })
 step-goes (write p input b s′ f a) = inl (write-pays p input b s′ f a)
-step-goes (read-fails held input input′ b s′ a) = inr (record { ill = refl; unread = refl; rest = _; begins = refl; stop = ap (λ (x : State). x .next) a })
+step-goes (read-fails held input input′ b s′ a) = inr (record { ill = refl; unread = refl; unended = refl; begins = λ chunks. (_, refl); stop = ap (λ (x : State). x .next) a })
 step-goes (write-fails p k input b s′ h f a) =
-    inr
-    (record {
-      ill = refl;
-      unread = refl;
-      rest = drop k (take (p .end) (b .out)) ++ _;
-      begins = in-two k (p .end) (b .out) _ h;
-      stop = ap (λ (x : State). x .next) a;
-    })
+    inr (record { ill = refl; unread = refl; unended = refl; begins = λ chunks. (drop k (take (p .end) (b .out)) ++ _, in-two k (p .end) (b .out) _ h); stop = ap (λ (x : State). x .next) a })
 
 -- nothing is done after a stop
 no-step : {s s′ : State} {t : Trace} → Steps s t s′ → s .next ≡ Stop → ⊥
@@ -185,6 +174,17 @@ no-step (write-fails p k input b s′ h f a) e = not-stop-write e
 
 -- ---- a whole run
 
+to-come-or : (u t : Bool) (chunks : List Bytes) → to-come u (to-come t chunks) ≡ to-come (u || t) chunks
+unfolding to-come
+to-come-or true t chunks = refl
+to-come-or false t chunks = refl
+
+-- nothing is to come where some chunk could: the input has ended
+stopped-ended : (ended : Bool) → _≡_ {A = List Bytes} [] (to-come ended ([] ∷ [])) → ended ≡ true
+unfolding to-come
+stopped-ended true e = refl
+stopped-ended false e = absurd (let z : _≡_ {A = ℕ} 0 1 = cc in omega arith)
+
 module _ (input : Bytes) (b : Buffers) where
   abbrev start : State
   start = started input b
@@ -193,13 +193,13 @@ module _ (input : Bytes) (b : Buffers) where
   record Going (t : Trace) (s : State) : Type 0 where
     well : t .well ≡ true
     owes : (chunks : List Bytes) → t .text ++ owed s chunks ≡ owed start (t .chunks ++ ahead (s .next) chunks)
+    awaits : (chunks : List Bytes) → ahead (s .next) chunks ≡ to-come (t .ended) chunks
 
-  -- something failed: what was written is a beginning
+  -- something failed: what was written is a beginning, however the input would have gone on
   record Broken (t : Trace) (s : State) : Type 0 where
     ill : t .well ≡ false
     stop : s .next ≡ Stop
-    rest : Bytes
-    begins : t .text ++ rest ≡ owed start (t .chunks)
+    begins : (chunks : List Bytes) → (rest : Bytes) × (t .text ++ rest ≡ owed start (t .chunks ++ to-come (t .ended) chunks))
 
   going-on : (t u : Trace) (s s′ : State) → Going t s → Pays s u s′ → Going (followed-by t u) s′
   unfolding followed-by
@@ -210,6 +210,7 @@ module _ (input : Bytes) (b : Buffers) where
             λ chunks.
             append-assoc (t .text) (u .text) _ ∙ ap (λ v. t .text ++ v) (a .pays chunks) ∙ g .owes (u .chunks ++ ahead (s′ .next) chunks)
             ∙ ap (λ v. owed start (t .chunks ++ v)) (a .keeps chunks) ∙ ap (owed start) (sym (append-assoc (t .chunks) (u .chunks) _));
+        awaits = λ chunks. a .awaits chunks ∙ ap (to-come (u .ended)) (g .awaits chunks) ∙ to-come-or (u .ended) (t .ended) chunks;
       }
 
   going-wrong : (t u : Trace) (s s′ : State) → Going t s → Fails s u s′ → Broken (followed-by t u) s′
@@ -218,14 +219,18 @@ module _ (input : Bytes) (b : Buffers) where
       record {
         ill = ap₂ (λ v w. v && w) (g .well) (f .ill);
         stop = f .stop;
-        rest = f .rest;
         begins =
-            append-assoc (t .text) (u .text) (f .rest) ∙ ap (λ v. t .text ++ v) (f .begins) ∙ g .owes [] ∙ ap (λ v. owed start (t .chunks ++ v)) (ahead-none (s .next) ∙ sym (f .unread));
+            λ chunks.
+            let (rest, e) = f .begins chunks in (
+              rest,
+              append-assoc (t .text) (u .text) rest ∙ ap (λ v. t .text ++ v) e ∙ g .owes chunks ∙ ap (λ v. owed start (t .chunks ++ v)) (g .awaits chunks)
+                  ∙ ap₂ (λ v w. owed start (v ++ to-come w chunks)) (sym (append-nil (t .chunks)) ∙ ap (λ v. t .chunks ++ v) (sym (f .unread))) (ap (λ w. w || t .ended) (sym (f .unended))),
+            );
       }
 
   runs-go : {turns : ℕ} {t : Trace} {s : State} → Runs start turns t s → Going t s ⊎ Broken t s
-  unfolding started owed ahead
-  runs-go none = inl (record { well = refl; owes = λ chunks. refl })
+  unfolding started owed ahead to-come
+  runs-go none = inl (record { well = refl; owes = λ chunks. refl; awaits = λ chunks. refl })
   runs-go (more turns t u s s′ run step) =
       ⊎-elim (λ g. ⊎-elim (λ a. inl (going-on t u s s′ g a)) (λ f. inr (going-wrong t u s s′ g f)) (step-goes step)) (λ d. absurd (no-step step (d .stop))) (runs-go run)
 
@@ -235,21 +240,25 @@ module _ (input : Bytes) (b : Buffers) where
   start-owed y chunks =
       ap₂ (λ v s. v ++ in-chunks [] ([] ∷ chunks) s) (take-over first-line (b .out)) (y .tidy .scratch-zero ∙ ap (λ n. replicate n 0) (y .sized .scratch-full)) ∙ chunks-hold ([] ∷ chunks)
 
-  owes-none : (t : Trace) (s : State) → Going t s → t .text ++ owed s [] ≡ owed start (t .chunks)
-  owes-none t s g = g .owes [] ∙ ap (λ v. owed start (t .chunks ++ v)) (ahead-none (s .next)) ∙ ap (owed start) (append-nil (t .chunks))
+  owes-then : (t : Trace) (s : State) → Going t s → (chunks : List Bytes) → t .text ++ owed s chunks ≡ owed start (t .chunks ++ to-come (t .ended) chunks)
+  owes-then t s g chunks = g .owes chunks ∙ ap (λ v. owed start (t .chunks ++ v)) (g .awaits chunks)
 
   module _ (fresh : Sound (record { next = Stop; input = input; buffers = b })) where
-    -- what is written is always a beginning of the output, whatever fails
-    pub runs-begin : {turns : ℕ} {t : Trace} {s : State} → Runs start turns t s → (rest : Bytes) × (t .text ++ rest ≡ output (joined (t .chunks)))
-    runs-begin {t = t} {s} run = ⊎-elim (λ g. (owed s [], owes-none t s g ∙ start-owed fresh (t .chunks))) (λ d. (d .rest, d .begins ∙ start-owed fresh (t .chunks))) (runs-go run)
+    -- what is written is always a beginning of the output, whatever fails and however the input goes on
+    pub runs-begin : {turns : ℕ} {t : Trace} {s : State} → Runs start turns t s → (chunks : List Bytes) → (rest : Bytes) × (t .text ++ rest ≡ output (joined (t .chunks ++ to-come (t .ended) chunks)))
+    runs-begin {t = t} {s} run chunks =
+        ⊎-elim (λ g. (owed s chunks, owes-then t s g chunks ∙ start-owed fresh _)) (λ d. let (rest, e) = d .begins chunks in (rest, e ∙ start-owed fresh _)) (runs-go run)
 
-    -- and it is the output where nothing failed until it stopped
-    pub runs-hold : {turns : ℕ} {t : Trace} {s : State} → Runs start turns t s → t .well ≡ true → s .next ≡ Stop → t .text ≡ output (joined (t .chunks))
-    unfolding owed
+    -- and where nothing failed until it stopped the input had ended, and it is the output
+    pub runs-hold : {turns : ℕ} {t : Trace} {s : State} → Runs start turns t s → t .well ≡ true → s .next ≡ Stop → (t .ended ≡ true) × (t .text ≡ output (joined (t .chunks)))
+    unfolding owed ahead to-come
     runs-hold {t = t} {s} run w e =
         ⊎-elim
         (λ g.
         let nothing : owed s [] ≡ [] = rw e in
-        sym (append-nil (t .text)) ∙ ap (λ v. t .text ++ v) (sym nothing) ∙ owes-none t s g ∙ start-owed fresh (t .chunks))
+        let none-left : ahead (s .next) [] ≡ [] = rw e in (
+          stopped-ended (t .ended) (rw e at (g .awaits ([] ∷ []))),
+          sym (append-nil (t .text)) ∙ ap (λ v. t .text ++ v) (sym nothing) ∙ g .owes [] ∙ ap (λ v. owed start (t .chunks ++ v)) none-left ∙ ap (owed start) (append-nil (t .chunks)) ∙ start-owed fresh (t .chunks),
+        ))
         (λ d. apart (sym w ∙ d .ill))
         (runs-go run)

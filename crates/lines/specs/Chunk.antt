@@ -32,7 +32,7 @@ pub record Done (l : LinesIn) (b b′ : Buffers) (p : Pending) : Type 0 where
   pub held : p .held ≡ length (l .held)
   pub held-fits : p .held ≤ held-limit
 
--- the lines of a chunk from one place to another are; if the chunk has more, no line is held and the rest of the output may be short of a reply
+-- the lines of a chunk from one place to another are answered; if the chunk has more, no line is held and the rest of the output may be short of a reply
 pub record Answered (chunk : Bytes) (from held : ℕ) (b b′ : Buffers) (p : Pending) : Type 0 where
   pub done : Done (lines-in (take held (b .line)) (slice from (p .from) chunk)) b b′ p
   pub forward : from ≤ p .from

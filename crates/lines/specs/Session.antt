@@ -68,7 +68,7 @@ finished last held input b =
       buffers = record { line = zeroed held (b .line); scratch = last .scratch; out = over (last .text) (b .out) };
     }
 
--- a failed read: nothing is answered of what is held
+-- failed: nothing is answered of what is held; ended: it is the last line; else the chunk is answered
 unfoldable pub AfterRead : Input → (held : ℕ) (input : Bytes) → Buffers → State → Type 0
 AfterRead Failed held input b s = s ≡ halted input b
 AfterRead Ended held input b s = s ≡ finished (answers (last-line (take held (b .line))) (b .scratch)) held input b

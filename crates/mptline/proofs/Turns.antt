@@ -1,14 +1,14 @@
 -- The turns of the program's loop, each a step of its run, and what the run writes. Assumes nothing.
 use mathlib.Core.Path.{_≡_, refl}
 use mathlib.Core.Bool.{true}
-use mathlib.Core.List.{_++_}
+use mathlib.Core.List.{List, _++_}
 use Prim.Native.Nat.{ℕ, _+_}
 use native.Mathlib.Omega.{arith}
 use Rattle.pattern.specs.Bytes.{Bytes}
 use Rattle.lines.specs.Output.{output, joined}
 use Rattle.lines.specs.Chunk.{Buffers}
 use Rattle.lines.specs.Session.{State, started}
-use Rattle.lines.specs.Trace.{Trace, followed-by, Moves, Runs, none, more}
+use Rattle.lines.specs.Trace.{Trace, followed-by, Moves, Runs, none, more, to-come}
 use Rattle.lines.specs.Invariant.{Sized, Sound}
 use Rattle.lines.specs.declared.session.Next.the-variants.{Stop}
 use Rattle.lines.proofs.Owed.{runs-begin, runs-hold}
@@ -44,10 +44,11 @@ module _ {first s : State} {left : ℕ} (g : SoFar first s left) where
   pub so-far-all : left ≡ 0 → Ran first s
   so-far-all e = record { turns = g .turns; trace = g .trace; runs = g .runs; until = λ f. omega (arith, g .all); sound = g .sound }
 
--- the program's run, from buffers of zeros: what it writes is a beginning of the output, and all of it where nothing failed and it was told to stop
+-- the program's run, from buffers of zeros: what its trace has as written is a beginning of the output, however the input goes on; and where nothing failed
+-- and it was told to stop, the input had ended and it is the output
 module _ (input : Bytes) (b : Buffers) (fresh : Sound (record { next = Stop; input = input; buffers = b })) {s : State} (r : Ran (started input b) s) where
-  pub ran-begins : (rest : Bytes) × (r .trace .text ++ rest ≡ output (joined (r .trace .chunks)))
+  pub ran-begins : (chunks : List Bytes) → (rest : Bytes) × (r .trace .text ++ rest ≡ output (joined (r .trace .chunks ++ to-come (r .trace .ended) chunks)))
   ran-begins = runs-begin input b fresh (r .runs)
 
-  pub ran-holds : r .trace .well ≡ true → s .next ≡ Stop → r .trace .text ≡ output (joined (r .trace .chunks))
+  pub ran-holds : r .trace .well ≡ true → s .next ≡ Stop → (r .trace .ended ≡ true) × (r .trace .text ≡ output (joined (r .trace .chunks)))
   ran-holds = runs-hold input b fresh (r .runs)

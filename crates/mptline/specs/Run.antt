@@ -1,4 +1,4 @@
--- What the program does from its first read on. Assumes nothing.
+-- What the program does from its first write on. Assumes nothing.
 use mathlib.Core.Path.{_≡_}
 use Prim.Native.Nat.{ℕ}
 use Rattle.lines.specs.Session.{State}
@@ -6,7 +6,7 @@ use Rattle.lines.specs.Trace.{Trace, Runs}
 use Rattle.lines.specs.Invariant.{Sound}
 use Rattle.lines.specs.declared.session.Next.the-variants.{Stop}
 
--- a proved loop has to end: no run uses up so many turns
+-- a proved loop has to end: in practice no run uses up so many turns
 abbrev pub turn-limit : ℕ
 turn-limit = 18_446_744_073_709_551_615
 

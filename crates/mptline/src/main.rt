@@ -36,7 +36,7 @@ fn read(held: usize, buf: &mut [u8], line: &mut [u8], scratch: &mut [u8], out: &
 }
 
 // Reads and writes until it is told to stop. A proved loop has to end, so its turns are counted down from a number that no
-// run uses up; what is answered says which it was.
+// run uses up in practice; what is answered says which it was.
 fn run(first: Next, buf: &mut [u8], line: &mut [u8], scratch: &mut [u8], out: &mut [u8]) -> Next
     requires { ⌜ Sound (state-of first (now buf) (now line) (now scratch) (now out)) ⌝ }
     ensures { λ r. ⌜ Ran (state-of first (now (buf .entry)) (now (line .entry)) (now (scratch .entry)) (now (out .entry))) (state-of r (now (buf .exit)) (now (line .exit)) (now (scratch .exit)) (now (out .exit))) ⌝ }

@@ -1,4 +1,4 @@
--- `main` meets its contract: the buffers are zeros at first. Assumes nothing.
+-- `main` meets what `answer_input` requires: the buffers are zeros at first. Assumes nothing.
 use mathlib.Core.Path.{refl}
 use native.Mathlib.Omega.{arith}
 use Rattle.replies.specs.Sizes.{held-limit, scratch-size}
