@@ -5,3 +5,4 @@ pub mod Sessions
 pub mod Owed
 pub mod Tidying
 pub mod Progress
+pub mod Examples

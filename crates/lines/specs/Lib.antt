@@ -1,6 +1,5 @@
 pub mod Output
 pub mod Taking
-pub mod Examples
 pub mod Chunk
 pub mod Session
 pub mod Trace

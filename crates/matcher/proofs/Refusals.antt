@@ -9,10 +9,12 @@ use lib.ListN.{length}
 use Rattle.pattern.specs.Numbers.{atom-limit, label-limit, TABLE, LABEL, WORK, PARTS}
 use Rattle.pattern.specs.Bytes.{Bytes}
 use Rattle.pattern.specs.Syntax.{pattern, Syntax, size, top-size}
+use Rattle.pattern.specs.Parts.{verdict}
+use Rattle.pattern.specs.Trials.{trials}
 use Rattle.pattern.specs.Scan.{refuse}
 use Rattle.pattern.specs.Print.{print}
 use Rattle.pattern.specs.Decode.{tree-of, decode}
-use Rattle.pattern.specs.Answers.{work, lent-fault, tried, untried, tried-unless, matched, matchOf}
+use Rattle.pattern.specs.Answers.{work, lent-fault, ended, ending, match-ending, matchOf}
 use Rattle.pattern.proofs.Accepted.{accepted-exactly}
 use Rattle.pattern.proofs.RoundTrip.{tree-encode}
 use Rattle.pattern.proofs.Calls.{print-accepted, decoded-encode}
@@ -21,16 +23,17 @@ use Rattle.table.specs.declared.Summary.{Summary}
 use Rattle.table.specs.declared.Tested.the-variants.{Bad, Good}
 use Rattle.table.specs.Walk.{tested}
 use Rattle.matcher.specs.Atoms.{GoodTable, atoms}
-use Rattle.matcher.specs.Answered.{Running}
+use Rattle.matcher.specs.Answered.{Running, unrefused, Promised}
+use Rattle.matcher.specs.declared.Matched.the-variants.{Table, Label, Work, Parts}
 
-none-bad : (o : Option (Syntax pattern)) → Bad ≡ tested o → o ≡ none
+pub none-bad : (o : Option (Syntax pattern)) → Bad ≡ tested o → o ≡ none
 unfolding tested
 none-bad none e = refl
 none-bad (some t) e = absurd (let z : _≡_ {A = ℕ} 0 1 = cc in omega arith)
 
-pub bad-table : (table label scratch parts : Bytes) (budget : ℕ) → Bad ≡ tested (decode table) → untried TABLE scratch parts ≡ matchOf table label scratch parts budget
-unfolding matchOf matched
-bad-table table label scratch parts budget e = sym (ap (λ o. matched o label scratch parts budget) (none-bad (decode table) e))
+pub bad-table : (table label scratch parts : Bytes) (budget : ℕ) → Bad ≡ tested (decode table) → Promised table label scratch parts budget Table scratch parts
+unfolding matchOf match-ending ended
+bad-table table label scratch parts budget e = sym (ap (λ o. ended (match-ending o label scratch parts budget) scratch parts) (none-bad (decode table) e))
 
 module _ (table : Bytes) where
   -- the tree of a good table is what it is read as, within the limits
@@ -74,20 +77,21 @@ module _ (table : Bytes) where
           omega (arith, mul-le-mul-right (n + 1) rows-few, mul-le-mul-left 33792 b)
 
     module _ (label scratch parts : Bytes) (budget : ℕ) where
-      faulted : (o : Option ℕ) → lent-fault (tree-of table) label scratch parts ≡ o → tried-unless o (tree-of table) label scratch parts budget ≡ matchOf table label scratch parts budget
-      unfolding matchOf matched
-      faulted o f = sym (ap (λ o. matched o label scratch parts budget) (told .0 .decoded) ∙ ap (λ o. tried-unless o (tree-of table) label scratch parts budget) f)
+      faulted : (o : Option ℕ) → lent-fault (tree-of table) label scratch parts ≡ o
+          → ended (ending o (work (tree-of table) (length label)) (trials label (tree-of table)) budget (verdict label (tree-of table))) scratch parts ≡ matchOf table label scratch parts budget
+      unfolding matchOf match-ending
+      faulted o f = sym (rw (told .0 .decoded, f))
 
       work-is : work (tree-of table) (length label) ≡ (2 * s .atoms + 4) * (length label + 1) * (length label + 1)
       work-is = ap (λ (k : ℕ). (2 * k + 4) * (length label + 1) * (length label + 1)) (sym (told .1))
 
-      pub long-label : label-limit < length label → untried LABEL scratch parts ≡ matchOf table label scratch parts budget
-      unfolding lent-fault refuse tried-unless
+      pub long-label : label-limit < length label → Promised table label scratch parts budget Label scratch parts
+      unfolding lent-fault refuse ending ended
       long-label h = faulted (some LABEL) (rw (lt-ltb label-limit (length label) h))
 
       module _ (h : length label ≤ label-limit) where
-        pub little-work : length scratch < (2 * s .atoms + 4) * (length label + 1) * (length label + 1) → untried WORK scratch parts ≡ matchOf table label scratch parts budget
-        unfolding lent-fault refuse tried-unless
+        pub little-work : length scratch < (2 * s .atoms + 4) * (length label + 1) * (length label + 1) → Promised table label scratch parts budget Work scratch parts
+        unfolding lent-fault refuse ending ended
         little-work k =
             let l : length scratch < work (tree-of table) (length label) = rw work-is k in
             faulted (some WORK) (rw (le-ltb label-limit (length label) h, lt-ltb (length scratch) (work (tree-of table) (length label)) l))
@@ -96,8 +100,8 @@ module _ (table : Bytes) where
           room : work (tree-of table) (length label) ≤ length scratch
           room = rw work-is k
 
-          pub few-parts : length parts < 2 * s .top → untried PARTS scratch parts ≡ matchOf table label scratch parts budget
-          unfolding lent-fault refuse tried-unless
+          pub few-parts : length parts < 2 * s .top → Promised table label scratch parts budget Parts scratch parts
+          unfolding lent-fault refuse ending ended
           few-parts m =
               let l : length parts < 2 * top-size (tree-of table) = rw (← told .2) m in
               faulted (some PARTS) (rw (le-ltb label-limit (length label) h, le-ltb (length scratch) (work (tree-of table) (length label)) room, lt-ltb (length parts) (2 * top-size (tree-of table)) l))
@@ -109,6 +113,6 @@ module _ (table : Bytes) where
             pub all-lent : Running table label scratch parts (s .atoms)
             all-lent = record { good = told .0; counted = told .1; short = h; room = room; fits = fits }
 
-            pub no-fault : tried (tree-of table) label scratch parts budget ≡ matchOf table label scratch parts budget
-            unfolding lent-fault refuse tried-unless
+            pub no-fault : ended (unrefused table label budget) scratch parts ≡ matchOf table label scratch parts budget
+            unfolding lent-fault refuse ending
             no-fault = faulted none (rw (le-ltb label-limit (length label) h, le-ltb (length scratch) (work (tree-of table) (length label)) room, le-ltb (length parts) (2 * top-size (tree-of table)) fits))

@@ -16,15 +16,16 @@ use Rattle.pattern.specs.Decision.{decide}
 use Rattle.pattern.specs.Parts.{parts, verdict}
 use Rattle.pattern.specs.Trials.{trials}
 use Rattle.pattern.specs.Decode.{tree-of}
-use Rattle.pattern.specs.Answers.{result, work, cleared, judged, tried-if, tried, Matched as Outcome}
+use Rattle.pattern.specs.Answers.{result, work, cleared, ended, Matched as Outcome}
 use Rattle.pattern.proofs.Tests.{if-true, if-false}
+use Rattle.pattern.proofs.Calls.{ending-within, ending-beyond}
 use Rattle.pattern.proofs.RoundTrip.{some-pattern}
 use Rattle.planes.specs.declared.join.Tally.{Tally}
 use Rattle.planes.specs.Cells.{InRoom, on}
 use Rattle.matcher.specs.Atoms.{atoms, Work}
 use Rattle.matcher.specs.Steps.{AllSettled}
 use Rattle.matcher.specs.Parted.{Parting, Parted}
-use Rattle.matcher.specs.Answered.{Running}
+use Rattle.matcher.specs.Answered.{Running, unrefused}
 use Rattle.planes.proofs.Planes.{plane-on}
 use Rattle.planes.proofs.Counting.{counted-room, counted-all, counted-past}
 use Rattle.matcher.proofs.Groups.{work-long, work-room}
@@ -73,25 +74,18 @@ module _ (table label scratch lent : Bytes) (count : ℕ) (ok : Running table la
 
   module _ (budget : ℕ) (s : Bytes) (long : length s ≡ length scratch) (r : Tally) (got : AllSettled table label scratch s w (2 * count) budget r) where
     -- the planes' bytes are zero, the others as they were
-    cleared-is : (s′ : Bytes) → s′ ≡ replicate len 0 ++ drop len s → s′ ≡ cleared t (length label) scratch
+    cleared-is : (s′ : Bytes) → s′ ≡ replicate len 0 ++ drop len s → s′ ≡ cleared (work t (length label)) scratch
     unfolding cleared over
     cleared-is s′ e =
         e ∙ ap (λ (l : Bytes). replicate len 0 ++ l) (drop-same scratch s len long (got .kept .rest) ∙ ap (λ (k : ℕ). drop k scratch) (sym (length-replicate {A = ℕ} len 0)))
         ∙ ap (λ (k : ℕ). let z : Bytes = replicate k 0 in z ++ drop (length z) scratch) len-is
 
     pub run-stop : r .stopped ≡ true → (s′ : Bytes) → s′ ≡ replicate len 0 ++ drop len s
-        → _≡_ {A = Outcome} record { answer = record { number = BUDGET; position = 0; value = 0; trials = budget }; scratch = s′; parts = lent } (tried t label scratch lent budget)
-    unfolding tried tried-if
-    run-stop e s′ c =
-        ap (λ (x : Bytes). record { answer = record { number = BUDGET; position = 0; value = 0; trials = budget }; scratch = x; parts = lent }) (cleared-is s′ c)
-        ∙ sym (ap (λ b. tried-if b t label scratch lent budget) (lt-leb _ _ (counted-past (got .counted) e)))
+        → _≡_ {A = Outcome} record { answer = record { number = BUDGET; position = 0; value = 0; trials = budget }; scratch = s′; parts = lent } (ended (unrefused table label budget) scratch lent)
+    unfolding ended
+    run-stop e s′ c = rw (ending-beyond _ _ budget _ (counted-past (got .counted) e), cleared-is s′ c)
 
     module _ (e : r .stopped ≡ false) where
-      judged-is : (o : Option (List ℕ)) → verdict label t ≡ o → tried t label scratch lent budget ≡ judged o t label scratch lent
-      unfolding tried tried-if
-      judged-is o v =
-          ap (λ b. tried-if b t label scratch lent budget) (le-leb _ _ (counted-room (got .counted) e)) ∙ ap (λ v. judged v t label scratch lent) v
-
       -- the cell of the whole label is the decision
       decided : on s w 1 0 (length label) ≡ decide label t 0 (length label)
       decided =
@@ -102,15 +96,15 @@ module _ (table label scratch lent : Bytes) (count : ℕ) (ok : Running table la
       run-parting = record { work = work-long long run-work; settled = got .whole e; fits = ok .fits }
 
       pub run-yes : on s w 1 0 (length label) ≡ true → (lent′ : Bytes) → Parted table label lent lent′ → (s′ : Bytes) → s′ ≡ replicate len 0 ++ drop len s
-          → _≡_ {A = Outcome} record { answer = result 1 (r .trials); scratch = s′; parts = lent′ } (tried t label scratch lent budget)
-      unfolding verdict judged
+          → _≡_ {A = Outcome} record { answer = result 1 (r .trials); scratch = s′; parts = lent′ } (ended (unrefused table label budget) scratch lent)
+      unfolding verdict ended
       run-yes h lent′ p s′ c =
           let z : verdict label t ≡ some (parts label t 0) = if-true _ _ _ (sym decided ∙ h) in
-          sym (judged-is (some (parts label t 0)) z ∙ sym (rw (cleared-is s′ c, p .written, counted-all (got .counted) e)))
+          rw (ending-within _ _ budget _ (counted-room (got .counted) e), z, cleared-is s′ c, p .written, counted-all (got .counted) e)
 
       pub run-no : on s w 1 0 (length label) ≡ false → (s′ : Bytes) → s′ ≡ replicate len 0 ++ drop len s
-          → _≡_ {A = Outcome} record { answer = result 0 (r .trials); scratch = s′; parts = lent } (tried t label scratch lent budget)
-      unfolding verdict judged
+          → _≡_ {A = Outcome} record { answer = result 0 (r .trials); scratch = s′; parts = lent } (ended (unrefused table label budget) scratch lent)
+      unfolding verdict ended
       run-no h s′ c =
           let z : verdict label t ≡ none = if-false _ _ _ (sym decided ∙ h) in
-          sym (judged-is none z ∙ sym (rw (cleared-is s′ c, counted-all (got .counted) e)))
+          rw (ending-within _ _ budget _ (counted-room (got .counted) e), z, cleared-is s′ c, counted-all (got .counted) e)

@@ -1,12 +1,15 @@
 -- The answer to a match, from the code's enum. Assumes nothing.
 use mathlib.Core.Path.{_≡_}
+use mathlib.Core.Option.{none}
 use Prim.Native.Nat.{ℕ, _*_, _≤_}
 use lib.ListN.{length}
 use Rattle.pattern.specs.Numbers.{label-limit, TABLE, LABEL, WORK, PARTS, BUDGET}
 use Rattle.pattern.specs.Bytes.{Bytes}
 use Rattle.pattern.specs.Syntax.{top-size}
+use Rattle.pattern.specs.Parts.{verdict}
+use Rattle.pattern.specs.Trials.{trials}
 use Rattle.pattern.specs.Decode.{tree-of}
-use Rattle.pattern.specs.Answers.{Answer, refusal, result, work, matchOf, Matched as Outcome}
+use Rattle.pattern.specs.Answers.{Answer, refusal, result, work, Ending, ending, matchOf, Matched as Outcome}
 use Rattle.matcher.specs.declared.Matched.{Matched}
 use Rattle.matcher.specs.declared.Matched.the-variants.{Table, Label, Work, Parts, Budget, No, Yes}
 use Rattle.matcher.specs.Atoms.{GoodTable, atoms}
@@ -28,6 +31,10 @@ outcome-of budget r scratch parts = record { answer = answer-of budget r; scratc
 -- what `match_label` promises of its answer, and of scratch and parts afterwards
 abbrev pub Promised : (table label scratch parts : Bytes) → (budget : ℕ) → Matched → (scratch′ parts′ : Bytes) → Type 0
 Promised table label scratch parts budget r scratch′ parts′ = outcome-of budget r scratch′ parts′ ≡ matchOf table label scratch parts budget
+
+-- how a match ends where 11 to 14 do not apply
+abbrev pub unrefused : (table label : Bytes) → (budget : ℕ) → Ending
+unrefused table label budget = ending none (work (tree-of table) (length label)) (trials label (tree-of table)) budget (verdict label (tree-of table))
 
 -- a good table, and a label and lent slices that fit it
 pub record Running (table label scratch parts : Bytes) (count : ℕ) : Type 0 where

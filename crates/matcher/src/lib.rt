@@ -1,8 +1,10 @@
 // Matching a label against a table, each trial counted against a budget.
 ghost use mathlib.Core.Path.{_≡_};
-ghost use Rattle.pattern.specs.Answers.{tried};
-ghost use Rattle.pattern.specs.Decode.{tree-of};
-ghost use Rattle.matcher.specs.Answered.{answer-of, outcome-of, Promised, Running};
+ghost use Rattle.pattern.specs.Decode.{decode};
+ghost use Rattle.pattern.specs.Answers.{ended};
+ghost use Rattle.table.specs.declared.Tested.the-variants.{Good};
+ghost use Rattle.table.specs.Walk.{tested};
+ghost use Rattle.matcher.specs.Answered.{answer-of, outcome-of, Running, unrefused, Promised};
 
 mod atom;
 mod body;
@@ -15,6 +17,7 @@ use pattern::limits::LABEL_LIMIT;
 use pattern::refusal;
 use planes::cells::holds;
 use planes::clear::clear;
+use table::Summary;
 use table::Tested;
 
 // The answer to a match: a refusal by its name in the paper, or the verdict with the trials made.
@@ -85,7 +88,7 @@ fn run(
     budget: u64,
 ) -> Matched
     requires { ⌜ Running (now table) (now label) (now scratch) (now parts) atoms ⌝ }
-    ensures { λ r. ⌜ outcome-of budget r (now (scratch .exit)) (now (parts .exit)) ≡ tried (tree-of (now (table .entry))) (now (label .entry)) (now (scratch .entry)) (now (parts .entry)) budget ⌝ }
+    ensures { λ r. ⌜ outcome-of budget r (now (scratch .exit)) (now (parts .exit)) ≡ ended (unrefused (now (table .entry)) (now (label .entry)) budget) (now (scratch .entry)) (now (parts .entry)) ⌝ }
 {
     let n = label.len();
     let w = n + 1;
@@ -105,7 +108,33 @@ fn run(
     Matched::No(t.trials)
 }
 
-// Whether the label satisfies the table's pattern, and if so where its parts end.
+// Whether the label satisfies the pattern of a table that was tested, and if so where its parts end: 12 to 14, then the trials.
+pub fn match_good(
+    table: &[u8],
+    sizes: Summary,
+    label: &[u8],
+    scratch: &mut [u8],
+    parts: &mut [u8],
+    budget: u64,
+) -> Matched
+    requires { ⌜ Good sizes ≡ tested (decode (now table)) ⌝ }
+    ensures { λ r. ⌜ Promised (now (table .entry)) (now (label .entry)) (now (scratch .entry)) (now (parts .entry)) budget r (now (scratch .exit)) (now (parts .exit)) ⌝ }
+{
+    let atoms = sizes.atoms;
+    let n = label.len();
+    if LABEL_LIMIT < n {
+        return Matched::Label;
+    }
+    if scratch.len() < (2 * atoms + 4) * (n + 1) * (n + 1) {
+        return Matched::Work;
+    }
+    if parts.len() < 2 * sizes.top {
+        return Matched::Parts;
+    }
+    run(table, label, scratch, parts, atoms, budget)
+}
+
+// The same of any bytes: 11 before all.
 pub fn match_label(
     table: &[u8],
     label: &[u8],
@@ -117,20 +146,6 @@ pub fn match_label(
 {
     match table::test(table) {
         Tested::Bad => Matched::Table,
-        Tested::Good(s) => {
-            let atoms = s.atoms;
-            let top = s.top;
-            let n = label.len();
-            if LABEL_LIMIT < n {
-                return Matched::Label;
-            }
-            if scratch.len() < (2 * atoms + 4) * (n + 1) * (n + 1) {
-                return Matched::Work;
-            }
-            if parts.len() < 2 * top {
-                return Matched::Parts;
-            }
-            run(table, label, scratch, parts, atoms, budget)
-        }
+        Tested::Good(sizes) => match_good(table, sizes, label, scratch, parts, budget),
     }
 }

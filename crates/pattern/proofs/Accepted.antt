@@ -22,6 +22,7 @@ use Rattle.pattern.specs.Within.{Small, Fits, Good, Limited}
 use Rattle.pattern.proofs.Tests.{Decides, On, le-or-lt, leb-decides, both, no-test}
 use Rattle.pattern.proofs.Begun.{chain-size, next-size, leave-count, move-count}
 use Rattle.pattern.proofs.Form.{form}
+use Rattle.pattern.proofs.TableRows.{atom-fault-is}
 
 -- how far the count at a place was looked at: its longest run has no fault yet, none but perhaps a large second number, or none
 Looked : Run → Run → Type 0
@@ -109,8 +110,8 @@ small-stable none f = tt
 small-stable (some m) f = ⊎-elim (λ u. u) (λ u. absurd (f (λ v. omega arith))) (le-or-lt m number-limit)
 
 atom-pass : (n : ℕ) (r : Run) → (atom-fault n r ≡ none) ↔ ((low r ≤ number-limit) × UpTo (high r) (low r) × (n < atom-limit))
-unfolding atom-fault
 atom-pass n r =
+    rw (atom-fault-is n r) (
     let u = pass (leb-decides (suc number-limit) (low r)) NUMBER ((leb (low r) number-limit && falls (low r) (high r), RANGE) ∷ (leb atom-limit n, ATOMS) ∷ []) in
     let v = pass (both (leb-decides (low r) number-limit) (falls-decides (low r) (high r))) RANGE ((leb atom-limit n, ATOMS) ∷ []) in
     let w = below atom-limit n ATOMS in (
@@ -119,7 +120,7 @@ atom-pass n r =
           let h : low r ≤ number-limit = ⊎-elim (λ a. a) (λ a. absurd (x a)) (le-or-lt (low r) number-limit) in
           (h, upto-stable (high r) (low r) (λ z. y (h, z)), w .0 g),
       λ (x, y, z). u .1 (λ h. omega arith, v .1 (λ (h, k). k y, w .1 z)),
-    )
+    ))
 
 -- ---- the longest run
 

@@ -1,5 +1,5 @@
 -- What the owner's demands say of the three calls. Assumes nothing.
-use mathlib.Core.Path.{_≡_, refl, sym, ap, _∙_}
+use mathlib.Core.Path.{_≡_, refl, sym, ap, subst, _∙_}
 use mathlib.Core.Logic.{_↔_, _⊎_, inl, inr, ⊎-elim}
 use mathlib.Core.Bool.{Bool, true, false}
 use mathlib.Core.List.{List}
@@ -10,7 +10,7 @@ use native.Mathlib.Omega.{arith}
 use lib.Dec.{T, leb, leb→le}
 use lib.ListN.{length, take}
 use lib.Seq.{take-append-seam, take-length}
-use borrow.Author.Tests.{le-leb, lt-leb}
+use borrow.Author.Tests.{le-leb, lt-leb, leb-true, leb-false}
 use Rattle.pattern.specs.Numbers.{source-limit, label-limit, LONG, DEPTH, ROOM, TABLE, LABEL, PARTS, BUDGET}
 use Rattle.pattern.specs.Bytes.{Bytes, over}
 use Rattle.pattern.specs.Syntax.{Sort, pattern, Syntax, last, then, repeat, codes, literal, group, only, or, size, top-size}
@@ -24,7 +24,8 @@ use Rattle.pattern.specs.Faults.{rows-at, Applies, Least}
 use Rattle.pattern.specs.Print.{print}
 use Rattle.pattern.specs.Table.{encode}
 use Rattle.pattern.specs.Decode.{decode}
-use Rattle.pattern.specs.Answers.{Answer, refusal, result, Output, put-if, put, compiled, compileOf, written-back, writeOf, Matched, cleared, part-bytes, lent-fault, judged, tried-if, tried, untried, tried-unless, matched, matchOf}
+use Rattle.pattern.specs.Answers.{Answer, refusal, result, Output, put-if, put, compiled, compileOf, written-back, writeOf, Matched, work, part-bytes, lent-fault, Ending, untried, exhausted, decided, ended, ending, match-ending, matchOf}
+use Rattle.pattern.proofs.Tests.{if-true, if-false}
 use Rattle.pattern.proofs.Longest.{partition-satisfies, verdict-means, verdict-length, part-bytes-length}
 use Rattle.pattern.proofs.Bound.{bound}
 use Rattle.pattern.proofs.Accepted.{accepted-exactly}
@@ -107,30 +108,60 @@ write-compile table source room e h =
 
 -- ---- matching
 
+-- the number of a fault of what is lent
+lent-number : (t : Syntax pattern) (label scratch parts : Bytes) (f : ℕ) → lent-fault t label scratch parts ≡ some f → (LABEL ≤ f) × (f ≤ PARTS)
+unfolding lent-fault Applies
+lent-number t label scratch parts f e =
+    ⊎-elim (λ (x, y). (omega arith, omega arith)) (⊎-elim (λ (x, y). (omega arith, omega arith)) (⊎-elim (λ (x, y). (omega arith, omega arith)) (λ b. absurd b))) (refuse-applies _ f e)
+
+-- by the budget, where nothing is refused before
+pub ending-within : (used count budget : ℕ) (v : Option (List ℕ)) → count ≤ budget → ending none used count budget v ≡ decided used count v
+unfolding ending
+ending-within used count budget v h = if-true _ _ _ (le-leb _ _ h)
+
+pub ending-beyond : (used count budget : ℕ) (v : Option (List ℕ)) → budget < count → ending none used count budget v ≡ exhausted used budget
+unfolding ending
+ending-beyond used count budget v h = if-false _ _ _ (lt-leb _ _ h)
+
+-- what holds of every refusal from 11 to 14, of BUDGET and of a verdict holds of every match
+pub match-cases : (P : Ending → Type 0) (o : Option (Syntax pattern)) (label scratch parts : Bytes) (budget : ℕ)
+    → ((number : ℕ) → TABLE ≤ number → number ≤ PARTS → P (untried number))
+    → ((t : Syntax pattern) → o ≡ some t → lent-fault t label scratch parts ≡ none → budget < trials label t → P (exhausted (work t (length label)) budget))
+    → ((t : Syntax pattern) → o ≡ some t → lent-fault t label scratch parts ≡ none → trials label t ≤ budget → P (decided (work t (length label)) (trials label t) (verdict label t)))
+    → P (match-ending o label scratch parts budget)
+unfolding match-ending ending
+match-cases P none label scratch parts budget refuses stops decides = refuses TABLE (omega arith) (omega arith)
+match-cases P (some t) label scratch parts budget refuses stops decides = lent (lent-fault t label scratch parts) refl
+  where
+    within : lent-fault t label scratch parts ≡ none → (b : Bool) → leb (trials label t) budget ≡ b → P (ending none (work t (length label)) (trials label t) budget (verdict label t))
+    within f true e = let h = leb-true _ _ e in subst P (sym (ending-within _ _ budget _ h)) (decides t refl f h)
+    within f false e = let h = leb-false _ _ e in subst P (sym (ending-beyond _ (trials label t) budget (verdict label t) h)) (stops t refl f h)
+
+    lent : (o : Option ℕ) → lent-fault t label scratch parts ≡ o → P (ending o (work t (length label)) (trials label t) budget (verdict label t))
+    lent (some f) e = let (x, y) = lent-number t label scratch parts f e in refuses f (omega arith) y
+    lent none e = within e (leb (trials label t) budget) refl
+
 -- where no other refusal applies: the table is good, the label and the lent slices fit
 module _ (table label scratch parts : Bytes) (t : Syntax pattern) (good : decode table ≡ some t) (lent : lent-fault t label scratch parts ≡ none) where
   -- the call makes the trials of the table's tree
-  match-tried : (budget : ℕ) → matchOf table label scratch parts budget ≡ tried t label scratch parts budget
-  unfolding matchOf matched tried-unless
-  match-tried budget = ap (λ o. matched o label scratch parts budget) good ∙ ap (λ o. tried-unless o t label scratch parts budget) lent
+  match-tried : (budget : ℕ) → matchOf table label scratch parts budget ≡ ended (ending none (work t (length label)) (trials label t) budget (verdict label t)) scratch parts
+  unfolding matchOf match-ending
+  match-tried budget = rw (good, lent)
 
   -- demand 3: a verdict, with the defined count, where the count is within the budget
-  pub within-budget : (budget : ℕ) → trials label t ≤ budget → matchOf table label scratch parts budget ≡ judged (verdict label t) t label scratch parts
-  unfolding tried tried-if
-  within-budget budget h = match-tried budget ∙ ap (λ b. tried-if b t label scratch parts budget) (le-leb _ _ h)
+  pub within-budget : (budget : ℕ) → trials label t ≤ budget → matchOf table label scratch parts budget ≡ ended (decided (work t (length label)) (trials label t) (verdict label t)) scratch parts
+  within-budget budget h = match-tried budget ∙ ap (λ e. ended e scratch parts) (ending-within _ _ budget _ h)
 
   -- otherwise BUDGET, which reports the budget, writes no parts and clears scratch
-  pub beyond-budget : (budget : ℕ) → budget < trials label t → matchOf table label scratch parts budget
-      ≡ record { answer = record { number = BUDGET; position = 0; value = 0; trials = budget }; scratch = cleared t (length label) scratch; parts = parts }
-  unfolding tried tried-if
-  beyond-budget budget h = match-tried budget ∙ ap (λ b. tried-if b t label scratch parts budget) (lt-leb _ _ h)
+  pub beyond-budget : (budget : ℕ) → budget < trials label t → matchOf table label scratch parts budget ≡ ended (exhausted (work t (length label)) budget) scratch parts
+  beyond-budget budget h = match-tried budget ∙ ap (λ e. ended e scratch parts) (ending-beyond _ _ budget _ h)
 
   -- budgets that the count is within give the same verdict, parts, scratch and number
   pub budgets-agree : (b c : ℕ) → trials label t ≤ b → trials label t ≤ c → matchOf table label scratch parts b ≡ matchOf table label scratch parts c
   budgets-agree b c h k = within-budget b h ∙ sym (within-budget c k)
 
   -- a budget of the bound is always enough
-  pub bound-enough : (budget : ℕ) → trial-bound (size t) (length label) ≤ budget → matchOf table label scratch parts budget ≡ judged (verdict label t) t label scratch parts
+  pub bound-enough : (budget : ℕ) → trial-bound (size t) (length label) ≤ budget → matchOf table label scratch parts budget ≡ ended (decided (work t (length label)) (trials label t) (verdict label t)) scratch parts
   bound-enough budget h = within-budget budget (omega (arith, bound label t))
 
 -- ---- what a refused call leaves
@@ -162,31 +193,16 @@ pub record Untouched (scratch parts : Bytes) (m : Matched) : Type 0 where
   pub kept-parts : ¬ (m .answer .number ≡ 0) → m .parts ≡ parts
   pub kept-scratch : ¬ (m .answer .number ≡ 0) → ¬ (m .answer .number ≡ BUDGET) → m .scratch ≡ scratch
 
-module _ (label scratch parts : Bytes) where
-  judged-untouched : (v : Option (List ℕ)) (t : Syntax pattern) → Untouched scratch parts (judged v t label scratch parts)
-  unfolding judged
-  judged-untouched none t = record { kept-parts = λ e. absurd (e refl); kept-scratch = λ e f. absurd (e refl) }
-  judged-untouched (some ends) t = record { kept-parts = λ e. absurd (e refl); kept-scratch = λ e f. absurd (e refl) }
+ended-untouched : (e : Ending) (scratch parts : Bytes) → Untouched scratch parts (ended e scratch parts)
+unfolding ended
+ended-untouched (untried number) scratch parts = record { kept-parts = λ e. refl; kept-scratch = λ e f. refl }
+ended-untouched (exhausted used budget) scratch parts = record { kept-parts = λ e. refl; kept-scratch = λ e f. absurd (f refl) }
+ended-untouched (decided used trials none) scratch parts = record { kept-parts = λ e. refl; kept-scratch = λ e f. absurd (e refl) }
+ended-untouched (decided used trials (some ends)) scratch parts = record { kept-parts = λ e. absurd (e refl); kept-scratch = λ e f. absurd (e refl) }
 
-  tried-untouched : (b : Bool) (t : Syntax pattern) (budget : ℕ) → Untouched scratch parts (tried-if b t label scratch parts budget)
-  unfolding tried-if
-  tried-untouched true t budget = judged-untouched (verdict label t) t
-  tried-untouched false t budget = record { kept-parts = λ e. refl; kept-scratch = λ e f. absurd (f refl) }
-
-  pub match-untouched : (table : Bytes) (budget : ℕ) → Untouched scratch parts (matchOf table label scratch parts budget)
-  unfolding matchOf matched tried-unless tried
-  match-untouched table budget = go (decode table)
-    where
-      away : (number : ℕ) → Untouched scratch parts (untried number scratch parts)
-      away number = record { kept-parts = λ e. refl; kept-scratch = λ e f. refl }
-
-      lent : (o : Option ℕ) (t : Syntax pattern) → Untouched scratch parts (tried-unless o t label scratch parts budget)
-      lent (some number) t = away number
-      lent none t = tried-untouched _ t budget
-
-      go : (o : Option (Syntax pattern)) → Untouched scratch parts (matched o label scratch parts budget)
-      go none = away TABLE
-      go (some t) = lent (lent-fault t label scratch parts) t
+pub match-untouched : (table label scratch parts : Bytes) (budget : ℕ) → Untouched scratch parts (matchOf table label scratch parts budget)
+unfolding matchOf
+match-untouched table label scratch parts budget = ended-untouched _ scratch parts
 
 -- ---- scratch
 
@@ -194,30 +210,22 @@ module _ (label scratch parts : Bytes) where
 abbrev pub shown : Matched → Answer × Bytes
 shown m = (m .answer, m .parts)
 
+ended-shown : (e : Ending) (scratch other parts : Bytes) → shown (ended e scratch parts) ≡ shown (ended e other parts)
+unfolding ended
+ended-shown (untried number) scratch other parts = refl
+ended-shown (exhausted used budget) scratch other parts = refl
+ended-shown (decided used trials none) scratch other parts = refl
+ended-shown (decided used trials (some ends)) scratch other parts = refl
+
 -- demand 3: what the scratch held before does not matter
 pub scratch-ignored : (table label scratch other parts : Bytes) (budget : ℕ) → length scratch ≡ length other
     → shown (matchOf table label scratch parts budget) ≡ shown (matchOf table label other parts budget)
-unfolding matchOf matched tried-unless lent-fault tried tried-if judged
-scratch-ignored table label scratch other parts budget e = go (decode table)
+unfolding matchOf
+scratch-ignored table label scratch other parts budget e = rw (same-ending (decode table)) (ended-shown _ scratch other parts)
   where
-    verdicts : (v : Option (List ℕ)) (t : Syntax pattern) → shown (judged v t label scratch parts) ≡ shown (judged v t label other parts)
-    verdicts none t = refl
-    verdicts (some ends) t = refl
-
-    trying : (b : Bool) (t : Syntax pattern) → shown (tried-if b t label scratch parts budget) ≡ shown (tried-if b t label other parts budget)
-    trying true t = verdicts (verdict label t) t
-    trying false t = refl
-
-    lent : (o : Option ℕ) (t : Syntax pattern) → shown (tried-unless o t label scratch parts budget) ≡ shown (tried-unless o t label other parts budget)
-    lent (some number) t = refl
-    lent none t = trying (leb (trials label t) budget) t
-
-    same-lent : (t : Syntax pattern) → lent-fault t label scratch parts ≡ lent-fault t label other parts
-    same-lent t = rw e
-
-    go : (o : Option (Syntax pattern)) → shown (matched o label scratch parts budget) ≡ shown (matched o label other parts budget)
-    go none = refl
-    go (some t) = ap (λ f. shown (tried-unless f t label scratch parts budget)) (same-lent t) ∙ lent (lent-fault t label other parts) t
+    same-ending : (o : Option (Syntax pattern)) → match-ending o label scratch parts budget ≡ match-ending o label other parts budget
+    same-ending none = unfold match-ending in refl
+    same-ending (some t) = unfold match-ending lent-fault in rw e
 
 -- ---- a verdict or a numbered refusal
 
@@ -274,51 +282,36 @@ write-number table source = go (decode table)
 abbrev pub MatchNumber : ℕ → Type 0
 MatchNumber n = (n ≡ 0) ⊎ ((TABLE ≤ n) × (n ≤ BUDGET))
 
-lent-number : (t : Syntax pattern) (label scratch parts : Bytes) (f : ℕ) → lent-fault t label scratch parts ≡ some f → (LABEL ≤ f) × (f ≤ PARTS)
-unfolding lent-fault Applies
-lent-number t label scratch parts f e =
-    ⊎-elim (λ (x, y). (omega arith, omega arith)) (⊎-elim (λ (x, y). (omega arith, omega arith)) (⊎-elim (λ (x, y). (omega arith, omega arith)) (λ b. absurd b))) (refuse-applies _ f e)
-
 pub match-number : (table label scratch parts : Bytes) (budget : ℕ) → MatchNumber (matchOf table label scratch parts budget .answer .number)
-unfolding matchOf matched tried-unless tried tried-if judged
-match-number table label scratch parts budget = go (decode table)
+unfolding matchOf ended
+match-number table label scratch parts budget =
+    match-cases (λ e. MatchNumber (ended e scratch parts .answer .number)) (decode table) label scratch parts budget
+    (λ number l h. inr (omega arith, omega arith)) (λ t d f h. inr (omega arith, omega arith)) (λ t d f h. verdicts _ _ (verdict label t))
   where
-    verdicts : (v : Option (List ℕ)) (t : Syntax pattern) → MatchNumber (judged v t label scratch parts .answer .number)
-    verdicts none t = inl refl
-    verdicts (some ends) t = inl refl
-
-    trying : (b : Bool) (t : Syntax pattern) → MatchNumber (tried-if b t label scratch parts budget .answer .number)
-    trying true t = verdicts (verdict label t) t
-    trying false t = inr (omega arith, omega arith)
-
-    lent : (o : Option ℕ) (t : Syntax pattern) → lent-fault t label scratch parts ≡ o → MatchNumber (tried-unless o t label scratch parts budget .answer .number)
-    lent (some f) t e = let (x, y) = lent-number t label scratch parts f e in inr (omega arith, omega arith)
-    lent none t e = trying (leb (trials label t) budget) t
-
-    go : (o : Option (Syntax pattern)) → MatchNumber (matched o label scratch parts budget .answer .number)
-    go none = inr (omega arith, omega arith)
-    go (some t) = lent (lent-fault t label scratch parts) t refl
+    verdicts : (used count : ℕ) (v : Option (List ℕ)) → MatchNumber (ended (decided used count v) scratch parts .answer .number)
+    verdicts used count none = inl refl
+    verdicts used count (some ends) = inl refl
 
 -- ---- the verdict of a call
 
 -- demand 2: where a verdict is given, it is yes just when the label satisfies the pattern
 module _ (table label scratch parts : Bytes) (t : Syntax pattern) (good : decode table ≡ some t) (lent : lent-fault t label scratch parts ≡ none) (budget : ℕ) (enough : trials label t ≤ budget) where
   pub match-verdict : (matchOf table label scratch parts budget .answer .value ≡ 1) ↔ Satisfies t label
-  unfolding judged Means
+  unfolding ended Means
   match-verdict = rw (within-budget table label scratch parts t good lent budget enough) (go (verdict label t) (verdict-right table t good label))
     where
-      go : (v : Option (List ℕ)) → Means label t v → (judged v t label scratch parts .answer .value ≡ 1) ↔ Satisfies t label
+      go : (v : Option (List ℕ)) → Means label t v → (ended (decided (work t (length label)) (trials label t) v) scratch parts .answer .value ≡ 1) ↔ Satisfies t label
       go none m = (λ e. absurd (omega arith), λ s. absurd (m s))
       go (some ends) m = (λ e. rw take-length at (partition-satisfies label t 0 ends (m .0)), λ s. refl)
 
   -- yes writes the longest-first ends, 2T bytes
   pub match-parts : matchOf table label scratch parts budget .answer .value ≡ 1
       → (ends : List ℕ) × Means label t (some ends) × (length (part-bytes ends) ≡ 2 * top-size t) × (matchOf table label scratch parts budget .parts ≡ over (part-bytes ends) parts)
-  unfolding judged
+  unfolding ended
   match-parts = rw (within-budget table label scratch parts t good lent budget enough) (go (verdict label t) refl)
     where
-      go : (v : Option (List ℕ)) → verdict label t ≡ v → judged v t label scratch parts .answer .value ≡ 1
-          → (ends : List ℕ) × Means label t (some ends) × (length (part-bytes ends) ≡ 2 * top-size t) × (judged v t label scratch parts .parts ≡ over (part-bytes ends) parts)
+      go : (v : Option (List ℕ)) → verdict label t ≡ v → ended (decided (work t (length label)) (trials label t) v) scratch parts .answer .value ≡ 1
+          → (ends : List ℕ) × Means label t (some ends) × (length (part-bytes ends) ≡ 2 * top-size t) × (ended (decided (work t (length label)) (trials label t) v) scratch parts .parts ≡ over (part-bytes ends) parts)
       go none e y = absurd (omega arith)
       go (some ends) e y =
           let n : length ends ≡ top-size t = verdict-length label t ends e in
@@ -326,10 +319,10 @@ module _ (table label scratch parts : Bytes) (t : Syntax pattern) (good : decode
 
   -- no writes none
   pub match-no : matchOf table label scratch parts budget .answer .value ≡ 0 → matchOf table label scratch parts budget .parts ≡ parts
-  unfolding judged
+  unfolding ended
   match-no = rw (within-budget table label scratch parts t good lent budget enough) (go (verdict label t))
     where
-      go : (v : Option (List ℕ)) → judged v t label scratch parts .answer .value ≡ 0 → judged v t label scratch parts .parts ≡ parts
+      go : (v : Option (List ℕ)) → ended (decided (work t (length label)) (trials label t) v) scratch parts .answer .value ≡ 0 → ended (decided (work t (length label)) (trials label t) v) scratch parts .parts ≡ parts
       go none y = refl
       go (some ends) y = absurd (omega arith)
 

@@ -24,3 +24,7 @@ pub mod Union
 pub mod Rooms
 pub mod Nodes
 pub mod LongestRuns
+pub mod Computed
+pub mod Examples
+pub mod Sources
+pub mod Classes

@@ -14,7 +14,7 @@ use Rattle.pattern.specs.Syntax.{pattern, Syntax}
 use Rattle.pattern.specs.Spelling.{kind, Spells}
 use Rattle.pattern.specs.Reading.{State, step, finish, read-from, start, read}
 use Rattle.pattern.specs.Places.{place-after, begun-at}
-use Rattle.pattern.specs.Scan.{depth, Begins, an-atom, a-second, a-code, a-group, nothing, begins, refuse, atom-fault, fault}
+use Rattle.pattern.specs.Scan.{depth, Begins, an-atom, a-second, a-code, a-group, nothing, begins, refuse, rows, fault}
 use Rattle.pattern.specs.Faults.{Viable, Stops, rows-there, rows-at, Applies}
 use Rattle.pattern.proofs.Tests.{On}
 use Rattle.pattern.proofs.SpeltReads.{Leads, by-step, _⨾_, reads-on, complete}
@@ -36,12 +36,15 @@ other (t ∷ ts) (h, g) = go (t .0) (other ts g)
     go false g = g
 
 fault-other : (b : Begins) (d n c : ℕ) (s : Bytes) → On (fault b d n c s) (λ x. FORM < x)
-unfolding fault atom-fault
-fault-other an-atom d n c s = other _ (tt, (tt, (tt, tt)))
-fault-other (a-second x) d n c s = other _ (tt, tt)
-fault-other a-code d n c s = other _ (tt, tt)
-fault-other a-group d n c s = other _ (tt, tt)
-fault-other nothing d n c s = tt
+unfolding fault
+fault-other b d n c s = other (rows b d n c s) (go b)
+  where
+    go : (b : Begins) → Other (rows b d n c s)
+    go an-atom = (tt, (tt, (tt, tt)))
+    go (a-second x) = (tt, tt)
+    go a-code = (tt, tt)
+    go a-group = (tt, tt)
+    go nothing = tt
 
 -- the form stops j bytes after u
 Stopping : Bytes → Bytes → ℕ → Type 0

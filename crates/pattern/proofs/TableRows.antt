@@ -1,20 +1,20 @@
 -- The scan's fault at a place is the lowest of the table's rows that apply there. Assumes nothing.
-use mathlib.Core.Path.{_≡_, refl}
+use mathlib.Core.Path.{_≡_, refl, ap}
 use mathlib.Core.Logic.{_⊎_, inl, inr, ⊎-elim}
-use mathlib.Core.Bool.{Bool, true, false, not, _&&_, or-false}
+use mathlib.Core.Bool.{Bool, true, false, not, _&&_}
 use mathlib.Core.List.{List, [], _∷_}
 use mathlib.Core.Option.{Option, none, some, Option·none-ne-some, Option·some-ne-none}
 use Prim.Native.Nat.{ℕ, suc, _≤_, _<_}
 use native.Mathlib.Omega.{arith}
 use lib.Dec.{T, leb, ltb, leb→le}
-use Rattle.pattern.specs.Numbers.{number-limit, FORM, DEPTH}
+use Rattle.pattern.specs.Numbers.{atom-limit, number-limit, FORM, NUMBER, RANGE, ATOMS, DEPTH}
 use Rattle.pattern.specs.Bytes.{Bytes}
 use Rattle.pattern.specs.Syntax.{pattern, Syntax}
 use Rattle.pattern.specs.Spelling.{kind}
-use Rattle.pattern.specs.Reading.{empty, State, step, finish}
+use Rattle.pattern.specs.Reading.{Run, State, step, finish}
 use Rattle.pattern.specs.Places.{begun-at}
-use Rattle.pattern.specs.Scan.{low, high, ahead, depth, Begins, an-atom, a-second, a-code, a-group, nothing, begins, large, falls, refuse, atom-fault, fault}
-use Rattle.pattern.specs.Faults.{begins-atom, begins-code, begins-group, second-large, later-rows, form-row, rows-there, Applies}
+use Rattle.pattern.specs.Scan.{low, high, depth, Begins, an-atom, a-second, a-code, a-group, nothing, begins, large, falls, refuse, atom-rows, rows, atom-fault, fault}
+use Rattle.pattern.specs.Faults.{form-row, rows-there, Applies}
 
 -- ---- the first test that passes
 
@@ -75,13 +75,11 @@ range-row l (some m) = go (leb l number-limit) (ltb number-limit m) (ltb m l) (l
     go true true false f g h = refl
     go true true true f g h = absurd (let x = f tt in let y = g tt in let z = h tt in omega arith)
 
-later-fault : (q : State) (b : Begins) (c : ℕ) (s : Bytes) → refuse (later-rows q b c s) ≡ fault b (depth (q .1)) (begun-at (q .0) (q .1)) c s
-unfolding later-rows begins-atom begins-code begins-group second-large fault atom-fault refuse
-later-fault q an-atom c s = rw (or-false, range-row (low (ahead empty (c ∷ s))) (high (ahead empty (c ∷ s))))
-later-fault q (a-second x) c s = refl
-later-fault q a-code c s = refl
-later-fault q a-group c s = refl
-later-fault q nothing c s = refl
+-- an atom's fault without the test that is implied
+pub atom-fault-is : (n : ℕ) (r : Run) → atom-fault n r
+    ≡ refuse ((ltb number-limit (low r), NUMBER) ∷ (leb (low r) number-limit && falls (low r) (high r), RANGE) ∷ (leb atom-limit n, ATOMS) ∷ [])
+unfolding atom-rows
+atom-fault-is n r = ap (λ b. refuse ((ltb number-limit (low r), NUMBER) ∷ (b, RANGE) ∷ (leb atom-limit n, ATOMS) ∷ [])) (range-row (low r) (high r))
 
 -- the lowest fault at a place, in the scan's order
 unfoldable pub found : State → Bytes → Option ℕ
@@ -93,14 +91,14 @@ found-there none s = none
 found-there (some q) s = found q s
 
 pub found-rows : (o : Option State) (s : Bytes) → refuse (rows-there o s) ≡ found-there o s
-unfolding rows-there found-there found refuse
+unfolding rows-there found-there found refuse fault
 found-rows none s = refl
 found-rows (some q) [] = go (finish (q .0) (q .1))
   where
     go : (o : Option (Syntax pattern)) → refuse (elim o [ none ↦ form-row | some t ↦ [] ]) ≡ elim o [ none ↦ some FORM | some t ↦ none ]
     go none = refl
     go (some t) = refl
-found-rows (some q) (c ∷ s) = go (step q c) _ (later-fault q (begins (q .0) (kind c)) c s)
+found-rows (some q) (c ∷ s) = go (step q c) _ refl
   where
     go : (o : Option State) (rows : List (Bool × ℕ)) {y : Option ℕ} → refuse rows ≡ y
         → refuse (elim o [ none ↦ form-row | some q′ ↦ rows ]) ≡ elim o [ none ↦ some FORM | some q′ ↦ y ]
@@ -108,15 +106,23 @@ found-rows (some q) (c ∷ s) = go (step q c) _ (later-fault q (begins (q .0) (k
     go (some q′) rows e = e
 
 -- the numbers of the rows ascend
+ascend : (b : Begins) (d n c : ℕ) (s : Bytes) → Above 0 (rows b d n c s)
+unfolding rows
+ascend an-atom d n c s = (tt, (tt, (tt, tt)))
+ascend (a-second x) d n c s = (tt, tt)
+ascend a-code d n c s = (tt, tt)
+ascend a-group d n c s = (tt, tt)
+ascend nothing d n c s = tt
+
 pub rows-ascend : (o : Option State) (s : Bytes) → Above 0 (rows-there o s)
-unfolding rows-there later-rows
+unfolding rows-there
 rows-ascend none s = tt
 rows-ascend (some q) [] = go (finish (q .0) (q .1))
   where
     go : (o : Option (Syntax pattern)) → Above 0 (elim o [ none ↦ form-row | some t ↦ [] ])
     go none = (tt, tt)
     go (some t) = tt
-rows-ascend (some q) (c ∷ s) = go (step q c) _ (tt, (tt, (tt, (tt, (tt, tt)))))
+rows-ascend (some q) (c ∷ s) = go (step q c) _ (ascend (begins (q .0) (kind c)) (depth (q .1)) (begun-at (q .0) (q .1)) c s)
   where
     go : (o : Option State) (rows : List (Bool × ℕ)) → Above 0 rows → Above 0 (elim o [ none ↦ form-row | some q′ ↦ rows ])
     go none rows h = (tt, tt)
@@ -130,14 +136,14 @@ form-number : (f : ℕ) → Numbered form-row f
 unfolding Numbered Applies
 form-number f a = ⊎-elim (λ (x, y). (omega arith, omega arith)) (λ b. absurd b) a
 
-later-number : (q : State) (b : Begins) (c : ℕ) (s : Bytes) (f : ℕ) → Numbered (later-rows q b c s) f
-unfolding Numbered Applies later-rows
-later-number q b c s f a =
-    ⊎-elim (λ (x, y). (omega arith, omega arith))
-    (⊎-elim (λ (x, y). (omega arith, omega arith))
-    (⊎-elim (λ (x, y). (omega arith, omega arith))
-    (⊎-elim (λ (x, y). (omega arith, omega arith))
-    (⊎-elim (λ (x, y). (omega arith, omega arith)) (λ b. absurd b))))) a
+rows-number : (b : Begins) (d n c : ℕ) (s : Bytes) (f : ℕ) → Numbered (rows b d n c s) f
+unfolding Numbered Applies rows
+rows-number an-atom d n c s f a =
+    ⊎-elim (λ (x, y). (omega arith, omega arith)) (⊎-elim (λ (x, y). (omega arith, omega arith)) (⊎-elim (λ (x, y). (omega arith, omega arith)) (λ b. absurd b))) a
+rows-number (a-second x) d n c s f a = ⊎-elim (λ (x, y). (omega arith, omega arith)) (λ b. absurd b) a
+rows-number a-code d n c s f a = ⊎-elim (λ (x, y). (omega arith, omega arith)) (λ b. absurd b) a
+rows-number a-group d n c s f a = ⊎-elim (λ (x, y). (omega arith, omega arith)) (λ b. absurd b) a
+rows-number nothing d n c s f a = absurd a
 
 pub row-number : (o : Option State) (s : Bytes) (f : ℕ) → Applies (rows-there o s) f → (FORM ≤ f) × (f ≤ DEPTH)
 unfolding rows-there Numbered
@@ -147,7 +153,7 @@ row-number (some q) [] f a = go (finish (q .0) (q .1)) a
     go : (o : Option (Syntax pattern)) → Numbered (elim o [ none ↦ form-row | some t ↦ [] ]) f
     go none = form-number f
     go (some t) = λ b. unfold Applies in absurd b
-row-number (some q) (c ∷ s) f a = go (step q c) _ (later-number q (begins (q .0) (kind c)) c s f) a
+row-number (some q) (c ∷ s) f a = go (step q c) _ (rows-number (begins (q .0) (kind c)) (depth (q .1)) (begun-at (q .0) (q .1)) c s f) a
   where
     go : (o : Option State) (rows : List (Bool × ℕ)) → Numbered rows f → Numbered (elim o [ none ↦ form-row | some q′ ↦ rows ]) f
     go none rows h = form-number f

@@ -69,9 +69,9 @@ pub record Matched : Type 0 where
 abbrev pub work : Syntax pattern → ℕ → ℕ
 work t n = (2 * size t + 4) * (n + 1) * (n + 1)
 
--- scratch "after a verdict or BUDGET"
-unfoldable pub cleared : Syntax pattern → ℕ → Bytes → Bytes
-cleared t n scratch = over (replicate (work t n) 0) scratch
+-- scratch after a match that used so many bytes of it
+unfoldable pub cleared : (used : ℕ) → Bytes → Bytes
+cleared used scratch = over (replicate used 0) scratch
 
 -- "the place where its stretch ends, 16 bits each"
 unfoldable pub part-bytes : List ℕ → Bytes
@@ -86,38 +86,31 @@ lent-fault t label scratch parts =
     ∷ (ltb (length parts) (2 * top-size t), PARTS)
     ∷ [])
 
--- a verdict with its parts on yes
-unfoldable pub judged : Option (List ℕ) → Syntax pattern → (label scratch parts : Bytes) → Matched
-judged none t label scratch parts = record { answer = result 0 (trials label t); scratch = cleared t (length label) scratch; parts = parts }
-judged (some ends) t label scratch parts =
-    record { answer = result 1 (trials label t); scratch = cleared t (length label) scratch; parts = over (part-bytes ends) parts }
+-- how a match ends: refused before any trial; out of budget; or with a verdict after so many trials, yes with the ends of its parts
+pub data Ending : Type 0 where
+  untried : (number : ℕ) → Ending
+  exhausted : (used budget : ℕ) → Ending
+  decided : (used trials : ℕ) (verdict : Option (List ℕ)) → Ending
 
--- "which reports the budget"
-abbrev pub exhausted : Syntax pattern → (label scratch parts : Bytes) → (budget : ℕ) → Matched
-exhausted t label scratch parts budget =
-    record { answer = record { number = BUDGET; position = 0; value = 0; trials = budget }; scratch = cleared t (length label) scratch; parts = parts }
+-- what an ending answers and leaves: scratch is cleared "after a verdict or BUDGET", "which reports the budget", and parts are written on yes
+unfoldable pub ended : Ending → (scratch parts : Bytes) → Matched
+ended (untried number) scratch parts = record { answer = refusal number 0; scratch = scratch; parts = parts }
+ended (exhausted used budget) scratch parts =
+    record { answer = record { number = BUDGET; position = 0; value = 0; trials = budget }; scratch = cleared used scratch; parts = parts }
+ended (decided used trials none) scratch parts = record { answer = result 0 trials; scratch = cleared used scratch; parts = parts }
+ended (decided used trials (some ends)) scratch parts =
+    record { answer = result 1 trials; scratch = cleared used scratch; parts = over (part-bytes ends) parts }
 
--- "a verdict is given exactly when that count is within the caller's budget; otherwise the answer is refusal 15"
-unfoldable pub tried-if : Bool → Syntax pattern → (label scratch parts : Bytes) → (budget : ℕ) → Matched
-tried-if true t label scratch parts budget = judged (verdict label t) t label scratch parts
-tried-if false t label scratch parts budget = exhausted t label scratch parts budget
+-- a fault of what is lent; else "a verdict is given exactly when that count is within the caller's budget; otherwise the answer is refusal 15"
+unfoldable pub ending : Option ℕ → (used trials budget : ℕ) → Option (List ℕ) → Ending
+ending (some number) used trials budget v = untried number
+ending none used trials budget v = elim (leb trials budget) [ true ↦ decided used trials v | false ↦ exhausted used budget ]
 
-unfoldable pub tried : Syntax pattern → (label scratch parts : Bytes) → (budget : ℕ) → Matched
-tried t label scratch parts budget = tried-if (leb (trials label t) budget) t label scratch parts budget
-
--- a match that is refused before any trial
-abbrev pub untried : ℕ → (scratch parts : Bytes) → Matched
-untried number scratch parts = record { answer = refusal number 0; scratch = scratch; parts = parts }
-
--- matching: 12 to 14 in order, then the trials
-unfoldable pub tried-unless : Option ℕ → Syntax pattern → (label scratch parts : Bytes) → (budget : ℕ) → Matched
-tried-unless (some number) t label scratch parts budget = untried number scratch parts
-tried-unless none t label scratch parts budget = tried t label scratch parts budget
-
--- 11 before all
-unfoldable pub matched : Option (Syntax pattern) → (label scratch parts : Bytes) → (budget : ℕ) → Matched
-matched none label scratch parts budget = untried TABLE scratch parts
-matched (some t) label scratch parts budget = tried-unless (lent-fault t label scratch parts) t label scratch parts budget
+-- matching: 11, then 12 to 14 in order, then the trials
+unfoldable pub match-ending : Option (Syntax pattern) → (label scratch parts : Bytes) → (budget : ℕ) → Ending
+match-ending none label scratch parts budget = untried TABLE
+match-ending (some t) label scratch parts budget =
+    ending (lent-fault t label scratch parts) (work t (length label)) (trials label t) budget (verdict label t)
 
 unfoldable pub matchOf : (table label scratch parts : Bytes) → (budget : ℕ) → Matched
-matchOf table label scratch parts budget = matched (decode table) label scratch parts budget
+matchOf table label scratch parts budget = ended (match-ending (decode table) label scratch parts budget) scratch parts

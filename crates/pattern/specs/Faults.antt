@@ -1,20 +1,19 @@
 -- The refusals of a source as the paper lists them: where the form stops, and which rows of the table apply at each position. Assumes nothing.
 use mathlib.Core.Path.{_≡_}
 use mathlib.Core.Logic.{_⊎_}
-use mathlib.Core.Bool.{Bool, true, false, not, _&&_, _||_}
+use mathlib.Core.Bool.{Bool, true}
 use mathlib.Core.List.{List, [], _∷_, _++_}
 use mathlib.Core.Option.{Option, none, some}
 use Prim.Native.Nat.{ℕ, suc, _≤_, _<_}
-use lib.Dec.{T, leb, ltb}
+use lib.Dec.{T}
 use lib.ListN.{length, take, drop}
-use Rattle.pattern.specs.Numbers.{atom-limit, depth-limit, number-limit, set-limit, FORM, CODE, NUMBER, RANGE, ATOMS, DEPTH}
+use Rattle.pattern.specs.Numbers.{FORM}
 use Rattle.pattern.specs.Bytes.{Bytes}
-use Rattle.pattern.specs.Codes.{bit}
 use Rattle.pattern.specs.Syntax.{pattern, Syntax}
 use Rattle.pattern.specs.Spelling.{kind, Spells}
-use Rattle.pattern.specs.Reading.{Run, empty, pointed, top, State, step, finish, start}
+use Rattle.pattern.specs.Reading.{Run, top, State, step, finish, start}
 use Rattle.pattern.specs.Places.{place-after, Runs, begun-at}
-use Rattle.pattern.specs.Scan.{low, high, ahead, depth, Begins, an-atom, a-second, a-code, a-group, nothing, begins, large, falls, Outcome, refused, accepted}
+use Rattle.pattern.specs.Scan.{ahead, depth, begins, rows, Outcome, refused, accepted}
 
 -- bytes that some pattern begins with
 unfoldable pub Viable : Bytes → Type 0
@@ -24,47 +23,6 @@ Viable u = (w : Bytes) × (t : Syntax pattern) × Spells t (u ++ w)
 unfoldable pub Stops : Bytes → ℕ → Type 0
 Stops s p = Viable (take p s) × (((p < length s) × ¬ Viable (take (suc p) s)) ⊎ ((p ≡ length s) × ¬ ((t : Syntax pattern) × Spells t s)))
 
--- what begins with a byte is an atom, a code letter, a group
-unfoldable pub begins-atom : Begins → Bool
-begins-atom an-atom = true
-begins-atom (a-second n) = false
-begins-atom a-code = false
-begins-atom a-group = false
-begins-atom nothing = false
-
-unfoldable pub begins-code : Begins → Bool
-begins-code an-atom = false
-begins-code (a-second n) = false
-begins-code a-code = true
-begins-code a-group = false
-begins-code nothing = false
-
-unfoldable pub begins-group : Begins → Bool
-begins-group an-atom = false
-begins-group (a-second n) = false
-begins-group a-code = false
-begins-group a-group = true
-begins-group nothing = false
-
--- a second number begins, and it is over 9,999
-unfoldable pub second-large : Begins → Bytes → Bool
-second-large an-atom s = false
-second-large (a-second n) s = large (high (ahead (pointed n) s))
-second-large a-code s = false
-second-large a-group s = false
-second-large nothing s = false
-
--- rows 3 to 7 of the refusal table at a place, each a test of its own; c is the byte there, s the source after it, and b what begins with c
-unfoldable pub later-rows : State → Begins → ℕ → Bytes → List (Bool × ℕ)
-later-rows q b c s =
-    let r : Run = ahead empty (c ∷ s) in
-    (begins-code b && leb set-limit (bit c), CODE)
-    ∷ (begins-atom b && ltb number-limit (low r) || second-large b (c ∷ s), NUMBER)
-    ∷ (begins-atom b && (leb (low r) number-limit && not (large (high r)) && falls (low r) (high r)), RANGE)
-    ∷ (begins-atom b && leb atom-limit (begun-at (q .0) (q .1)), ATOMS)
-    ∷ (begins-group b && leb depth-limit (depth (q .1)), DEPTH)
-    ∷ []
-
 -- FORM, with which the search for faults ends
 abbrev pub form-row : List (Bool × ℕ)
 form-row = (true, FORM) ∷ []
@@ -73,7 +31,7 @@ form-row = (true, FORM) ∷ []
 unfoldable pub rows-there : Option State → Bytes → List (Bool × ℕ)
 rows-there none s = []
 rows-there (some q) [] = elim (finish (q .0) (q .1)) [ none ↦ form-row | some t ↦ [] ]
-rows-there (some q) (c ∷ s) = elim (step q c) [ none ↦ form-row | some q′ ↦ later-rows q (begins (q .0) (kind c)) c s ]
+rows-there (some q) (c ∷ s) = elim (step q c) [ none ↦ form-row | some q′ ↦ rows (begins (q .0) (kind c)) (depth (q .1)) (begun-at (q .0) (q .1)) c s ]
 
 -- the rows at a position: those of the place which the bytes before it spell; none where the form has stopped before
 unfoldable pub rows-at : Bytes → ℕ → List (Bool × ℕ)

@@ -17,7 +17,4 @@ pub mod Print
 pub mod Table
 pub mod Decode
 pub mod Answers
-pub mod Examples
-pub mod Sources
-pub mod Classes
 pub mod Repeats

@@ -1,5 +1,5 @@
 -- The refusals of a source, 1 to 7, by the order of their positions, and the tree of an accepted one. Assumes nothing.
-use mathlib.Core.Bool.{Bool, true, false, _&&_, cond}
+use mathlib.Core.Bool.{Bool, true, false, not, _&&_, cond}
 use mathlib.Core.List.{List, [], _∷_}
 use mathlib.Core.Option.{Option, none, some}
 use Prim.Native.Nat.{ℕ, suc}
@@ -80,17 +80,31 @@ unfoldable pub refuse : List (Bool × ℕ) → Option ℕ
 refuse [] = none
 refuse (t ∷ ts) = elim (t .0) [ true ↦ some (t .1) | false ↦ refuse ts ]
 
--- the fault of an atom that begins after n others with this count; where the first number fits and the second is less, both fit
-unfoldable pub atom-fault : ℕ → Run → Option ℕ
-atom-fault n r = refuse ((ltb number-limit (low r), NUMBER) ∷ (leb (low r) number-limit && falls (low r) (high r), RANGE) ∷ (leb atom-limit n, ATOMS) ∷ [])
+-- rows 4 to 6 of the refusal table for an atom that begins after n others with this count: "repeat number over 9,999",
+-- "both numbers fit and the second is less", and too many atoms
+unfoldable pub atom-rows : ℕ → Run → List (Bool × ℕ)
+atom-rows n r =
+    (ltb number-limit (low r), NUMBER)
+    ∷ (leb (low r) number-limit && not (large (high r)) && falls (low r) (high r), RANGE)
+    ∷ (leb atom-limit n, ATOMS)
+    ∷ []
 
--- the lowest fault other than FORM at the byte c with which this begins, inside d groups and after n atoms; s is the source after it
+-- rows 3 to 7 for what begins with the byte c, inside d groups and after n atoms; s is the source after it
+unfoldable pub rows : Begins → (d n c : ℕ) → Bytes → List (Bool × ℕ)
+unfolding atom-rows
+rows an-atom d n c s = atom-rows n (ahead empty (c ∷ s))
+rows (a-second x) d n c s = (large (high (ahead (pointed x) (c ∷ s))), NUMBER) ∷ []
+rows a-code d n c s = (leb set-limit (bit c), CODE) ∷ []
+rows a-group d n c s = (leb depth-limit d, DEPTH) ∷ []
+rows nothing d n c s = []
+
+-- the lowest fault other than FORM: of an atom, and of what begins with a byte
+abbrev pub atom-fault : ℕ → Run → Option ℕ
+atom-fault n r = refuse (atom-rows n r)
+
 unfoldable pub fault : Begins → (d n c : ℕ) → Bytes → Option ℕ
-fault an-atom d n c s = atom-fault n (ahead empty (c ∷ s))
-fault (a-second x) d n c s = refuse ((large (high (ahead (pointed x) (c ∷ s))), NUMBER) ∷ [])
-fault a-code d n c s = refuse ((leb set-limit (bit c), CODE) ∷ [])
-fault a-group d n c s = refuse ((leb depth-limit d, DEPTH) ∷ [])
-fault nothing d n c s = none
+unfolding rows refuse
+fault b d n c s = refuse (rows b d n c s)
 
 -- what becomes of a source: the refusal and its position, or the tree
 pub data Outcome : Type 0 where

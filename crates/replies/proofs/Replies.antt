@@ -1,21 +1,30 @@
 -- The reply to a line from what compiling and matching answer. Assumes nothing.
-use mathlib.Core.Path.{_≡_, refl, sym, ap, _∙_}
-use mathlib.Core.Bool.{true, false}
-use mathlib.Core.List.{[], _∷_}
-use Prim.Native.Nat.{ℕ, _+_, _-_, _^_, _≤_, _<_}
+use mathlib.Core.Path.{_≡_, refl, sym, ap, subst, _∙_}
+use mathlib.Core.List.{List, [], _∷_}
+use mathlib.Core.Option.{Option, none, some}
+use Prim.Native.Nat.{ℕ, _+_, _-_, _*_, _^_, _≤_, _<_}
 use native.Mathlib.Numerals.{add-one}
 use native.Mathlib.Omega.{arith}
-use lib.Dec.{eqb}
 use lib.ListN.{length, take, drop, replicate, length-append, length-drop}
 use lib.Seq.{take-all}
 use borrow.Author.Tests.{eq-eqb, ne-eqb, lt-ltb, le-ltb}
-use Rattle.pattern.specs.Numbers.{zero-byte, table-room, parts-room}
+use Rattle.pattern.specs.Numbers.{zero-byte, TABLE, table-room, parts-room}
 use Rattle.pattern.specs.Bytes.{Bytes, bytes}
-use Rattle.pattern.specs.Answers.{Answer, refusal, result, Output, compileOf, Matched, matchOf}
+use Rattle.pattern.specs.Syntax.{pattern, Syntax, size, top-size}
+use Rattle.pattern.specs.Parts.{verdict}
+use Rattle.pattern.specs.Print.{print}
+use Rattle.pattern.specs.Decode.{decode}
+use Rattle.pattern.specs.Answers.{Answer, refusal, result, Output, compileOf, Matched, cleared, untried, exhausted, decided, ended, match-ending, matchOf}
+use Rattle.pattern.proofs.Longest.{verdict-length}
+use Rattle.pattern.proofs.Calls.{match-cases}
+use Rattle.table.specs.declared.Summary.{Summary}
+use Rattle.table.specs.declared.Tested.the-variants.{Bad, Good}
+use Rattle.table.specs.Walk.{tested}
+use Rattle.matcher.proofs.Refusals.{none-bad}
 use Rattle.pattern.proofs.Tests.{if-true, if-false}
-use Rattle.replies.specs.Sizes.{line-limit, budget, unset, tab-byte, space-byte, refused-letter, number-room, coded-room, refused-room}
-use Rattle.replies.specs.Text.{decimal, coded-text, refused-text, unmatched-text, matched-text}
-use Rattle.replies.specs.Reply.{first, cut-at, cut, verdict-text, match-text, Reply, match-reply, label-reply, table-reply, source-reply, cut-reply, reply}
+use Rattle.replies.specs.Sizes.{line-limit, budget, tab-byte, space-byte, refused-letter, number-room, coded-room, refused-room}
+use Rattle.replies.specs.Text.{decimal, coded-text, refused-text, unmatched-text, numbers-in, matched-text, ending-text}
+use Rattle.replies.specs.Reply.{first, cut-at, cut, Reply, ending-reply, label-reply, table-reply, source-reply, cut-reply, reply}
 use Rattle.pattern.specs.Stores.{Puts}
 use Rattle.replies.specs.Stores.{Within, Replied}
 use Rattle.matcher.specs.declared.Matched as call
@@ -25,6 +34,7 @@ use Rattle.compiler.specs.declared.Compiled as compiler
 use Rattle.compiler.specs.declared.Compiled.the-variants as outcome
 use Rattle.compiler.specs.Compiling.{answer-of}
 use Rattle.replies.proofs.Decimals.{decimal-short}
+use Rattle.replies.proofs.Ends.{parts-read}
 use Rattle.pattern.proofs.Rooms.{compile-fits, compile-some}
 
 -- what is stored is another reply if the two are the same
@@ -53,32 +63,63 @@ refused-short n p h k = omega (arith, decimal-short 19 n h, decimal-short 19 p k
 
 -- ---- matching
 
+-- a reply with these scratch bytes
+abbrev texted : Bytes → Bytes → Reply
+texted s v = record { text = v; scratch = s }
+
+-- a match is answered so, by its numbers and T ends in its parts
+pub record Texts (T : ℕ) (m : Matched) (reply : Reply) : Type 0 where
+  pub refused-is : 0 < m .answer .number → texted (m .scratch) (unmatched-text (m .answer .number)) ≡ reply
+  pub no-is : m .answer .number ≤ 0 → m .answer .value ≡ 0 → texted (m .scratch) (zero-byte ∷ []) ≡ reply
+  pub yes-is : m .answer .number ≤ 0 → ¬ (m .answer .value ≡ 0) → texted (m .scratch) (matched-text (numbers-in (take (2 * T) (m .parts)))) ≡ reply
+
+module _ (scratch parts : Bytes) (T : ℕ) where
+  untried-texts : (number : ℕ) → 0 < number → Texts T (ended (untried number) scratch parts) (ending-reply (untried number) scratch parts)
+  unfolding ended ending-reply ending-text
+  untried-texts number p = record { refused-is = λ h. refl; no-is = λ h k. absurd (omega arith); yes-is = λ h k. absurd (omega arith) }
+
+  exhausted-texts : (used budget : ℕ) → Texts T (ended (exhausted used budget) scratch parts) (ending-reply (exhausted used budget) scratch parts)
+  unfolding ended ending-reply ending-text
+  exhausted-texts used budget = record { refused-is = λ h. refl; no-is = λ h k. absurd (omega arith); yes-is = λ h k. absurd (omega arith) }
+
+  decided-texts : (used trials : ℕ) (v : Option (List ℕ)) → ((ends : List ℕ) → v ≡ some ends → length ends ≡ T)
+      → Texts T (ended (decided used trials v) scratch parts) (ending-reply (decided used trials v) scratch parts)
+  unfolding ended ending-reply ending-text bytes
+  decided-texts used trials none l = record { refused-is = λ h. absurd (omega arith); no-is = λ h k. refl; yes-is = λ h k. absurd (k refl) }
+  decided-texts used trials (some ends) l = record {
+    refused-is = λ h. absurd (omega arith);
+    no-is = λ h k. absurd (omega arith);
+    yes-is = λ h k. ap (λ es. texted (cleared used scratch) (matched-text es)) (parts-read ends T parts (l ends refl));
+  }
+
+-- the sizes that the test answers have the T of the table's tree
+top-is : (sizes : Summary) (o : Option (Syntax pattern)) (t : Syntax pattern) → Good sizes ≡ tested o → o ≡ some t → sizes .top ≡ top-size t
+unfolding tested
+top-is sizes o t e d =
+    let x : Good sizes ≡ Good (record { atoms = size t; top = top-size t; source = length (print t) }) = e ∙ ap tested d in
+    let y : sizes ≡ record { atoms = size t; top = top-size t; source = length (print t) } = cc in
+    ap (λ (s : Summary). s .top) y
+
+-- a bad table
+pub bad-reply : (table label scratch : Bytes) → Bad ≡ tested (decode table) → texted scratch (unmatched-text TABLE) ≡ label-reply table label scratch
+unfolding label-reply match-ending ending-reply ending-text ended
+bad-reply table label scratch e = sym (rw (none-bad (decode table) e))
+
 -- what the matching call answers, and the scratch and parts that it leaves
-module _ (table label scratch : Bytes) (r : call.Matched) (s p : Bytes) (e : outcome-of budget r s p ≡ matchOf table label scratch (replicate parts-room unset) budget)
+module _ (table label scratch : Bytes) (sizes : Summary) (g : Good sizes ≡ tested (decode table)) (r : call.Matched) (s p : Bytes)
+    (e : outcome-of budget r s p ≡ matchOf table label scratch (replicate parts-room 0) budget)
     (a : called.Answer) (n : record { number = a .number; position = 0; value = a .value; trials = a .trials } ≡ numbers-of budget r) where
-  -- a reply with those scratch bytes
-  abbrev texted : Bytes → Reply
-  texted v = record { text = v; scratch = s }
-
-  matched : texted (match-text (record { answer = record { number = a .number; position = 0; value = a .value; trials = a .trials }; scratch = s; parts = p })) ≡ label-reply table label scratch
-  unfolding label-reply match-reply
-  matched = ap match-reply (ap (λ (x : Answer). record { answer = x; scratch = s; parts = p }) n ∙ e)
-
-  pub unmatched-reply : 0 < a .number → texted (unmatched-text (a .number)) ≡ label-reply table label scratch
-  unfolding match-text
-  unmatched-reply k = ap texted (sym (if-false _ _ _ (ne-eqb (a .number) 0 (λ z. omega arith)))) ∙ matched
-
-  module _ (k : a .number ≤ 0) where
-    verdict-reply : (t : Bytes) → (elim (eqb (a .value) 0) [ true ↦ bytes "0" | false ↦ matched-text p ]) ≡ t → texted t ≡ label-reply table label scratch
-    unfolding match-text verdict-text
-    verdict-reply t f = ap texted (sym (if-true _ _ _ (eq-eqb (a .number) 0 (omega arith)) ∙ f)) ∙ matched
-
-    pub no-reply : a .value ≡ 0 → texted (zero-byte ∷ []) ≡ label-reply table label scratch
-    unfolding bytes
-    no-reply z = verdict-reply _ (if-true _ _ _ (eq-eqb (a .value) 0 z))
-
-    pub yes-reply : ¬ (a .value ≡ 0) → texted (matched-text p) ≡ label-reply table label scratch
-    yes-reply f = verdict-reply _ (if-false _ _ _ (ne-eqb (a .value) 0 f))
+  pub match-texts : Texts (sizes .top) (record { answer = record { number = a .number; position = 0; value = a .value; trials = a .trials }; scratch = s; parts = p }) (label-reply table label scratch)
+  unfolding label-reply matchOf
+  match-texts =
+      let parts : Bytes = replicate parts-room 0 in
+      let T : ℕ = sizes .top in
+      let x = ap (λ (y : Answer). record { answer = y; scratch = s; parts = p }) n ∙ e in
+      subst (λ m. Texts T m (label-reply table label scratch)) (sym x)
+      (match-cases (λ y. Texts T (ended y scratch parts) (ending-reply y scratch parts)) (decode table) label scratch parts budget
+      (λ f l h. untried-texts scratch parts T f (omega arith))
+      (λ t d f h. exhausted-texts scratch parts T _ _)
+      (λ t d f h. decided-texts scratch parts T _ _ (verdict label t) (λ ends v. verdict-length label t ends v ∙ sym (top-is sizes (decode table) t g d))))
 
 -- ---- compiling
 

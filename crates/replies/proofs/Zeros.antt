@@ -11,12 +11,12 @@ use borrow.Author.Tests.{ltb-false}
 use Rattle.pattern.specs.Numbers.{label-limit, LABEL, WORK, PARTS, table-room, parts-room}
 use Rattle.pattern.specs.Bytes.{Bytes, bytes, over}
 use Rattle.pattern.specs.Syntax.{pattern, Syntax, top-size}
-use Rattle.pattern.specs.Parts.{verdict}
 use Rattle.pattern.specs.Scan.{refuse}
 use Rattle.pattern.specs.Decode.{decode}
-use Rattle.pattern.specs.Answers.{work, cleared, lent-fault, judged, tried-if, tried, tried-unless, matched, matchOf, compileOf}
-use Rattle.replies.specs.Sizes.{line-limit, budget, unset}
-use Rattle.replies.specs.Reply.{cut, Reply, match-reply, label-reply, table-reply, source-reply, cut-reply, reply}
+use Rattle.pattern.specs.Answers.{compileOf, work, cleared, lent-fault, Ending, untried, exhausted, decided, ended}
+use Rattle.pattern.proofs.Calls.{match-cases}
+use Rattle.replies.specs.Sizes.{line-limit, budget}
+use Rattle.replies.specs.Reply.{cut, Reply, ending-reply, label-reply, table-reply, source-reply, cut-reply, reply}
 use Rattle.replies.specs.Stores.{Zero, zeroed}
 
 -- one of two, by a test
@@ -68,33 +68,25 @@ lent-work t label scratch parts e =
     go false true r e = absurd (let z : _≡_ {A = ℕ} 0 1 = cc in omega arith)
     go false false r e = refl
 
+-- the scratch bytes that a match used are not more than these
+Used : Ending → ℕ → Type 0
+Used (untried number) n = Unit {0}
+Used (exhausted used budget) n = used ≤ n
+Used (decided used trials v) n = used ≤ n
+
 module _ (scratch : Bytes) (z : Zero scratch) where
-  module _ (label parts : Bytes) (budget : ℕ) where
-    judged-same : (v : Option (List ℕ)) (t : Syntax pattern) → work t (length label) ≤ length scratch → judged v t label scratch parts .scratch ≡ scratch
-    unfolding judged cleared
-    judged-same none t h = over-zero _ scratch h z
-    judged-same (some ends) t h = over-zero _ scratch h z
-
-    tried-same : (b : Bool) (t : Syntax pattern) → work t (length label) ≤ length scratch → tried-if b t label scratch parts budget .scratch ≡ scratch
-    unfolding tried-if cleared
-    tried-same true t h = judged-same (verdict label t) t h
-    tried-same false t h = over-zero _ scratch h z
-
-    match-same : (table : Bytes) → matchOf table label scratch parts budget .scratch ≡ scratch
-    unfolding matchOf matched tried-unless tried
-    match-same table = go (decode table)
-      where
-        lent : (o : Option ℕ) (t : Syntax pattern) → lent-fault t label scratch parts ≡ o → tried-unless o t label scratch parts budget .scratch ≡ scratch
-        lent (some number) t e = refl
-        lent none t e = tried-same _ t (lent-work t label scratch parts e)
-
-        go : (o : Option (Syntax pattern)) → matched o label scratch parts budget .scratch ≡ scratch
-        go none = refl
-        go (some t) = lent (lent-fault t label scratch parts) t refl
+  ended-same : (parts : Bytes) (e : Ending) → Used e (length scratch) → ended e scratch parts .scratch ≡ scratch
+  unfolding ended cleared Used
+  ended-same parts (untried number) h = refl
+  ended-same parts (exhausted used budget) h = over-zero used scratch h z
+  ended-same parts (decided used trials none) h = over-zero used scratch h z
+  ended-same parts (decided used trials (some ends)) h = over-zero used scratch h z
 
   label-same : (table label : Bytes) → label-reply table label scratch .scratch ≡ scratch
-  unfolding label-reply match-reply
-  label-same table label = match-same label (replicate parts-room unset) budget table
+  unfolding label-reply ending-reply Used
+  label-same table label =
+      let parts : Bytes = replicate parts-room 0 in
+      ended-same parts _ (match-cases (λ e. Used e (length scratch)) (decode table) label scratch parts budget (λ n l h. tt) (λ t d f h. lent-work t label scratch parts f) (λ t d f h. lent-work t label scratch parts f))
 
   source-same : (source label : Bytes) → source-reply source label scratch .scratch ≡ scratch
   unfolding source-reply table-reply

@@ -7,9 +7,10 @@ use lib.Dec.{ltb, eqb}
 use lib.ListN.{length, take, drop, replicate}
 use Rattle.pattern.specs.Numbers.{table-room, parts-room}
 use Rattle.pattern.specs.Bytes.{Bytes, bytes}
-use Rattle.pattern.specs.Answers.{Output, compileOf, Matched, matchOf}
-use Rattle.replies.specs.Sizes.{line-limit, scratch-size, budget, unset, tab-byte, newline-byte}
-use Rattle.replies.specs.Text.{refused-text, unmatched-text, matched-text}
+use Rattle.pattern.specs.Decode.{decode}
+use Rattle.pattern.specs.Answers.{Output, compileOf, Ending, ended, match-ending}
+use Rattle.replies.specs.Sizes.{line-limit, scratch-size, budget, tab-byte, newline-byte}
+use Rattle.replies.specs.Text.{refused-text, ending-text}
 
 -- where a byte first stands, the length if it is not there
 unfoldable pub first : ℕ → Bytes → ℕ
@@ -23,25 +24,20 @@ cut-at k line = elim (ltb k (length line)) [ true ↦ some (take k line, drop (s
 unfoldable pub cut : Bytes → Option (Bytes × Bytes)
 cut line = cut-at (first tab-byte line) line
 
--- the verdict with its parts
-unfoldable pub verdict-text : Matched → Bytes
-verdict-text m = elim (eqb (m .answer .value) 0) [ true ↦ bytes "0" | false ↦ matched-text (m .parts) ]
-
--- or the refusal of a match
-unfoldable pub match-text : Matched → Bytes
-match-text m = elim (eqb (m .answer .number) 0) [ true ↦ verdict-text m | false ↦ unmatched-text (m .answer .number) ]
-
 -- what is written for a line, and the scratch bytes afterwards
 pub record Reply : Type 0 where
   pub text : Bytes
   pub scratch : Bytes
 
 -- a label matched against a table
-unfoldable pub match-reply : Matched → Reply
-match-reply m = record { text = match-text m; scratch = m .scratch }
+unfoldable pub ending-reply : Ending → (scratch parts : Bytes) → Reply
+ending-reply e scratch parts = record { text = ending-text e; scratch = ended e scratch parts .scratch }
 
+-- with parts lent for every table
 unfoldable pub label-reply : (table label scratch : Bytes) → Reply
-label-reply table label scratch = match-reply (matchOf table label scratch (replicate parts-room unset) budget)
+label-reply table label scratch =
+    let parts : Bytes = replicate parts-room 0 in
+    ending-reply (match-ending (decode table) label scratch parts budget) scratch parts
 
 -- a label matched against what compiling gave
 unfoldable pub table-reply : Output → (label scratch : Bytes) → Reply

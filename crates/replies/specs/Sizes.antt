@@ -17,10 +17,6 @@ scratch-size = 65536
 abbrev pub budget : ℕ
 budget = 10_000_000
 
--- what the lent parts hold before: no end of a part has it as its upper byte
-abbrev pub unset : ℕ
-unset = 255
-
 abbrev pub tab-byte : ℕ
 tab-byte = 9
 

@@ -1,12 +1,12 @@
 -- The texts of an answer. Assumes nothing.
-use mathlib.Core.Bool.{true, false}
 use mathlib.Core.List.{List, [], _∷_, _++_}
+use mathlib.Core.Option.{none, some}
 use Prim.Native.Nat.{ℕ, _+_, _*_}
-use lib.Dec.{eqb}
-use Rattle.pattern.specs.Numbers.{comma-byte}
+use Rattle.pattern.specs.Numbers.{comma-byte, BUDGET}
 use Rattle.pattern.specs.Bytes.{Bytes, bytes}
 use Rattle.pattern.specs.Print.{decimal-of}
-use Rattle.replies.specs.Sizes.{unset, space-byte, refused-letter, unmatched-letter}
+use Rattle.pattern.specs.Answers.{Ending, untried, exhausted, decided}
+use Rattle.replies.specs.Sizes.{space-byte, refused-letter, unmatched-letter}
 
 -- a number in decimal
 unfoldable pub decimal : ℕ → Bytes
@@ -24,11 +24,11 @@ refused-text number position = coded-text refused-letter number ++ space-byte �
 unfoldable pub unmatched-text : (number : ℕ) → Bytes
 unmatched-text number = coded-text unmatched-letter number
 
--- the ends that a match wrote into parts that held unset bytes before
-unfoldable pub ends-in : Bytes → List ℕ
-ends-in [] = []
-ends-in (a ∷ []) = []
-ends-in (a ∷ b ∷ s) = elim (eqb b unset) [ true ↦ [] | false ↦ (a + 256 * b) ∷ ends-in s ]
+-- the numbers that bytes hold, two bytes each, the lower first
+unfoldable pub numbers-in : Bytes → List ℕ
+numbers-in [] = []
+numbers-in (a ∷ []) = []
+numbers-in (a ∷ b ∷ s) = (a + 256 * b) ∷ numbers-in s
 
 -- numbers with this byte before the first and a comma before each other one
 unfoldable pub listed : ℕ → List ℕ → Bytes
@@ -36,5 +36,12 @@ listed c [] = []
 listed c (e ∷ es) = c ∷ decimal e ++ listed comma-byte es
 
 -- "1 and the parts with commas"
-unfoldable pub matched-text : Bytes → Bytes
-matched-text parts = bytes "1" ++ listed space-byte (ends-in parts)
+unfoldable pub matched-text : List ℕ → Bytes
+matched-text ends = bytes "1" ++ listed space-byte ends
+
+-- what is written for a match
+unfoldable pub ending-text : Ending → Bytes
+ending-text (untried number) = unmatched-text number
+ending-text (exhausted used budget) = unmatched-text BUDGET
+ending-text (decided used trials none) = bytes "0"
+ending-text (decided used trials (some ends)) = matched-text ends

@@ -2,6 +2,9 @@
 ghost use mathlib.Core.Path.{_≡_};
 ghost use Prim.Native.Nat.{_+_, _≤_};
 ghost use lib.ListN.{length};
+ghost use Rattle.pattern.specs.Decode.{decode};
+ghost use Rattle.table.specs.declared.Tested.the-variants.{Good};
+ghost use Rattle.table.specs.Walk.{tested};
 ghost use Rattle.replies.specs.Sizes.{tab-byte, reply-room};
 ghost use Rattle.replies.specs.Reply.{first, label-reply, source-reply, reply, answer-to};
 ghost use Rattle.replies.specs.Stores.{Replied};
@@ -11,9 +14,11 @@ use crate::sizes::NEWLINE;
 use crate::sizes::PARTS_ROOM;
 use crate::sizes::TAB;
 use crate::sizes::TABLE_ROOM;
-use crate::sizes::UNSET;
 use crate::text;
 use compiler::Compiled;
+use pattern::refusal;
+use table::Summary;
+use table::Tested;
 
 // Where the first tab stands, the length if there is none.
 fn tab_at(line: &[u8]) -> usize
@@ -29,20 +34,38 @@ fn tab_at(line: &[u8]) -> usize
     i
 }
 
-// A label under a table.
-fn put_label(table: &[u8], label: &[u8], scratch: &mut [u8], out: &mut [u8], at: usize) -> usize
-    requires { ⌜ at + reply-room ≤ length (now out) ⌝ }
+// A label under a table that was tested.
+fn put_match(
+    table: &[u8],
+    sizes: Summary,
+    label: &[u8],
+    scratch: &mut [u8],
+    out: &mut [u8],
+    at: usize,
+) -> usize
+    requires { ⌜ Good sizes ≡ tested (decode (now table)) ⌝ ∗ ⌜ at + reply-room ≤ length (now out) ⌝ }
     ensures { λ r. ⌜ Replied reply-room (label-reply (now (table .entry)) (now (label .entry)) (now (scratch .entry))) (now (out .entry)) at (now (scratch .exit)) (now (out .exit)) r ⌝ }
 {
-    let mut parts = [UNSET; PARTS_ROOM];
-    let a = matcher::match_label(table, label, scratch, &mut parts, BUDGET).numbers(BUDGET);
+    let mut parts = [0u8; PARTS_ROOM];
+    let a = matcher::match_good(table, sizes, label, scratch, &mut parts, BUDGET).numbers(BUDGET);
     if a.number > 0 {
         return text::put_unmatched(a.number as u64, out, at);
     }
     if a.value == 0 {
         return text::put_byte(b'0', out, at);
     }
-    text::put_matched(&parts, out, at)
+    text::put_matched(&parts[..2 * sizes.top], out, at)
+}
+
+// A label under a table.
+fn put_label(table: &[u8], label: &[u8], scratch: &mut [u8], out: &mut [u8], at: usize) -> usize
+    requires { ⌜ at + reply-room ≤ length (now out) ⌝ }
+    ensures { λ r. ⌜ Replied reply-room (label-reply (now (table .entry)) (now (label .entry)) (now (scratch .entry))) (now (out .entry)) at (now (scratch .exit)) (now (out .exit)) r ⌝ }
+{
+    match table::test(table) {
+        Tested::Bad => text::put_unmatched(refusal::TABLE as u64, out, at),
+        Tested::Good(sizes) => put_match(table, sizes, label, scratch, out, at),
+    }
 }
 
 // A source and a label.

@@ -11,9 +11,6 @@ pub const SCRATCH_SIZE: usize = 65536;
 
 pub const BUDGET: u64 = 10000000;
 
-// What a byte of the lent parts holds where no end was written.
-pub const UNSET: u8 = 255;
-
 pub const TAB: u8 = b'\t';
 
 pub const NEWLINE: u8 = b'\n';

@@ -4,11 +4,10 @@ ghost use mathlib.Core.List.{[], _∷_};
 ghost use Prim.Native.Nat.{_+_, _*_, _≤_, _<_};
 ghost use lib.ListN.{length};
 ghost use Rattle.replies.specs.Sizes.{coded-room, refused-room, part-room};
-ghost use Rattle.replies.specs.Text.{decimal, coded-text, refused-text, unmatched-text, matched-text};
+ghost use Rattle.replies.specs.Text.{decimal, coded-text, refused-text, unmatched-text, numbers-in, matched-text};
 ghost use Rattle.pattern.specs.Stores.{Puts};
 ghost use Rattle.replies.specs.Stores.{Within};
 use crate::sizes::SPACE;
-use crate::sizes::UNSET;
 
 // How many digits a number has.
 fn digits(x: u64) -> usize
@@ -89,18 +88,13 @@ fn put_part(before: u8, low: u8, high: u8, out: &mut [u8], at: usize) -> usize
 // A verdict of yes with its parts.
 pub fn put_matched(parts: &[u8], out: &mut [u8], at: usize) -> usize
     requires { ⌜ at + 1 + 3 * length (now parts) ≤ length (now out) ⌝ }
-    ensures { λ r. ⌜ Within (1 + 3 * length (now (parts .entry))) (matched-text (now (parts .entry))) (now (out .entry)) at (now (out .exit)) r ⌝ }
+    ensures { λ r. ⌜ Within (1 + 3 * length (now (parts .entry))) (matched-text (numbers-in (now (parts .entry)))) (now (out .entry)) at (now (out .exit)) r ⌝ }
 {
     let mut end = put_byte(b'1', out, at);
     let mut i = 0;
     let mut before = SPACE;
     while i + 1 < parts.len() {
-        let low = parts[i];
-        let high = parts[i + 1];
-        if high == UNSET {
-            return end;
-        }
-        end = put_part(before, low, high, out, end);
+        end = put_part(before, parts[i], parts[i + 1], out, end);
         before = b',';
         i += 2;
     }

@@ -19,6 +19,7 @@ use Rattle.pattern.specs.Reading.{Run, empty, first, pointed, second, counting,
 use Rattle.pattern.specs.Scan.{low, high, ahead, large, falls, refuse, atom-fault}
 use Rattle.pattern.specs.declared.repeat.Repeat.{Repeat}
 use Rattle.pattern.proofs.Tests.{le-or-lt}
+use Rattle.pattern.proofs.TableRows.{atom-fault-is}
 use Rattle.scanner.specs.declared.cursor.Cursor.{Cursor}
 use Rattle.scanner.specs.declared.cursor.Point.{Point}
 use Rattle.scanner.specs.declared.cursor.Point.the-variants as points
@@ -64,8 +65,8 @@ chain false false false i z = refl
 module _ (n : ℕ) (r : Run) where
   judge-is : (rep : Repeat) (i from : ℕ) (end : Cursor) → rep .low ≡ cap (low r) → rep .high ≡ high-field (cap-high (high r))
       → judge rep n i from end ≡ answered (atom-fault n r) i (cond (eqb (rep .high) large-number) (counted.Fault NUMBER from) (counted.Repeat rep end))
-  unfolding judge atom-fault
-  judge-is rep i from end l h = go (ltb number-limit (low r)) refl
+  unfolding judge
+  judge-is rep i from end l h = go (ltb number-limit (low r)) refl ∙ ap (λ o. answered o i z) (sym (atom-fault-is n r))
     where
       z : Counted
       z = cond (eqb (rep .high) large-number) (counted.Fault NUMBER from) (counted.Repeat rep end)
@@ -84,8 +85,8 @@ module _ (n : ℕ) (r : Run) where
 
   -- what no fault means
   no-fault : atom-fault n r ≡ none → (low r ≤ number-limit) × (n < atom-limit)
-  unfolding atom-fault refuse
-  no-fault = go (ltb number-limit (low r)) refl (leb (low r) number-limit && falls (low r) (high r)) (leb atom-limit n) refl
+  unfolding refuse
+  no-fault f = go (ltb number-limit (low r)) refl (leb (low r) number-limit && falls (low r) (high r)) (leb atom-limit n) refl (sym (atom-fault-is n r) ∙ f)
     where
       go : (a : Bool) → ltb number-limit (low r) ≡ a → (b c : Bool) → leb atom-limit n ≡ c → refuse ((a, NUMBER) ∷ (b, RANGE) ∷ (c, ATOMS) ∷ []) ≡ none → (low r ≤ number-limit) × (n < atom-limit)
       go true e b c f h = let z : _≡_ {A = ℕ} 0 1 = cc in absurd (omega arith)

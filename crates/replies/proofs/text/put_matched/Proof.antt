@@ -5,18 +5,18 @@ use native.Mathlib.Omega.{arith}
 use lib.ListN.{length, getD, drop}
 use Rattle.pattern.specs.Bytes.{Bytes, bytes}
 use Rattle.replies.specs.Sizes.{space-byte}
-use Rattle.replies.specs.Text.{ends-in, listed, matched-text}
+use Rattle.replies.specs.Text.{numbers-in, listed, matched-text}
 use Rattle.pattern.specs.Stores.{Puts}
 use Rattle.pattern.proofs.Stores.{puts-then, puts-length, puts-none, puts-as}
 use Rattle.replies.proofs.Decimals.{decimal-short}
-use Rattle.replies.proofs.Parts.{listed-join, listed-unset, listed-none}
+use Rattle.replies.proofs.Parts.{listed-join, listed-none}
 use Rattle.replies.proofs.text.put_matched.Statement.{statement}
 use Rattle.replies.proofs.text.put_matched.Tie as tie
 
 abbrev Inv-loop : tie.InvT-loop
 Inv-loop parts out₀ at end₀ i₀ before₀ out end i before =
     (i ≤ length parts) × (end + 3 * (length parts - i) ≤ end₀ + 3 * length parts) × (length out ≡ length out₀)
-    × ((m : Bytes) (k : ℕ) → Puts out end (listed before (ends-in (drop i parts))) m k → Puts out₀ end₀ (listed space-byte (ends-in parts)) m k)
+    × ((m : Bytes) (k : ℕ) → Puts out end (listed before (numbers-in (drop i parts))) m k → Puts out₀ end₀ (listed space-byte (numbers-in parts)) m k)
 
 abbrev μ-loop : tie.MeasureT-loop
 μ-loop parts out₀ at end₀ i₀ before₀ out end i before = length parts - i
@@ -30,32 +30,17 @@ loop-holds c = (omega arith, omega (arith, c .before .before .put-byte .ensures 
 add-loop : tie.Need-add-loop Inv-loop μ-loop
 add-loop c = omega arith
 
-shared-slice-read-low : tie.Need-shared-slice-read-low Inv-loop μ-loop
-shared-slice-read-low c = omega arith
+shared-slice-read-put-part : tie.Need-shared-slice-read-put-part Inv-loop μ-loop
+shared-slice-read-put-part c = omega arith
 
-add-high : tie.Need-add-high Inv-loop μ-loop
-add-high c = omega arith
+add-put-part : tie.Need-add-put-part Inv-loop μ-loop
+add-put-part c = omega arith
 
-shared-slice-read-high : tie.Need-shared-slice-read-high Inv-loop μ-loop
-shared-slice-read-high c = omega arith
-
-same-length : tie.Need-same-length Inv-loop μ-loop
-same-length c = omega (arith, puts-length (c .before .before .before .before .before .before .before .put-byte .ensures))
-
-returns : tie.Need-returns Inv-loop μ-loop
-unfolding bytes matched-text
-returns c =
-    let k = c .before .before .before .before in
-    let b = c .before .before .before .before .before .before .before .put-byte .ensures in
-    record {
-      stores = puts-then b (k .loop .inv .3 _ _ (puts-as (puts-none _ _) (sym (listed-unset _ _ _ (c .before .before .before .loop-test .taken) (c .if1 .taken)))));
-      short = omega (arith, b .next);
-    }
+shared-slice-read-put-part-2 : tie.Need-shared-slice-read-put-part-2 Inv-loop μ-loop
+shared-slice-read-put-part-2 c = omega arith
 
 put-part-requires : tie.Need-put-part-requires Inv-loop μ-loop
-put-part-requires c κs =
-    let b = c .before .before .before .before .before .before .before .before .put-byte .ensures in
-    omega (arith, b .next, puts-length b)
+put-part-requires c κs = let b = c .before .before .before .before .before .before .before .put-byte .ensures in omega (arith, b .next, puts-length b)
 
 add-i : tie.Need-add-i Inv-loop μ-loop
 add-i c = omega arith
@@ -64,48 +49,14 @@ loop-less : tie.Need-loop-less Inv-loop μ-loop
 loop-less c = omega arith
 
 loop-again : tie.Need-loop-again Inv-loop μ-loop
-loop-again c =
-    let after-if1 = c .before .before .before .before in
-    let after-shared-slice-known3 = after-if1 .before in
-    let after-shared-slice-known2 = after-shared-slice-known3 .before in
-    let after-loop-test = after-shared-slice-known2 .before in
-    let start = after-loop-test .before .before .before .before .before .before .before .before in
-    let k = c .before .before .before .before .before .before .before .before in
-    let p = c .before .before .put-part .ensures in
-    let s = start .args .parts .now in (
-      omega arith,
-      omega (arith, p .next, puts-length p, decimal-short 4 (getD s (k .loop .i) 0 + 256 * getD s (k .loop .i + 1) 0) (omega (arith, after-shared-slice-known2 .shared-slice-known2 .given (k .loop .i), after-shared-slice-known3 .shared-slice-known3 .given (k .loop .i + 1)))),
-      omega (arith, puts-length p),
-      λ m e d. k .loop .inv .3 m e (listed-join _ _ _ (after-loop-test .loop-test .taken) (after-if1 .if1 .left) p d),
-    )
+loop-again c = let k = c .before .before .before .before .before .before .before in let p = c .before .before .put-part .ensures in let s = c .before .before .before .before .before .before .before .before .before .before .before .before .before .before .args .parts .now in (omega arith, omega (arith, p .next, puts-length p, decimal-short 4 (getD s (k .loop .i) 0 + 256 * getD s (k .loop .i + 1) 0) (omega (arith, c .before .before .before .before .before .shared-slice-known2 .given (k .loop .i), c .before .before .before .before .shared-slice-known3 .given (k .loop .i + 1)))), omega (arith, puts-length p), λ m e d. k .loop .inv .3 m e (listed-join _ _ _ (c .before .before .before .before .before .before .loop-test .taken) p d))
 
-same-length-2 : tie.Need-same-length-2 Inv-loop μ-loop
-same-length-2 c = omega (arith, puts-length (c .before .before .before .before .put-byte .ensures))
+same-length : tie.Need-same-length Inv-loop μ-loop
+same-length c = omega (arith, puts-length (c .before .before .before .before .put-byte .ensures))
 
-returns-2 : tie.Need-returns-2 Inv-loop μ-loop
+returns : tie.Need-returns Inv-loop μ-loop
 unfolding bytes matched-text
-returns-2 c =
-    let k = c .before in
-    let b = c .before .before .before .before .put-byte .ensures in
-    record { stores = puts-then b (k .loop .inv .3 _ _ (puts-as (puts-none _ _) (sym (listed-none _ _ _ (c .loop-test .left))))); short = omega (arith, b .next) }
+returns c = let b = c .before .before .before .before .put-byte .ensures in record { stores = puts-then b (c .before .loop .inv .3 _ _ (puts-as (puts-none _ _) (sym (listed-none _ _ _ (c .loop-test .left))))); short = omega (arith, b .next) }
 
 pub put-matched-spec : {M : Type 1} → statement M
-put-matched-spec =
-    tie.close
-    (tie.spec
-    Inv-loop
-    μ-loop
-    put-byte-requires
-    loop-holds
-    add-loop
-    shared-slice-read-low
-    add-high
-    shared-slice-read-high
-    same-length
-    returns
-    put-part-requires
-    add-i
-    loop-less
-    loop-again
-    same-length-2
-    returns-2)
+put-matched-spec = tie.close (tie.spec Inv-loop μ-loop put-byte-requires loop-holds add-loop shared-slice-read-put-part add-put-part shared-slice-read-put-part-2 put-part-requires add-i loop-less loop-again same-length returns)

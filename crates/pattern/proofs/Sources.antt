@@ -4,16 +4,9 @@ use mathlib.Core.List.{List, [], _∷_, _++_, map}
 use Prim.Native.Nat.{ℕ, zero, suc}
 use lib.ListN.{take, replicate}
 use Rattle.pattern.specs.Numbers.{LONG, FORM, CODE, NUMBER, RANGE, ATOMS, DEPTH, ROOM, TABLE}
-use Rattle.pattern.specs.Bytes.{Bytes, between, same, over, bytes}
-use Rattle.pattern.specs.Codes.{all-codes, bit-among, bit}
-use Rattle.pattern.specs.Syntax.{size}
-use Rattle.pattern.specs.Spelling.{kind, text}
-use Rattle.pattern.specs.Reading.{chain, fork, next, enter, extend, leave, quoted, grow, counted, move, step, finish}
-use Rattle.pattern.specs.Scan.{low, high, ahead, depth, body-begins, begins, begun, large, falls, refuse, atom-fault, fault, scan, outcome}
-use Rattle.pattern.specs.Print.{decimal-of, decimal, print-low, print-count, print-set, double, print}
-use Rattle.pattern.specs.Table.{pool, choices, kind-field, a-field, b-field, records, flat, header, encode}
-use Rattle.pattern.specs.Decode.{high-of, pattern-at, tree-of, compiled-to, decode}
-use Rattle.pattern.specs.Answers.{Answer, refusal, Output, put-if, put, compiled, compileOf, written-back, writeOf}
+use Rattle.pattern.specs.Bytes.{Bytes, bytes}
+use Rattle.pattern.specs.Answers.{Answer, refusal, Output, compileOf, writeOf}
+use Rattle.pattern.proofs.Computed.{computed}
 
 -- a source n times over
 unfoldable pub times : ℕ → Bytes → Bytes
@@ -119,13 +112,13 @@ pub tables-hold : (compileOf (bytes "2N") (replicate 19 7) .bytes ≡ Table-2N +
     × (compileOf (bytes "2N") (replicate 17 7) ≡ record { answer = refusal ROOM 2; bytes = replicate 17 7 })
     × (writeOf (Table-2N ++ 0 ∷ []) (7 ∷ []) ≡ record { answer = refusal TABLE 0; bytes = 7 ∷ [] })
     × (writeOf Table-2N (7 ∷ []) ≡ record { answer = refusal ROOM 0; bytes = 7 ∷ [] })
-unfolding between same over bytes all-codes bit-among bit size kind text chain fork next enter extend leave quoted grow counted move step finish low high ahead depth body-begins begins begun large falls refuse atom-fault fault scan outcome decimal-of decimal print-low print-count print-set double print pool choices kind-field a-field b-field records flat header encode high-of pattern-at tree-of compiled-to decode put-if put compiled compileOf written-back writeOf
+unfolding computed
 tables-hold = (refl, refl, refl, refl, refl, refl)
 
 pub sources-hold : map (λ e. refusal-of (e .0)) sources ≡ map (λ e. (e .1, e .2)) sources
-unfolding between same over bytes all-codes bit-among bit size kind text chain fork next enter extend leave quoted grow counted move step finish low high ahead depth body-begins begins begun large falls refuse atom-fault fault scan outcome decimal-of decimal print-low print-count print-set double print pool choices kind-field a-field b-field records flat header encode high-of pattern-at tree-of compiled-to decode put-if put compiled compileOf written-back writeOf times sources refusal-of
+unfolding computed times sources refusal-of
 sources-hold = refl
 
 pub rewritten-hold : map (λ e. rewrite (e .0)) rewritten ≡ map (λ e. e .1) rewritten
-unfolding between same over bytes all-codes bit-among bit size kind text chain fork next enter extend leave quoted grow counted move step finish low high ahead depth body-begins begins begun large falls refuse atom-fault fault scan outcome decimal-of decimal print-low print-count print-set double print pool choices kind-field a-field b-field records flat header encode high-of pattern-at tree-of compiled-to decode put-if put compiled compileOf written-back writeOf rewritten rewrite
+unfolding computed rewritten rewrite
 rewritten-hold = refl

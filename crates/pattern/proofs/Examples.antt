@@ -5,19 +5,9 @@ use mathlib.Core.Option.{Option, none, some}
 use Prim.Native.Nat.{ℕ}
 use lib.ListN.{take, replicate}
 use Rattle.pattern.specs.Numbers.{BUDGET}
-use Rattle.pattern.specs.Bytes.{Bytes, between, same, over, bytes}
-use Rattle.pattern.specs.Codes.{all-codes, ranged, coded, in-set, bit-among, bit}
-use Rattle.pattern.specs.Syntax.{size, top-size, nodes}
-use Rattle.pattern.specs.Decision.{any, trial, join, made, most, repeated, one, decide}
-use Rattle.pattern.specs.Parts.{longest, end, parts, verdict}
-use Rattle.pattern.specs.Trials.{tries, sum, stretches, joins, repeats, own, total, trials}
-use Rattle.pattern.specs.Spelling.{kind, text}
-use Rattle.pattern.specs.Reading.{chain, fork, next, enter, extend, leave, quoted, grow, counted, move, step, finish}
-use Rattle.pattern.specs.Scan.{low, high, ahead, depth, body-begins, begins, begun, large, falls, refuse, atom-fault, fault, scan, outcome}
-use Rattle.pattern.specs.Print.{decimal-of, decimal, print-low, print-count, print-set, double, print}
-use Rattle.pattern.specs.Table.{pool, choices, kind-field, a-field, b-field, records, flat, header, encode}
-use Rattle.pattern.specs.Decode.{high-of, pattern-at, tree-of, compiled-to, decode}
-use Rattle.pattern.specs.Answers.{Output, put-if, put, compiled, compileOf, Matched, cleared, part-bytes, lent-fault, judged, tried-if, tried, tried-unless, matched, matchOf}
+use Rattle.pattern.specs.Bytes.{Bytes, over, bytes}
+use Rattle.pattern.specs.Answers.{Output, compileOf, Matched, part-bytes, matchOf}
+use Rattle.pattern.proofs.Computed.{computed}
 
 -- what a source and a label give under a budget: compiled into 128 bytes, then matched with 1,024 bytes of scratch and 8 of parts
 unfoldable pub run : Bytes → Bytes → ℕ → Matched
@@ -99,7 +89,7 @@ due e = (e .number, e .value, over (part-bytes (e .ends)) (replicate 8 7), e .co
 
 -- P1 to P14 together, the easy errors together, the counts together
 pub examples-hold : (map answered examples ≡ map due examples) × (map answered easy-errors ≡ map due easy-errors) × (map answered counts ≡ map due counts)
-unfolding between same over bytes all-codes ranged coded in-set bit-among bit size top-size nodes any trial join made most repeated one decide longest end parts verdict tries sum stretches joins repeats own total trials kind text chain fork next enter extend leave quoted grow counted move step finish low high ahead depth body-begins begins begun large falls refuse atom-fault fault scan outcome decimal-of decimal print-low print-count print-set double print pool choices kind-field a-field b-field records flat header encode high-of pattern-at tree-of compiled-to decode put-if put compiled compileOf cleared part-bytes lent-fault judged tried-if tried tried-unless matched matchOf run examples easy-errors counts answered due
+unfolding computed run examples easy-errors counts answered due
 examples-hold = (refl, refl, refl)
 
 -- ---- whole calls, with bare numbers: 4 atoms of which 2 stand at the top, 2 bytes of label, so 108 bytes of scratch and 4 of parts
@@ -121,7 +111,7 @@ pub verdicts-hold : (matchOf table-4 (bytes "a1") (replicate 110 7) (replicate 5
     ≡ record { answer = record { number = 0; position = 0; value = 0; trials = 46 }; scratch = replicate 108 0 ++ 7 ∷ 7 ∷ []; parts = replicate 5 7 })
     × (matchOf table-4 (bytes "a1") (replicate 110 7) (replicate 5 7) 43
     ≡ record { answer = record { number = 15; position = 0; value = 0; trials = 43 }; scratch = replicate 108 0 ++ 7 ∷ 7 ∷ []; parts = replicate 5 7 })
-unfolding between same over bytes all-codes ranged coded in-set bit-among bit size top-size nodes any trial join made most repeated one decide longest end parts verdict tries sum stretches joins repeats own total trials kind text chain fork next enter extend leave quoted grow counted move step finish low high ahead depth body-begins begins begun large falls refuse atom-fault fault scan outcome decimal-of decimal print-low print-count print-set double print pool choices kind-field a-field b-field records flat header encode high-of pattern-at tree-of compiled-to decode put-if put compiled compileOf cleared part-bytes lent-fault judged tried-if tried tried-unless matched matchOf table-of
+unfolding computed table-of
 verdicts-hold = (refl, refl, refl)
 
 -- 11 to 14, each with all that come after it; the limits themselves are taken
@@ -131,5 +121,5 @@ pub refusals-hold : (matchOf (77 ∷ 80 ∷ 84 ∷ []) (replicate 256 65) (7 ∷
     × (matchOf table-4 (bytes "a1") (replicate 107 7) (replicate 3 7) 0 ≡ left-alone 13 107 3)
     × (matchOf table-4 (bytes "a1") (replicate 108 7) (replicate 3 7) 0 ≡ left-alone 14 108 3)
     × (matchOf table-4 (bytes "a1") (replicate 108 7) (replicate 4 7) 44 .answer .number ≡ 0)
-unfolding between same over bytes all-codes ranged coded in-set bit-among bit size top-size nodes any trial join made most repeated one decide longest end parts verdict tries sum stretches joins repeats own total trials kind text chain fork next enter extend leave quoted grow counted move step finish low high ahead depth body-begins begins begun large falls refuse atom-fault fault scan outcome decimal-of decimal print-low print-count print-set double print pool choices kind-field a-field b-field records flat header encode high-of pattern-at tree-of compiled-to decode put-if put compiled compileOf cleared part-bytes lent-fault judged tried-if tried tried-unless matched matchOf table-of
+unfolding computed table-of
 refusals-hold = (refl, refl, refl, refl, refl, refl)
