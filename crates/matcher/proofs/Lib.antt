@@ -7,4 +7,3 @@ pub mod Ends
 pub mod Runs
 pub mod Refusals
 pub mod Cases
-pub mod Budgets

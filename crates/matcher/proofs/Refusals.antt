@@ -2,11 +2,11 @@
 use mathlib.Core.Path.{_≡_, refl, sym, ap, _∙_}
 use mathlib.Core.Option.{Option, none, some}
 use Prim.Native.Nat.{ℕ, _+_, _*_, _≤_, _<_}
-use native.Mathlib.Nat.{mul-le-mul-left, mul-le-mul-right}
+use native.Mathlib.Nat.{mul-le-mul}
 use native.Mathlib.Omega.{arith}
 use borrow.Author.Tests.{lt-ltb, le-ltb}
 use lib.ListN.{length}
-use Rattle.pattern.specs.Numbers.{atom-limit, label-limit, TABLE, LABEL, WORK, PARTS}
+use Rattle.pattern.specs.Numbers.{atom-limit, label-limit, LABEL, WORK, PARTS}
 use Rattle.pattern.specs.Bytes.{Bytes}
 use Rattle.pattern.specs.Syntax.{pattern, Syntax, size, top-size}
 use Rattle.pattern.specs.Parts.{verdict}
@@ -65,16 +65,14 @@ module _ (table : Bytes) where
 
     -- the scratch bytes are few enough to count
     module _ (n : ℕ) (h : n ≤ label-limit) where
-      pub rows-few : (2 * s .atoms + 4) * (n + 1) ≤ 33792
+      pub rows-few : (2 * s .atoms + 4) * (n + 1) ≤ (2 * atom-limit + 4) * (label-limit + 1)
       rows-few =
-          let a : 2 * s .atoms + 4 ≤ 132 = omega (arith, few-atoms) in
-          let b : n + 1 ≤ 256 = omega arith in
-          omega (arith, mul-le-mul-right (n + 1) a, mul-le-mul-left 132 b)
+          let a : 2 * s .atoms + 4 ≤ 2 * atom-limit + 4 = omega (arith, few-atoms) in
+          let b : n + 1 ≤ label-limit + 1 = omega arith in
+          mul-le-mul a b
 
-      pub bytes-few : (2 * s .atoms + 4) * (n + 1) * (n + 1) ≤ 8650752
-      bytes-few =
-          let b : n + 1 ≤ 256 = omega arith in
-          omega (arith, mul-le-mul-right (n + 1) rows-few, mul-le-mul-left 33792 b)
+      pub bytes-few : (2 * s .atoms + 4) * (n + 1) * (n + 1) ≤ (2 * atom-limit + 4) * (label-limit + 1) * (label-limit + 1)
+      bytes-few = let b : n + 1 ≤ label-limit + 1 = omega arith in mul-le-mul rows-few b
 
     module _ (label scratch parts : Bytes) (budget : ℕ) where
       faulted : (o : Option ℕ) → lent-fault (tree-of table) label scratch parts ≡ o

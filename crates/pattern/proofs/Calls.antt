@@ -11,7 +11,7 @@ use lib.Dec.{T, leb, leb→le}
 use lib.ListN.{length, take}
 use lib.Seq.{take-append-seam, take-length}
 use borrow.Author.Tests.{le-leb, lt-leb, leb-true, leb-false}
-use Rattle.pattern.specs.Numbers.{source-limit, label-limit, LONG, DEPTH, ROOM, TABLE, LABEL, PARTS, BUDGET}
+use Rattle.pattern.specs.Numbers.{source-limit, atom-limit, label-limit, LONG, DEPTH, ROOM, TABLE, LABEL, PARTS, BUDGET}
 use Rattle.pattern.specs.Bytes.{Bytes, over}
 use Rattle.pattern.specs.Syntax.{Sort, pattern, Syntax, last, then, repeat, codes, literal, group, only, or, size, top-size}
 use Rattle.pattern.specs.Meaning.{Satisfies}
@@ -24,8 +24,8 @@ use Rattle.pattern.specs.Faults.{rows-at, Applies, Least}
 use Rattle.pattern.specs.Print.{print}
 use Rattle.pattern.specs.Table.{encode}
 use Rattle.pattern.specs.Decode.{decode}
-use Rattle.pattern.specs.Answers.{Answer, refusal, result, Output, put-if, put, compiled, compileOf, written-back, writeOf, Matched, work, part-bytes, lent-fault, Ending, untried, exhausted, decided, ended, ending, match-ending, matchOf}
-use Rattle.pattern.proofs.Tests.{if-true, if-false}
+use Rattle.pattern.specs.Answers.{Answer, refusal, result, Output, put-if, put, compiled, compileOf, written-back, writeOf, Matched, work, cleared, part-bytes, lent-fault, Ending, untried, exhausted, decided, ended, ending, match-ending, matchOf}
+use Rattle.pattern.proofs.Tests.{le-or-lt, if-true, if-false}
 use Rattle.pattern.proofs.Longest.{partition-satisfies, verdict-means, verdict-length, part-bytes-length}
 use Rattle.pattern.proofs.Bound.{bound}
 use Rattle.pattern.proofs.Accepted.{accepted-exactly}
@@ -141,6 +141,17 @@ match-cases P (some t) label scratch parts budget refuses stops decides = lent (
     lent (some f) e = let (x, y) = lent-number t label scratch parts f e in refuses f (omega arith) y
     lent none e = within e (leb (trials label t) budget) refl
 
+-- what a verdict reports, whichever it is
+record Reported (used count : ℕ) (scratch : Bytes) (m : Matched) : Type 0 where
+  number-zero : m .answer .number ≡ 0
+  trials-count : m .answer .trials ≡ count
+  used-cleared : m .scratch ≡ cleared used scratch
+
+decided-reports : (used count : ℕ) (v : Option (List ℕ)) (scratch parts : Bytes) → Reported used count scratch (ended (decided used count v) scratch parts)
+unfolding ended
+decided-reports used count none scratch parts = record { number-zero = refl; trials-count = refl; used-cleared = refl }
+decided-reports used count (some ends) scratch parts = record { number-zero = refl; trials-count = refl; used-cleared = refl }
+
 -- where no other refusal applies: the table is good, the label and the lent slices fit
 module _ (table label scratch parts : Bytes) (t : Syntax pattern) (good : decode table ≡ some t) (lent : lent-fault t label scratch parts ≡ none) where
   -- the call makes the trials of the table's tree
@@ -155,6 +166,27 @@ module _ (table label scratch parts : Bytes) (t : Syntax pattern) (good : decode
   -- otherwise BUDGET, which reports the budget, writes no parts and clears scratch
   pub beyond-budget : (budget : ℕ) → budget < trials label t → matchOf table label scratch parts budget ≡ ended (exhausted (work t (length label)) budget) scratch parts
   beyond-budget budget h = match-tried budget ∙ ap (λ e. ended e scratch parts) (ending-beyond _ _ budget _ h)
+
+  -- what they report
+  pub within-reports : (budget : ℕ) → trials label t ≤ budget → matchOf table label scratch parts budget .answer .trials ≡ trials label t
+  within-reports budget h = ap (λ m. m .answer .trials) (within-budget budget h) ∙ decided-reports _ _ (verdict label t) scratch parts .trials-count
+
+  pub beyond-reports : (budget : ℕ) → budget < trials label t → matchOf table label scratch parts budget .answer ≡ record { number = BUDGET; position = 0; value = 0; trials = budget }
+  unfolding ended
+  beyond-reports budget h = ap (λ m. m .answer) (beyond-budget budget h)
+
+  -- a verdict exactly where the count is within the budget
+  pub verdict-exactly : (budget : ℕ) → (matchOf table label scratch parts budget .answer .number ≡ 0) ↔ (trials label t ≤ budget)
+  verdict-exactly budget = (
+    λ e. ⊎-elim (λ h. h) (λ h. let x = ap (λ (a : Answer). a .number) (beyond-reports budget h) in absurd (omega arith)) (le-or-lt (trials label t) budget),
+    λ h. ap (λ m. m .answer .number) (within-budget budget h) ∙ decided-reports _ _ (verdict label t) scratch parts .number-zero,
+  )
+
+  -- the bound holds of what is reported, with 15 too
+  pub count-bounded : (budget : ℕ) → matchOf table label scratch parts budget .answer .trials ≤ trial-bound (size t) (length label)
+  count-bounded budget =
+      ⊎-elim (λ h. omega (arith, within-reports budget h, bound label t))
+      (λ h. let x = ap (λ (a : Answer). a .trials) (beyond-reports budget h) in omega (arith, bound label t)) (le-or-lt (trials label t) budget)
 
   -- budgets that the count is within give the same verdict, parts, scratch and number
   pub budgets-agree : (b c : ℕ) → trials label t ≤ b → trials label t ≤ c → matchOf table label scratch parts b ≡ matchOf table label scratch parts c
@@ -286,11 +318,19 @@ pub match-number : (table label scratch parts : Bytes) (budget : ℕ) → MatchN
 unfolding matchOf ended
 match-number table label scratch parts budget =
     match-cases (λ e. MatchNumber (ended e scratch parts .answer .number)) (decode table) label scratch parts budget
-    (λ number l h. inr (omega arith, omega arith)) (λ t d f h. inr (omega arith, omega arith)) (λ t d f h. verdicts _ _ (verdict label t))
-  where
-    verdicts : (used count : ℕ) (v : Option (List ℕ)) → MatchNumber (ended (decided used count v) scratch parts .answer .number)
-    verdicts used count none = inl refl
-    verdicts used count (some ends) = inl refl
+    (λ number l h. inr (omega arith, omega arith)) (λ t d f h. inr (omega arith, omega arith)) (λ t d f h. inl (decided-reports _ _ (verdict label t) scratch parts .number-zero))
+
+-- demand 1: scratch after a verdict or BUDGET
+pub match-zeroed : (table label scratch parts : Bytes) (budget : ℕ) (t : Syntax pattern) → decode table ≡ some t
+    → (matchOf table label scratch parts budget .answer .number ≡ 0) ⊎ (matchOf table label scratch parts budget .answer .number ≡ BUDGET)
+    → matchOf table label scratch parts budget .scratch ≡ cleared (work t (length label)) scratch
+unfolding matchOf ended
+match-zeroed table label scratch parts budget t d =
+    match-cases (λ e. ((ended e scratch parts .answer .number ≡ 0) ⊎ (ended e scratch parts .answer .number ≡ BUDGET)) → ended e scratch parts .scratch ≡ cleared (work t (length label)) scratch)
+    (decode table) label scratch parts budget
+    (λ f l h. ⊎-elim (λ z. absurd (omega arith)) (λ z. absurd (omega arith)))
+    (λ u g f h z. let e : u ≡ t = cc in ap (λ x. cleared (work x (length label)) scratch) e)
+    (λ u g f h z. let e : u ≡ t = cc in decided-reports _ _ (verdict label u) scratch parts .used-cleared ∙ ap (λ x. cleared (work x (length label)) scratch) e)
 
 -- ---- the verdict of a call
 
@@ -331,8 +371,8 @@ pub trials-fit : (label : Bytes) (t : Syntax pattern) → length label ≤ label
 unfolding trial-bound
 trials-fit label t l g =
     let n : ℕ = length label in
-    let a : n + 1 ≤ 256 = omega arith in
-    let b : n + 2 ≤ 257 = omega arith in
-    let c : n + 3 ≤ 258 = omega arith in
-    let o : size t * (n + 1) * (n + 1) * (n + 2) * (n + 3) ≤ 64 * 256 * 256 * 257 * 258 = mul-le-mul (mul-le-mul (mul-le-mul (mul-le-mul (g .atoms) a) a) b) c in
+    let a : n + 1 ≤ label-limit + 1 = omega arith in
+    let b : n + 2 ≤ label-limit + 2 = omega arith in
+    let c : n + 3 ≤ label-limit + 3 = omega arith in
+    let o : size t * (n + 1) * (n + 1) * (n + 2) * (n + 3) ≤ atom-limit * (label-limit + 1) * (label-limit + 1) * (label-limit + 2) * (label-limit + 3) = mul-le-mul (mul-le-mul (mul-le-mul (mul-le-mul (g .atoms) a) a) b) c in
     omega (arith, bound label t, o)

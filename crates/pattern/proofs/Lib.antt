@@ -28,3 +28,4 @@ pub mod Computed
 pub mod Examples
 pub mod Sources
 pub mod Classes
+pub mod Demands

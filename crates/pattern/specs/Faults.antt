@@ -13,7 +13,7 @@ use Rattle.pattern.specs.Syntax.{pattern, Syntax}
 use Rattle.pattern.specs.Spelling.{kind, Spells}
 use Rattle.pattern.specs.Reading.{Run, top, State, step, finish, start}
 use Rattle.pattern.specs.Places.{place-after, Runs, begun-at}
-use Rattle.pattern.specs.Scan.{ahead, depth, begins, rows, Outcome, refused, accepted}
+use Rattle.pattern.specs.Scan.{depth, begins, rows, Outcome, refused, accepted}
 
 -- bytes that some pattern begins with
 unfoldable pub Viable : Bytes → Type 0

@@ -1,0 +1,135 @@
+-- The owner's three demands: the fields of each record are its sentences, in order, and each is given by its theorem. Assumes nothing.
+use mathlib.Core.Path.{_≡_, refl, ap}
+use mathlib.Core.Logic.{_↔_, _⊎_, inl, inr, ⊎-elim}
+use mathlib.Core.List.{List}
+use mathlib.Core.Option.{none, some}
+use Prim.Native.Nat.{ℕ, _*_, _≤_, _<_}
+use native.Mathlib.Omega.{arith}
+use lib.ListN.{length}
+use lib.Seq.{take-length}
+use Rattle.pattern.specs.Numbers.{source-limit, LONG, ROOM, TABLE, BUDGET}
+use Rattle.pattern.specs.Bytes.{Bytes, over}
+use Rattle.pattern.specs.Syntax.{pattern, Syntax, size, top-size}
+use Rattle.pattern.specs.Parts.{Partition, Means}
+use Rattle.pattern.specs.Trials.{trials, trial-bound}
+use Rattle.pattern.specs.Spelling.{Spells}
+use Rattle.pattern.specs.Scan.{Outcome, refused, accepted, outcome}
+use Rattle.pattern.specs.Within.{Limited}
+use Rattle.pattern.specs.Faults.{Least}
+use Rattle.pattern.specs.Table.{encode}
+use Rattle.pattern.specs.Decode.{decode}
+use Rattle.pattern.specs.Answers.{refusal, result, compiled, compileOf, writeOf, work, cleared, part-bytes, lent-fault, matchOf}
+use Rattle.pattern.proofs.Longest.{partition-satisfies}
+use Rattle.pattern.proofs.Bound.{bound}
+use Rattle.pattern.proofs.Accepted.{accepted-exactly}
+use Rattle.pattern.proofs.Least.{refused-exactly}
+use Rattle.pattern.proofs.Calls.{written, write-compile, budgets-agree, within-reports, beyond-reports, verdict-exactly, count-bounded, compile-untouched, write-untouched, Untouched, match-untouched, match-zeroed, shown, scratch-ignored, compile-accepted, compile-zero, compile-number, write-number, MatchNumber, match-number, match-verdict, match-parts}
+
+-- ---- demand 1: any bytes, a verdict or a numbered refusal
+
+pub record Demand1 : Type 0 where
+  -- "every call ends with a verdict or a numbered refusal": 0 or 1 to 8; 0, 8 or 11; 0 or 11 to 15
+  pub compiling-ends : (source table : Bytes) → compileOf source table .answer .number ≤ ROOM
+  pub writing-ends : (table source : Bytes) → let n : ℕ = writeOf table source .answer .number in (n ≡ 0) ⊎ (n ≡ ROOM) ⊎ (n ≡ TABLE)
+  pub matching-ends : (table label scratch parts : Bytes) (budget : ℕ) → MatchNumber (matchOf table label scratch parts budget .answer .number)
+  -- "A refused call writes nothing, save one"
+  pub compiling-refused : (source table : Bytes) → ¬ (compileOf source table .answer .number ≡ 0) → compileOf source table .bytes ≡ table
+  pub writing-refused : (table source : Bytes) → ¬ (writeOf table source .answer .number ≡ 0) → writeOf table source .bytes ≡ source
+  pub matching-refused : (table label scratch parts : Bytes) (budget : ℕ) → Untouched scratch parts (matchOf table label scratch parts budget)
+  -- "when the budget runs out, the scratch bytes used are zeroed, as they are after a verdict"
+  pub scratch-zeroed : (table label scratch parts : Bytes) (budget : ℕ) (t : Syntax pattern) → decode table ≡ some t
+      → (matchOf table label scratch parts budget .answer .number ≡ 0) ⊎ (matchOf table label scratch parts budget .answer .number ≡ BUDGET)
+      → matchOf table label scratch parts budget .scratch ≡ cleared (work t (length label)) scratch
+
+pub demand-1 : Demand1
+demand-1 = record {
+  compiling-ends = compile-number;
+  writing-ends = write-number;
+  matching-ends = match-number;
+  compiling-refused = compile-untouched;
+  writing-refused = write-untouched;
+  matching-refused = match-untouched;
+  scratch-zeroed = match-zeroed;
+}
+
+-- ---- demand 2: the standard's patterns, and the longest-first cut
+
+pub record Demand2 : Type 0 where
+  -- "The compiler accepts exactly the M standard's patterns, less what the paper leaves out and within its limits"
+  pub accepts : (source table : Bytes) (t : Syntax pattern) → length source ≤ source-limit → Spells t source → Limited t → length (encode t) ≤ length table
+      → compileOf source table ≡ record { answer = result (length (encode t)) 0; bytes = over (encode t) table }
+  pub accepts-only : (source table : Bytes) → compileOf source table .answer .number ≡ 0
+      → (t : Syntax pattern) × (length source ≤ source-limit) × Spells t source × Limited t × (length (encode t) ≤ length table)
+  -- "and otherwise names the fault and its position": LONG, else the least of the faults that are there
+  pub names-long : (source table : Bytes) → source-limit < length source → compileOf source table .answer ≡ refusal LONG source-limit
+  pub names : (source table : Bytes) (f p : ℕ) → length source ≤ source-limit → Least source (refused f p) → compileOf source table .answer ≡ refusal f p
+  pub accepted-or-named : (source : Bytes) → length source ≤ source-limit → ((t : Syntax pattern) × Spells t source × Limited t) ⊎ ((f : ℕ) × (p : ℕ) × Least source (refused f p))
+  -- "A table written back as source compiles to that same table"
+  pub written-compiles : (table source room : Bytes) → writeOf table source .answer .number ≡ 0 → length table ≤ length room
+      → compileOf (written (writeOf table source)) room ≡ record { answer = result (length table) 0; bytes = over table room }
+  -- "The verdict is yes exactly when the standard's partition of the label exists"
+  pub yes-exactly : (table label scratch parts : Bytes) (t : Syntax pattern) → decode table ≡ some t → lent-fault t label scratch parts ≡ none → (budget : ℕ) → trials label t ≤ budget
+      → (matchOf table label scratch parts budget .answer .value ≡ 1) ↔ ((ends : List ℕ) × Partition label t 0 ends)
+  -- "and the parts shown are the longest-first one"
+  pub longest-first : (table label scratch parts : Bytes) (t : Syntax pattern) → decode table ≡ some t → lent-fault t label scratch parts ≡ none → (budget : ℕ) → trials label t ≤ budget
+      → matchOf table label scratch parts budget .answer .value ≡ 1
+      → (ends : List ℕ) × Means label t (some ends) × (length (part-bytes ends) ≡ 2 * top-size t) × (matchOf table label scratch parts budget .parts ≡ over (part-bytes ends) parts)
+
+named : (source table : Bytes) (f p : ℕ) → outcome source ≡ refused f p → compileOf source table .answer ≡ refusal f p
+unfolding compileOf compiled
+named source table f p e = ap (λ o. compiled o source table .answer) e
+
+accepted-or-least : (source : Bytes) → length source ≤ source-limit → (o : Outcome) → outcome source ≡ o → ((t : Syntax pattern) × Spells t source × Limited t) ⊎ ((f : ℕ) × (p : ℕ) × Least source (refused f p))
+accepted-or-least source l (accepted t) e = let (x, h, g) = accepted-exactly source t .0 e in inl (t, h, g)
+accepted-or-least source l (refused f p) e = inr (f, p, ⊎-elim (λ (h, x, y). absurd (omega arith)) (λ (h, x). x) (refused-exactly source f p .0 e))
+
+partition-exists : (table label scratch parts : Bytes) (t : Syntax pattern) → decode table ≡ some t → lent-fault t label scratch parts ≡ none → (budget : ℕ) → trials label t ≤ budget
+    → (matchOf table label scratch parts budget .answer .value ≡ 1) ↔ ((ends : List ℕ) × Partition label t 0 ends)
+unfolding Means
+partition-exists table label scratch parts t good lent budget h = (
+  λ e. let (ends, m, x, y) = match-parts table label scratch parts t good lent budget h e in (ends, m .0),
+  λ (ends, p). match-verdict table label scratch parts t good lent budget h .1 (rw take-length at (partition-satisfies label t 0 ends p)),
+)
+
+pub demand-2 : Demand2
+demand-2 = record {
+  accepts = compile-accepted;
+  accepts-only = compile-zero;
+  names-long = λ source table h. named source table LONG source-limit (refused-exactly source LONG source-limit .1 (inl (h, refl, refl)));
+  names = λ source table f p l h. named source table f p (refused-exactly source f p .1 (inr (l, h)));
+  accepted-or-named = λ source l. accepted-or-least source l (outcome source) refl;
+  written-compiles = write-compile;
+  yes-exactly = partition-exists;
+  longest-first = match-parts;
+}
+
+-- ---- demand 3: trials and budgets
+
+-- "For every good table of A atoms and every label of n bytes", "where no other refusal of these papers applies to the call"
+pub record Demand3 (table label scratch parts : Bytes) (t : Syntax pattern) (good : decode table ≡ some t) (lent : lent-fault t label scratch parts ≡ none) : Type 0 where
+  -- "whatever bytes the scratch held before"
+  pub any-scratch : (other : Bytes) (budget : ℕ) → length scratch ≡ length other → shown (matchOf table label scratch parts budget) ≡ shown (matchOf table label other parts budget)
+  -- "the match makes at most A x (n+1) x (n+1) x (n+2) x (n+3) / 6 trials"
+  pub at-most : (budget : ℕ) → matchOf table label scratch parts budget .answer .trials ≤ trial-bound (size t) (length label)
+  -- "The number reported with a verdict is the count that the paper defines for that table and label"
+  pub reported : (budget : ℕ) → matchOf table label scratch parts budget .answer .number ≡ 0 → matchOf table label scratch parts budget .answer .trials ≡ trials label t
+  -- "A verdict is given exactly when that count is within the caller's budget"
+  pub exactly-within : (budget : ℕ) → (matchOf table label scratch parts budget .answer .number ≡ 0) ↔ (trials label t ≤ budget)
+  -- "otherwise the answer is refusal 15, which reports the budget"
+  pub otherwise : (budget : ℕ) → budget < trials label t → matchOf table label scratch parts budget .answer ≡ record { number = BUDGET; position = 0; value = 0; trials = budget }
+  -- "Every other budget that the count is within gives the same verdict, the same parts written and the same number reported"
+  pub every-other : (b c : ℕ) → trials label t ≤ b → trials label t ≤ c → matchOf table label scratch parts b ≡ matchOf table label scratch parts c
+  -- "A budget of that bound is always enough"
+  pub bound-suffices : (budget : ℕ) → trial-bound (size t) (length label) ≤ budget → matchOf table label scratch parts budget .answer .number ≡ 0
+
+module _ (table label scratch parts : Bytes) (t : Syntax pattern) (good : decode table ≡ some t) (lent : lent-fault t label scratch parts ≡ none) where
+  pub demand-3 : Demand3 table label scratch parts t good lent
+  demand-3 = record {
+    any-scratch = λ other budget e. scratch-ignored table label scratch other parts budget e;
+    at-most = count-bounded table label scratch parts t good lent;
+    reported = λ budget e. within-reports table label scratch parts t good lent budget (verdict-exactly table label scratch parts t good lent budget .0 e);
+    exactly-within = verdict-exactly table label scratch parts t good lent;
+    otherwise = beyond-reports table label scratch parts t good lent;
+    every-other = budgets-agree table label scratch parts t good lent;
+    bound-suffices = λ budget h. verdict-exactly table label scratch parts t good lent budget .1 (omega (arith, bound label t));
+  }
