@@ -17,7 +17,7 @@ use Rattle.pattern.proofs.Accepted.{accepted-exactly}
 use Rattle.pattern.proofs.RoundTrip.{tree-encode}
 use Rattle.pattern.proofs.Calls.{print-accepted, decoded-encode}
 use Rattle.pattern.proofs.Rooms.{top-le}
-use Rattle.table.specs.declared.Summary.{Summary}
+use Rattle.table.specs.declared.Sizes.{Sizes}
 use Rattle.table.specs.declared.Tested.the-variants.{Bad, Good}
 use Rattle.table.specs.Walk.{tested}
 use Rattle.matcher.specs.Atoms.{GoodTable, atoms}
@@ -39,15 +39,15 @@ module _ (table : Bytes) where
       let (n, h, g) = accepted-exactly (print t) t .0 (print-accepted table t d) in
       (ap tree-of (sym (decoded-encode table t d)) ∙ tree-encode t (g .tree), g .atoms)
 
-  some-good : (s : Summary) (o : Option (Syntax pattern)) → Good s ≡ tested o → (t : Syntax pattern) × (o ≡ some t) × (s .atoms ≡ size t) × (s .top ≡ top-size t)
+  some-good : (s : Sizes) (o : Option (Syntax pattern)) → Good s ≡ tested o → (t : Syntax pattern) × (o ≡ some t) × (s .atoms ≡ size t) × (s .top ≡ top-size t)
   unfolding tested
   some-good s none e = absurd (let z : _≡_ {A = ℕ} 0 1 = cc in omega arith)
   some-good s (some t) e =
       let y : s ≡ record { atoms = size t; top = top-size t; source = length (print t) } = cc in
-      (t, refl, ap (λ (x : Summary). x .atoms) y, ap (λ (x : Summary). x .top) y)
+      (t, refl, ap (λ (x : Sizes). x .atoms) y, ap (λ (x : Sizes). x .top) y)
 
-  module _ (s : Summary) (e : Good s ≡ tested (decode table)) where
-    -- the table is good, and the summary is of its tree
+  module _ (s : Sizes) (e : Good s ≡ tested (decode table)) where
+    -- the table is good, and the sizes are of its tree
     told : GoodTable table × (s .atoms ≡ atoms table) × (s .top ≡ top-size (tree-of table)) × (atoms table ≤ atom-limit)
     told =
         let (t, d, a, b) = some-good s (decode table) e in

@@ -15,7 +15,7 @@ use Rattle.pattern.proofs.Calls.{put-fits, put-short}
 use Rattle.pattern.proofs.Accepted.{accepted-exactly}
 use Rattle.pattern.proofs.RoundTrip.{encode-length, good-exactly}
 use Rattle.table.specs.Walk.{tested}
-use Rattle.table.specs.declared.Summary.{Summary}
+use Rattle.table.specs.declared.Sizes.{Sizes}
 use Rattle.table.specs.declared.Tested.the-variants as verdict
 use Rattle.table.proofs.Clean.{spells-clean}
 use Rattle.table.specs.Standing.{Set}
@@ -30,13 +30,13 @@ use Rattle.pattern.proofs.Stores.{puts-length, stored-over}
 -- ---- the test's answer
 
 -- the tree of a good table, and its numbers
-pub record Tree (table : Bytes) (x : Summary) : Type 0 where
+pub record Tree (table : Bytes) (x : Sizes) : Type 0 where
   pub tree : Syntax pattern
   pub decodes : decode table ≡ some tree
   pub atoms : x .atoms ≡ size tree
   pub source : x .source ≡ length (print tree)
 
-pub good-is : (table : Bytes) (x : Summary) → verdict.Good x ≡ tested (decode table) → Tree table x
+pub good-is : (table : Bytes) (x : Sizes) → verdict.Good x ≡ tested (decode table) → Tree table x
 unfolding tested
 good-is table x e = go (decode table) refl e
   where
@@ -58,7 +58,7 @@ table-written table source e = sym (ap (λ o. written-back o source) (bad-is tab
 
 -- ---- a good table
 
-module _ {table : Bytes} {x : Summary} (g : Tree table x) where
+module _ {table : Bytes} {x : Sizes} (g : Tree table x) where
   stands : Set (drop header-size table) (x .atoms) 1 (g .tree) 0 0 0
   stands =
       let (source, a, m) = good-exactly table (g .tree) .0 (g .decodes) in
