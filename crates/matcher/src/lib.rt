@@ -7,7 +7,6 @@ ghost use Rattle.matcher.specs.Answered.{answer-of, outcome-of, Promised
 mod atom;
 mod body;
 mod parts;
-mod walk;
 
 use atom::settle_all;
 use parts::write_parts;
