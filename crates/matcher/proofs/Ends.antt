@@ -10,19 +10,18 @@ use Rattle.pattern.specs.Bytes.{Bytes, word, over}
 use Rattle.pattern.specs.Syntax.{pattern, atom, Syntax, last, then, size, top-size, nodes}
 use Rattle.pattern.specs.Decision.{trial, decide}
 use Rattle.pattern.specs.Parts.{longest, end, parts}
-use Rattle.pattern.specs.Decode.{layout, its, tree-of}
+use Rattle.pattern.specs.Decode.{tree-of}
 use Rattle.pattern.specs.Answers.{part-bytes}
 use Rattle.pattern.proofs.RoundTrip.{some-pattern}
-use Rattle.pattern.proofs.Nodes.{At}
 use Rattle.pattern.proofs.Longest.{longest-le}
 use Rattle.table.specs.declared.Record.{Record}
-use Rattle.table.specs.Fields.{record-of}
+use Rattle.atoms.specs.Records.{RecordOf}
 use Rattle.planes.specs.Cells.{Plane, Readable, on}
-use Rattle.matcher.specs.Atoms.{atoms, node, head}
+use Rattle.atoms.specs.Atoms.{atoms, node, head}
 use Rattle.matcher.specs.Parted.{Parting, Parted}
+use Rattle.atoms.proofs.Views.{node-first}
 use Rattle.planes.proofs.Planes.{plane-on, plane-flags}
 use Rattle.planes.proofs.Relations.{trial-same}
-use Rattle.matcher.proofs.Views.{at-node, ends-last, ends-then}
 use Rattle.matcher.proofs.Groups.{work-room}
 
 -- ---- the last end
@@ -91,12 +90,6 @@ unfolding top-size
 some-top (last a) = omega arith
 some-top (then a p) = omega arith
 
-root : (table : Bytes) → At (nodes (tree-of table)) 0 (tree-of table)
-root table = record { rest = []; from = sym (append-nil (nodes (tree-of table))) }
-
-pub node-root : (table : Bytes) → node table 0 ≡ tree-of table
-node-root table = at-node table (root table)
-
 parts-last : (l : Bytes) (p : Syntax pattern) (a : Syntax atom) (i : ℕ) → p ≡ last a → (part-bytes (parts l p i) ≡ word (length l) []) × (top-size p ≡ 1)
 unfolding parts part-bytes top-size
 parts-last l p a i e = (ap (λ (q : Syntax pattern). part-bytes (parts l q i)) e, ap top-size e)
@@ -111,18 +104,18 @@ module _ (table label s : Bytes) (w : ℕ) (lent₀ : Bytes) (ok : Parting table
     there = omega (arith, some-pattern (tree-of table));
     inner = omega arith;
     long = refl;
-    room = omega (arith, ok .fits, ap top-size (node-root table));
+    room = omega (arith, ok .fits, ap top-size (node-first table));
     done = [];
     so-far = refl;
     stored = refl;
-    left = ap (λ (p : Syntax pattern). part-bytes (parts label p 0)) (sym (node-root table));
+    left = ap (λ (p : Syntax pattern). part-bytes (parts label p 0)) (sym (node-first table));
   }
 
   module _ (lent : Bytes) (x i at : ℕ) (inv : PartsAt table label lent₀ lent x i at) where
     pub parts-room : at + 2 ≤ length lent
     parts-room = omega (arith, inv .room, inv .long, some-top (node table x))
 
-    module _ (r : Record) (is : r ≡ record-of (its table (layout table) x)) where
+    module _ (r : Record) (is : RecordOf table x r) where
       -- one part more
       stored-more : (m : ℕ) → set (set lent at (m % 256)) (at + 1) (m / 256) ≡ (inv .done ++ word m []) ++ drop (at + 2) lent₀
       stored-more m =
@@ -135,16 +128,16 @@ module _ (table label s : Bytes) (w : ℕ) (lent₀ : Bytes) (ok : Parting table
       pub parts-end : r .ends ≡ 1 → (lent′ : Bytes) → lent′ ≡ set (set lent at (length label % 256)) (at + 1) (length label / 256) → Parted table label lent₀ lent′
       unfolding over
       parts-end e lent′ got =
-          let (l, n) = parts-last label _ _ i (ends-last table (ok .work .good) x (inv .there) r is e) in
+          let (l, n) = parts-last label _ _ i (is .is-last e) in
           let whole : part-bytes (parts label (tree-of table) 0) ≡ inv .done ++ word (length label) [] = inv .left ∙ ap (λ (y : Bytes). inv .done ++ y) l in
           record { written = got ∙ stored-more (length label) ∙ sym (rw (whole, so-far-more (length label))) }
 
       module _ (n : r .ends ≡ 1 → ⊥) (next : ℕ) (e : next ≡ x + size (head (node table x))) where
         then-is : node table x ≡ then (head (node table x)) (node table next)
-        then-is = ends-then table (ok .work .good) x (inv .there) r is n .0 ∙ ap (λ (k : ℕ). then (head (node table x)) (node table k)) (sym e)
+        then-is = is .is-followed n .is ∙ ap (λ (k : ℕ). then (head (node table x)) (node table k)) (sym e)
 
         pub parts-next : next < atoms table
-        parts-next = rw e (ends-then table (ok .work .good) x (inv .there) r is n .1)
+        parts-next = rw e (is .is-followed n .there)
 
         own : Plane s w (2 * x) (decide label (head (node table x)))
         own = ok .settled .own x (omega arith) (inv .there)

@@ -12,22 +12,22 @@ use Rattle.pattern.specs.Bytes.{Bytes}
 use Rattle.pattern.specs.Syntax.{pattern, atom, Syntax, last, then, size, nodes}
 use Rattle.pattern.specs.Decision.{Rel, join, decide}
 use Rattle.pattern.specs.Trials.{joins, repeats, own, total, trials}
-use Rattle.pattern.specs.Decode.{blank, layout, its, tree-of}
+use Rattle.pattern.specs.Decode.{blank, tree-of}
 use Rattle.pattern.proofs.Bound.{nodes-size}
 use Rattle.pattern.proofs.RoundTrip.{some-atom}
 use Rattle.table.specs.declared.Record.{Record}
-use Rattle.table.specs.Fields.{record-of}
+use Rattle.atoms.specs.Records.{RecordOf}
 use Rattle.planes.specs.declared.join.Tally.{Tally}
 use Rattle.planes.specs.Cells.{InRoom, Plane, Kept, on}
 use Rattle.planes.specs.Joined.{join-trials, Ready, Joined}
 use Rattle.planes.specs.Whole.{Blanked, Addable, Added}
-use Rattle.matcher.specs.Atoms.{atoms, node, head, Work, Settled}
+use Rattle.atoms.specs.Atoms.{atoms, node, head}
+use Rattle.matcher.specs.Work.{Work, Settled}
 use Rattle.matcher.specs.Bodied.{Bodying}
 use Rattle.matcher.specs.Steps.{NoPlane, Owned, follow-trials, Following, Followed, Stepped, AllSettled}
 use Rattle.planes.proofs.Planes.{kept-all, kept-then, kept-less, plane-on, plane-same, plane-flags, plane-kept}
 use Rattle.planes.proofs.Relations.{join-same, join-trials-same, joins-all}
 use Rattle.planes.proofs.Counting.{counted-whole, counted-room, counted-all, counted-stop}
-use Rattle.matcher.proofs.Views.{ends-last, ends-then}
 use Rattle.matcher.proofs.Groups.{settled-kept, work-long, work-room, work-few}
 
 -- ---- the followers
@@ -58,9 +58,9 @@ module _ (table label s : Bytes) (w x : ℕ) (ok : Following table label s w x) 
       into = record { room = rw l₁ (work-room (ok .work) (2 * x + 1) (omega (arith, ok .there))); flags = plane-flags (b .plane) };
     }
 
-    pub follow-last : (r : Record) → r ≡ record-of (its table (layout table) x) → (budget spent : ℕ) → spent ≤ budget → r .ends ≡ 1 → (s₂ : Bytes) → Added s₁ s₂ w (2 * x) (2 * x + 1) → Followed table label s s₂ w x budget spent record { trials = spent; stopped = false }
+    pub follow-last : (r : Record) → RecordOf table x r → (budget spent : ℕ) → spent ≤ budget → r .ends ≡ 1 → (s₂ : Bytes) → Added s₁ s₂ w (2 * x) (2 * x + 1) → Followed table label s s₂ w x budget spent record { trials = spent; stopped = false }
     follow-last r is budget spent h e s₂ f =
-        let (none, same) = follows-last label _ _ (ends-last table (ok .work .good) x (ok .there) r is e) in
+        let (none, same) = follows-last label _ _ (is .is-last e) in
         let z : spent + follow-trials label (node table x) ≡ spent = omega arith in
         record {
           counted = rw z (counted-whole h);
@@ -68,10 +68,10 @@ module _ (table label s : Bytes) (w x : ℕ) (ok : Following table label s w x) 
           kept = kept-less (2 * x + 1 + 1) (2 * x + 2) (omega arith) (kept-then (b .kept) (f .kept) (λ q i j n. n) (λ q i j n. n)) (λ q i j n. n);
         }
 
-  module _ (r : Record) (is : r ≡ record-of (its table (layout table) x)) where
+  module _ (r : Record) (is : RecordOf table x r) where
     module _ (n : r .ends ≡ 1 → ⊥) (next : ℕ) (e : next ≡ x + size (head (node table x))) where
       pub follow-next : next < atoms table
-      follow-next = rw e (ends-then table (ok .work .good) x (ok .there) r is n .1)
+      follow-next = rw e (is .is-followed n .there)
 
       follow-plane : Plane s w (2 * next + 1) (decide label (node table next))
       follow-plane = ok .settled .rest next (omega (arith, some-atom (head (node table x)))) follow-next
@@ -88,7 +88,7 @@ module _ (table label s : Bytes) (w x : ℕ) (ok : Following table label s w x) 
 
       pub follow-then : (budget spent : ℕ) (s′ : Bytes) (t : Tally) → Joined s s′ w (2 * x) (2 * next + 1) (2 * x + 1) budget spent t → Followed table label s s′ w x budget spent t
       follow-then budget spent s′ t got =
-          let m = ends-then table (ok .work .good) x (ok .there) r is n .0 in
+          let m = is .is-followed n .is in
           let (tried, same) = follows-then label _ _ _ (m ∙ ap (λ (k : ℕ). then (head (node table x)) (node table k)) (sym e)) in
           let z : w ≡ suc (length label) = omega (arith, ok .work .wide) in
           let count : join-trials w (on s w (2 * x)) (on s w (2 * next + 1)) ≡ follow-trials label (node table x)

@@ -1,9 +1,9 @@
 -- The plane of an atom's body, in plain values: leaves, and the loop over the branches of a group. Assumes nothing.
-use mathlib.Core.Path.{_≡_, refl, sym, ap, subst, _∙_}
+use mathlib.Core.Path.{_≡_, refl, sym, ap, _∙_}
 use mathlib.Core.Bool.{Bool, true, false, _||_}
 use mathlib.Core.List.{[]}
 use mathlib.Core.Logic.{⊎-elim}
-use Prim.Native.Nat.{ℕ, suc, _+_, _*_, _≤_, _<_}
+use Prim.Native.Nat.{ℕ, suc, _+_, _-_, _*_, _≤_, _<_}
 use native.Mathlib.Omega.{arith}
 use native.Mathlib.Nat.{eq-or-lt-of-le}
 use borrow.Author.Tests.{eq-eqb, ne-eqb}
@@ -11,25 +11,22 @@ use lib.Dec.{eqb}
 use lib.ListN.{length}
 use lib.Seq.{slice, slice-empty, length-slice}
 use Rattle.pattern.specs.Bytes.{Bytes, same}
-use Rattle.pattern.specs.Syntax.{pattern, branches, Syntax, only, or, size, nodes}
-use Rattle.pattern.specs.Decision.{decide}
-use Rattle.pattern.specs.Table.{choices}
-use Rattle.pattern.specs.Decode.{layout, its, tree-of}
-use Rattle.pattern.proofs.Bound.{nodes-size}
+use Rattle.pattern.specs.Syntax.{pattern, body, branches, Syntax, group, only, or, size}
+use Rattle.pattern.specs.Decision.{Rel, decide}
 use Rattle.pattern.proofs.RoundTrip.{some-pattern}
-use Rattle.pattern.proofs.Nodes.{At, at-branch}
 use Rattle.table.specs.declared.Record.{Record}
-use Rattle.table.specs.Fields.{record-of}
+use Rattle.atoms.specs.Records.{LiteralAt, RecordOf}
+use Rattle.atoms.proofs.Views.{branches-last, branches-more, branches-some}
 use Rattle.planes.specs.declared.fill.Content.{Content}
 use Rattle.planes.specs.declared.fill.Content.the-variants.{Empty, Codes, Literal}
 use Rattle.planes.specs.Cells.{InRoom, Plane, Kept, Others, on}
 use Rattle.planes.specs.Whole.{Blanked, Addable, Added}
 use Rattle.planes.specs.Filled.{held-in, Fit, Fillable, Filled}
-use Rattle.matcher.specs.Atoms.{atoms, node, head, inside, Work, Settled}
-use Rattle.matcher.specs.Bodied.{Bodying, Bodied}
+use Rattle.atoms.specs.Atoms.{atoms, node, branches-from, head, inside}
+use Rattle.matcher.specs.Work.{Work, Settled}
+use Rattle.matcher.specs.Bodied.{Bodying, UnitePre, Bodied}
 use Rattle.planes.proofs.Planes.{Same, kept-all, kept-then, plane-on, plane-same, plane-flags, plane-kept, room-of, planes-le}
 use Rattle.planes.proofs.Slices.{same-false}
-use Rattle.matcher.proofs.Views.{at-node, at-size, Branches, told-codes, told-empty, told-literal, told-group}
 
 -- settled planes stay settled where they are kept
 pub settled-kept : {table label s s′ : Bytes} {w x N : ℕ} {P : ℕ → ℕ → ℕ → Type 0} → Kept s s′ w N P → ((q i j : ℕ) → 2 * x ≤ q → q < 2 * atoms table → P q i j)
@@ -66,44 +63,35 @@ module _ (table label s : Bytes) (w top x : ℕ) (ok : Bodying table label s w t
   pub body-fill : (content : Content) → Fit table content → Fillable table label s w content top
   body-fill content f = record { wide = ok .work .wide; fit = f; into = body-blank .1 }
 
-  module _ (r : Record) (got : r ≡ record-of (its table (layout table) x)) (s′ : Bytes) where
+  module _ (r : Record) (got : RecordOf table x r) (s′ : Bytes) where
     pub body-codes : r .kind ≡ 1 → Filled table label s s′ w (Codes (r .a)) top → Bodied table label s s′ w top x
     unfolding held-in decide
     body-codes e f =
-        let z = told-codes table (ok .work .good) x (ok .there) r got e in
+        let z = got .is-codes e in
         record { plane = plane-same (f .plane) (λ i j hi hj. rw z); kept = f .kept }
 
     pub body-empty : r .kind ≡ 2 → r .b ≡ 0 → Filled table label s s′ w Empty top → Bodied table label s s′ w top x
     unfolding held-in decide
     body-empty e n f =
-        let z = told-empty table (ok .work .good) x (ok .there) r got e n in
+        let z = got .is-empty e n in
         let wide = ok .work .wide in
         record { plane = plane-same (f .plane) (λ i j hi hj. rw z (no-bytes label i j hi (omega arith))); kept = f .kept }
 
-    pub body-literal : r .kind ≡ 2 → (r .b ≡ 0 → ⊥) → let from : ℕ = layout table .pool + r .a in Filled table label s s′ w (Literal from (r .b)) top → Bodied table label s s′ w top x
-    unfolding held-in decide
-    body-literal e n f =
-        let z = told-literal table (ok .work .good) x (ok .there) r got e n .0 in
-        record { plane = plane-same (f .plane) (λ i j hi hj. rw z); kept = f .kept }
+  pub body-literal : {s′ : Bytes} {from len : ℕ} → LiteralAt table x from len → Filled table label s s′ w (Literal from len) top → Bodied table label s s′ w top x
+  unfolding held-in decide
+  body-literal v f = record { plane = plane-same (f .plane) (λ i j hi hj. rw (v .is)); kept = f .kept }
 
 -- ---- the branches of a group
 
--- what is left: branches bs from atom first on; what they and plane top say is what the group says
-pub record Rest (table label s : Bytes) (w top x many first k : ℕ) : Type 0 where
-  pub bs : Syntax branches
-  pub at : At (nodes (tree-of table)) first bs
-  pub ahead : x < first
-  pub count : choices bs + k ≡ many
-  pub flags : Plane s w top (on s w top)
-  pub both : Same w (λ i j. on s w top i j || decide label bs i j) (decide label (inside (head (node table x))))
-
-pub record UniteAt (table label s₁ : Bytes) (w top x many : ℕ) (s : Bytes) (first k : ℕ) : Type 0 where
-  pub below : k ≤ many
+-- plane top and the branches that are left, from atom first on, say what the group says
+pub record UniteAt (table label s₁ : Bytes) (w top x : ℕ) (s : Bytes) (first more : ℕ) : Type 0 where
   pub long : length s ≡ length s₁
   pub kept : Kept s₁ s w (top + 1) (Others top)
   pub settled : Settled table label s w (suc x)
-  pub more : k < many → Rest table label s w top x many first k
-  pub done : many ≤ k → Plane s w top (decide label (inside (head (node table x))))
+  pub ahead : x < first
+  pub within : first + size (branches-from table more first) ≤ atoms table
+  pub flags : Plane s w top (on s w top)
+  pub both : Same w (λ i j. on s w top i j || decide label (branches-from table more first) i j) (decide label (inside (head (node table x))))
 
 or-assoc : (a b c : Bool) → (a || b) || c ≡ a || (b || c)
 or-assoc true b c = refl
@@ -115,99 +103,79 @@ or-comm true false = refl
 or-comm false true = refl
 or-comm false false = refl
 
-some-choices : (bs : Syntax branches) → 1 ≤ choices bs
-unfolding choices
-some-choices (only p) = omega arith
-some-choices (or p bs) = omega arith
+decide-only : (l : Bytes) {bs : Syntax branches} (p : Syntax pattern) → bs ≡ only p → decide l bs ≡ decide l p
+unfolding decide
+decide-only l p e = ap (λ (y : Syntax branches). decide l y) e
 
-module _ (table label s₀ s₁ : Bytes) (w top x : ℕ) (ok : Bodying table label s₀ w top x) (len : length s₁ ≡ length s₀) (blank : Blanked s₀ s₁ w top)
-    (r : Record) (got : r ≡ record-of (its table (layout table) x)) (n1 : r .kind ≡ 1 → ⊥) (n2 : r .kind ≡ 2 → ⊥) where
-  g : Branches table x (r .a) (r .b) (inside (head (node table x)))
-  g = told-group table (ok .work .good) x (ok .there) r got n1 n2
+decide-or : (l : Bytes) {cs : Syntax branches} (p : Syntax pattern) (bs : Syntax branches) → cs ≡ or p bs → (i j : ℕ) → decide l cs i j ≡ decide l p i j || decide l bs i j
+unfolding decide
+decide-or l p bs e i j = ap (λ (y : Syntax branches). decide l y i j) e
+
+decide-group : (l : Bytes) {b : Syntax body} (bs : Syntax branches) → b ≡ group bs → decide l b ≡ decide l bs
+unfolding decide
+decide-group l bs e = ap (λ (y : Syntax body). decide l y) e
+
+module _ (table label s₀ s₁ : Bytes) (w top x count : ℕ) (pre : UnitePre table label s₀ w top x count) (len : length s₁ ≡ length s₀) (blank : Blanked s₀ s₁ w top) where
+  ok : Bodying table label s₀ w top x
+  ok = pre .body
 
   away : (q i j : ℕ) → 2 * suc x ≤ q → q < 2 * atoms table → Others top q i j
   away q i j l m e = omega (arith, ok .topmost)
 
-  pub unite-start : UniteAt table label s₁ w top x (r .a) s₁ (x + 1) 0
-  unfolding held-in decide
-  unite-start =
-      let c = some-choices (g .all) in
-      record {
-        below = omega arith;
-        long = refl;
-        kept = kept-all s₁ w (top + 1) (Others top);
-        settled = settled-kept (blank .kept) away (ok .settled);
-        more = λ _. record {
-          bs = g .all;
-          at = g .inner;
-          ahead = omega arith;
-          count = omega (arith, g .count);
-          flags = plane-flags (blank .plane);
-          both = λ i j hi hj. rw (plane-on (blank .plane) i j hi hj, g .is);
-        };
-        done = λ h. absurd (omega (arith, g .count));
-      }
+  pub unite-start : UniteAt table label s₁ w top x s₁ (x + 1) (count - 1)
+  unite-start = record {
+    long = refl;
+    kept = kept-all s₁ w (top + 1) (Others top);
+    settled = settled-kept (blank .kept) away (ok .settled);
+    ahead = omega arith;
+    within = pre .group .within;
+    flags = plane-flags (blank .plane);
+    both = λ i j hi hj. rw (plane-on (blank .plane) i j hi hj, decide-group label _ (pre .group .is));
+  }
 
-  module _ (s : Bytes) (first k : ℕ) (inv : UniteAt table label s₁ w top x (r .a) s first k) where
-    pub unite-end : r .a ≤ k → Bodied table label s₀ s w top x
-    unite-end h = record { plane = inv .done h; kept = kept-then (blank .kept) (inv .kept) (λ q i j n. n) (λ q i j n. n) }
+  module _ (s : Bytes) (first more : ℕ) (inv : UniteAt table label s₁ w top x s first more) where
+    work : Work table label s w
+    work = work-long (inv .long ∙ len) (ok .work)
 
-    module _ (more : k < r .a) where
-      h : Rest table label s w top x (r .a) first k
-      h = inv .more more
+    pub unite-there : first < atoms table
+    unite-there = omega (arith, inv .within, branches-some table more first, some-pattern (node table first))
 
-      work : Work table label s w
-      work = work-long (inv .long ∙ len) (ok .work)
+    pub unite-add : Addable s w (2 * first + 1) top
+    unite-add = record {
+      wide = omega (arith, work .wide);
+      added = record { room = work-room work (2 * first + 1) (omega (arith, unite-there)); flags = plane-flags (inv .settled .rest first (inv .ahead) unite-there) };
+      into = record { room = work-room work top (omega (arith, ok .topmost)); flags = inv .flags };
+    }
 
-      -- the branch that begins at first
-      first-branch : (bs : Syntax branches) → At (nodes (tree-of table)) first bs → (p : Syntax pattern) × At (nodes (tree-of table)) first p
-      unfolding nodes
-      first-branch (only p) a = (p, record { rest = a .rest; from = a .from })
-      first-branch (or p bs) a = (p, at-branch a .0)
+    module _ (s′ : Bytes) (len′ : length s′ ≡ length s) (f : Added s s′ w (2 * first + 1) top) where
+      -- plane top has the first branch besides
+      joined : Plane s′ w top (λ i j. on s w top i j || decide label (node table first) i j)
+      joined =
+          plane-same (f .plane) (λ i j hi hj. rw (plane-on (inv .settled .rest first (inv .ahead) unite-there) i j hi hj) (or-comm (decide label (node table first) i j) (on s w top i j)))
 
-      pub unite-there : first < atoms table
-      unite-there = let (p, a) = first-branch (h .bs) (h .at) in omega (arith, at-size table a, some-pattern p)
+      kept-on : Kept s₁ s′ w (top + 1) (Others top)
+      kept-on = kept-then (inv .kept) (f .kept) (λ q i j n. n) (λ q i j n. n)
 
-      pub unite-add : Addable s w (2 * first + 1) top
-      unite-add = record {
-        wide = omega (arith, work .wide);
-        added = record { room = work-room work (2 * first + 1) (omega (arith, unite-there)); flags = plane-flags (inv .settled .rest first (h .ahead) unite-there) };
-        into = record { room = work-room work top (omega (arith, ok .topmost)); flags = h .flags };
-      }
+      pub unite-end : more ≡ 0 → Bodied table label s₀ s′ w top x
+      unite-end e =
+          let z = decide-only label _ (branches-last table more first e) in
+          record {
+            plane = plane-same joined (λ i j hi hj. ap (λ (R : Rel). on s w top i j || R i j) (sym z) ∙ inv .both i j hi hj);
+            kept = kept-then (blank .kept) kept-on (λ q i j n. n) (λ q i j n. n);
+          }
 
-      module _ (s′ : Bytes) (len′ : length s′ ≡ length s) (f : Added s s′ w (2 * first + 1) top) (first′ : ℕ) (e : first′ ≡ first + size (node table first)) where
-        -- plane top has the branch p besides
-        joined : (p : Syntax pattern) → At (nodes (tree-of table)) first p → Plane s′ w top (λ i j. on s w top i j || decide label p i j)
-        joined p a =
-            plane-same (f .plane) (λ i j hi hj. rw (plane-on (inv .settled .rest first (h .ahead) unite-there) i j hi hj, at-node table a) (or-comm (decide label p i j) (on s w top i j)))
-
-        after : (bs : Syntax branches) → At (nodes (tree-of table)) first bs → choices bs + k ≡ r .a
-            → Same w (λ i j. on s w top i j || decide label bs i j) (decide label (inside (head (node table x))))
-            → (k + 1 < r .a → Rest table label s′ w top x (r .a) first′ (k + 1)) × (r .a ≤ k + 1 → Plane s′ w top (decide label (inside (head (node table x)))))
-        unfolding choices decide nodes
-        after (only p) a c b = (λ l. absurd (omega arith), λ l. plane-same (joined p (record { rest = a .rest; from = a .from })) b)
-        after (or p bs) a c b =
-            let (u, v) = at-branch a in
-            let z : first + length (nodes p) ≡ first′ = omega (arith, nodes-size p, ap (λ (y : Syntax pattern). size y) (at-node table u)) in (
-              λ l. record {
-                bs = bs;
-                at = subst (λ (y : ℕ). At (nodes (tree-of table)) y bs) z v;
-                ahead = omega (arith, h .ahead);
-                count = omega arith;
-                flags = plane-flags (joined p u);
-                both = λ i j hi hj. rw (plane-on (joined p u) i j hi hj) (or-assoc (on s w top i j) (decide label p i j) (decide label bs i j) ∙ b i j hi hj);
-              },
-              λ l. absurd (omega (arith, some-choices bs)),
-            )
-
-        pub unite-step : UniteAt table label s₁ w top x (r .a) s′ first′ (k + 1)
-        unite-step =
-            let (m, d) = after (h .bs) (h .at) (h .count) (h .both) in
-            record {
-              below = omega arith;
-              long = len′ ∙ inv .long;
-              kept = kept-then (inv .kept) (f .kept) (λ q i j n. n) (λ q i j n. n);
-              settled = settled-kept (f .kept) away (inv .settled);
-              more = m;
-              done = d;
-            }
+      pub unite-step : (more ≡ 0 → ⊥) → (next : ℕ) → next ≡ first + size (node table first) → UniteAt table label s₁ w top x s′ next (more - 1)
+      unfolding size
+      unite-step n next e =
+          let z = branches-more table more first n in
+          record {
+            long = len′ ∙ inv .long;
+            kept = kept-on;
+            settled = settled-kept (f .kept) away (inv .settled);
+            ahead = omega (arith, inv .ahead);
+            within = rw e (omega (arith, inv .within, ap (λ (y : Syntax branches). size y) z));
+            flags = plane-flags joined;
+            both = λ i j hi hj. rw (plane-on joined i j hi hj, e)
+                (or-assoc (on s w top i j) (decide label (node table first) i j) (decide label (branches-from table (more - 1) (first + size (node table first))) i j)
+                ∙ ap (λ (b : Bool). on s w top i j || b) (sym (decide-or label _ _ z i j)) ∙ inv .both i j hi hj);
+          }

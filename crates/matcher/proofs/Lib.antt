@@ -1,5 +1,4 @@
 pub mod Levels
-pub mod Views
 pub mod Groups
 pub mod Settling
 pub mod Following

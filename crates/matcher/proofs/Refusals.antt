@@ -8,60 +8,35 @@ use borrow.Author.Tests.{lt-ltb, le-ltb}
 use lib.ListN.{length}
 use Rattle.pattern.specs.Numbers.{atom-limit, label-limit, LABEL, WORK, PARTS}
 use Rattle.pattern.specs.Bytes.{Bytes}
-use Rattle.pattern.specs.Syntax.{pattern, Syntax, size, top-size}
+use Rattle.pattern.specs.Syntax.{top-size}
 use Rattle.pattern.specs.Parts.{verdict}
 use Rattle.pattern.specs.Trials.{trials}
 use Rattle.pattern.specs.Scan.{refuse}
-use Rattle.pattern.specs.Print.{print}
 use Rattle.pattern.specs.Decode.{tree-of, decode}
 use Rattle.pattern.specs.Answers.{work, lent-fault, ended, ending, match-ending, matchOf}
-use Rattle.pattern.proofs.Accepted.{accepted-exactly}
-use Rattle.pattern.proofs.RoundTrip.{tree-encode}
-use Rattle.pattern.proofs.Calls.{print-accepted, decoded-encode}
 use Rattle.pattern.proofs.Rooms.{top-le}
-use Rattle.table.specs.declared.Summary.{Summary}
+use Rattle.table.specs.declared.Sizes.{Sizes}
 use Rattle.table.specs.declared.Tested.the-variants.{Bad, Good}
 use Rattle.table.specs.Walk.{tested}
-use Rattle.matcher.specs.Atoms.{GoodTable, atoms}
+use Rattle.atoms.proofs.Goods.{Sized, tested-good, tested-bad}
+use Rattle.atoms.specs.Atoms.{atoms}
 use Rattle.matcher.specs.Answered.{Running, unrefused, Promised}
 use Rattle.matcher.specs.declared.Matched.the-variants.{Table, Label, Work, Parts}
 
-pub none-bad : (o : Option (Syntax pattern)) → Bad ≡ tested o → o ≡ none
-unfolding tested
-none-bad none e = refl
-none-bad (some t) e = absurd (let z : _≡_ {A = ℕ} 0 1 = cc in omega arith)
-
 pub bad-table : (table label scratch parts : Bytes) (budget : ℕ) → Bad ≡ tested (decode table) → Promised table label scratch parts budget Table scratch parts
 unfolding matchOf match-ending ended
-bad-table table label scratch parts budget e = sym (ap (λ o. ended (match-ending o label scratch parts budget) scratch parts) (none-bad (decode table) e))
+bad-table table label scratch parts budget e = sym (ap (λ o. ended (match-ending o label scratch parts budget) scratch parts) (tested-bad table e))
 
 module _ (table : Bytes) where
-  -- the tree of a good table is what it is read as, within the limits
-  read-tree : (t : Syntax pattern) → decode table ≡ some t → (tree-of table ≡ t) × (size t ≤ atom-limit)
-  read-tree t d =
-      let (n, h, g) = accepted-exactly (print t) t .0 (print-accepted table t d) in
-      (ap tree-of (sym (decoded-encode table t d)) ∙ tree-encode t (g .tree), g .atoms)
-
-  some-good : (s : Summary) (o : Option (Syntax pattern)) → Good s ≡ tested o → (t : Syntax pattern) × (o ≡ some t) × (s .atoms ≡ size t) × (s .top ≡ top-size t)
-  unfolding tested
-  some-good s none e = absurd (let z : _≡_ {A = ℕ} 0 1 = cc in omega arith)
-  some-good s (some t) e =
-      let y : s ≡ record { atoms = size t; top = top-size t; source = length (print t) } = cc in
-      (t, refl, ap (λ (x : Summary). x .atoms) y, ap (λ (x : Summary). x .top) y)
-
-  module _ (s : Summary) (e : Good s ≡ tested (decode table)) where
-    -- the table is good, and the summary is of its tree
-    told : GoodTable table × (s .atoms ≡ atoms table) × (s .top ≡ top-size (tree-of table)) × (atoms table ≤ atom-limit)
-    told =
-        let (t, d, a, b) = some-good s (decode table) e in
-        let (r, n) = read-tree t d in
-        (record { decoded = d ∙ ap some (sym r) }, a ∙ ap size (sym r), b ∙ ap top-size (sym r), rw r n)
+  module _ (s : Sizes) (e : Good s ≡ tested (decode table)) where
+    told : Sized table s
+    told = tested-good table s e
 
     pub few-atoms : s .atoms ≤ atom-limit
-    few-atoms = let (g, a, b, n) = told in omega arith
+    few-atoms = omega (arith, told .atoms-are, told .few)
 
     pub few-tops : s .top ≤ atom-limit
-    few-tops = let (g, a, b, n) = told in omega (arith, top-le (tree-of table))
+    few-tops = omega (arith, told .top-are, told .few, top-le (tree-of table))
 
     -- the scratch bytes are few enough to count
     module _ (n : ℕ) (h : n ≤ label-limit) where
@@ -78,10 +53,10 @@ module _ (table : Bytes) where
       faulted : (o : Option ℕ) → lent-fault (tree-of table) label scratch parts ≡ o
           → ended (ending o (work (tree-of table) (length label)) (trials label (tree-of table)) budget (verdict label (tree-of table))) scratch parts ≡ matchOf table label scratch parts budget
       unfolding matchOf match-ending
-      faulted o f = sym (rw (told .0 .decoded, f))
+      faulted o f = sym (rw (told .good .decoded, f))
 
       work-is : work (tree-of table) (length label) ≡ (2 * s .atoms + 4) * (length label + 1) * (length label + 1)
-      work-is = ap (λ (k : ℕ). (2 * k + 4) * (length label + 1) * (length label + 1)) (sym (told .1))
+      work-is = ap (λ (k : ℕ). (2 * k + 4) * (length label + 1) * (length label + 1)) (sym (told .atoms-are))
 
       pub long-label : label-limit < length label → Promised table label scratch parts budget Label scratch parts
       unfolding lent-fault refuse ending ended
@@ -101,15 +76,15 @@ module _ (table : Bytes) where
           pub few-parts : length parts < 2 * s .top → Promised table label scratch parts budget Parts scratch parts
           unfolding lent-fault refuse ending ended
           few-parts m =
-              let l : length parts < 2 * top-size (tree-of table) = rw (← told .2) m in
+              let l : length parts < 2 * top-size (tree-of table) = rw (← told .top-are) m in
               faulted (some PARTS) (rw (le-ltb label-limit (length label) h, le-ltb (length scratch) (work (tree-of table) (length label)) room, lt-ltb (length parts) (2 * top-size (tree-of table)) l))
 
           module _ (m : 2 * s .top ≤ length parts) where
             fits : 2 * top-size (tree-of table) ≤ length parts
-            fits = rw (← told .2) m
+            fits = rw (← told .top-are) m
 
             pub all-lent : Running table label scratch parts (s .atoms)
-            all-lent = record { good = told .0; counted = told .1; short = h; room = room; fits = fits }
+            all-lent = record { good = told .good; counted = told .atoms-are; short = h; room = room; fits = fits }
 
             pub no-fault : ended (unrefused table label budget) scratch parts ≡ matchOf table label scratch parts budget
             unfolding lent-fault refuse ending

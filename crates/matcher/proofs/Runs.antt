@@ -21,14 +21,15 @@ use Rattle.pattern.proofs.Calls.{ending-within, ending-beyond}
 use Rattle.pattern.proofs.RoundTrip.{some-pattern}
 use Rattle.planes.specs.declared.join.Tally.{Tally}
 use Rattle.planes.specs.Cells.{InRoom, on}
-use Rattle.matcher.specs.Atoms.{atoms, Work}
+use Rattle.atoms.specs.Atoms.{atoms}
+use Rattle.matcher.specs.Work.{Work}
 use Rattle.matcher.specs.Steps.{AllSettled}
 use Rattle.matcher.specs.Parted.{Parting, Parted}
 use Rattle.matcher.specs.Answered.{Running, unrefused}
 use Rattle.planes.proofs.Planes.{plane-on}
 use Rattle.planes.proofs.Counting.{counted-room, counted-all, counted-past}
 use Rattle.matcher.proofs.Groups.{work-long, work-room}
-use Rattle.matcher.proofs.Ends.{node-root}
+use Rattle.atoms.proofs.Views.{node-first}
 
 -- lists that agree from q on have one rest from q on
 drop-same : (s s′ : Bytes) (q : ℕ) → length s′ ≡ length s → ((x : ℕ) → q ≤ x → getD s′ x 0 ≡ getD s x 0) → drop q s′ ≡ drop q s
@@ -89,7 +90,7 @@ module _ (table label scratch lent : Bytes) (count : ℕ) (ok : Running table la
       decided : on s w 1 0 (length label) ≡ decide label t 0 (length label)
       decided =
           plane-on (got .whole e .rest 0 (omega arith) (omega (arith, some-pattern t))) 0 (length label) (omega arith) (omega arith)
-          ∙ ap (λ (p : Syntax pattern). decide label p 0 (length label)) (node-root table)
+          ∙ ap (λ (p : Syntax pattern). decide label p 0 (length label)) (node-first table)
 
       pub run-parting : Parting table label s w lent
       run-parting = record { work = work-long long run-work; settled = got .whole e; fits = ok .fits }

@@ -4,18 +4,17 @@ use mathlib.Core.Bool.{Bool, true, false, not, _&&_, _||_}
 use mathlib.Core.Option.{Option, none, some}
 use Prim.Native.Nat.{ℕ, suc, _+_, _*_, _≤_, _<_, min}
 use native.Mathlib.Omega.{arith}
-use borrow.Author.Tests.{le-leb, lt-leb}
-use lib.Dec.{leb}
+use borrow.Author.Tests.{le-leb, lt-leb, eqb-true}
+use lib.Dec.{leb, eqb}
 use lib.ListN.{length}
-use Rattle.pattern.specs.Numbers.{label-limit}
+use Rattle.pattern.specs.Numbers.{label-limit, open-high}
 use Rattle.pattern.specs.Bytes.{Bytes}
 use Rattle.pattern.specs.Syntax.{atom, body, Syntax, repeat}
 use Rattle.pattern.specs.Decision.{Rel, made, most, repeated, decide}
 use Rattle.pattern.specs.Trials.{sum, joins, repeats}
-use Rattle.pattern.specs.Table.{high-field}
-use Rattle.pattern.specs.Decode.{layout, its}
+use Rattle.pattern.specs.Decode.{high-of}
 use Rattle.table.specs.declared.Record.{Record}
-use Rattle.table.specs.Fields.{record-of}
+use Rattle.atoms.specs.Records.{RecordOf}
 use Rattle.planes.specs.declared.join.Tally.{Tally}
 use Rattle.planes.specs.declared.fill.Content.the-variants.{Empty}
 use Rattle.planes.specs.Cells.{InRoom, Plane, Kept, on}
@@ -23,13 +22,12 @@ use Rattle.planes.specs.Joined.{join-trials}
 use Rattle.planes.specs.Whole.{Blanked}
 use Rattle.planes.specs.Filled.{held-in, Fit, Fillable, Filled}
 use Rattle.planes.specs.Made.{fewer, body-trials, MadeOf}
-use Rattle.matcher.specs.Atoms.{node, head, inside}
+use Rattle.atoms.specs.Atoms.{node, head, inside}
 use Rattle.matcher.specs.Bodied.{Bodying, Bodied}
 use Rattle.matcher.specs.Steps.{Later, Begun, Owned}
 use Rattle.planes.proofs.Planes.{Same, kept-then, kept-less, plane-on, plane-same, plane-flags, plane-kept}
 use Rattle.planes.proofs.Relations.{any-same, sum-same, join-trials-same, joins-all, made-same}
 use Rattle.matcher.proofs.Levels.{decide-level}
-use Rattle.matcher.proofs.Views.{told-count}
 use Rattle.matcher.proofs.Groups.{work-long, work-room}
 
 -- ---- the planes to start from
@@ -73,10 +71,13 @@ module _ (table label s : Bytes) (w top x : ℕ) (ok : Bodying table label s w t
 -- ---- an atom's own plane
 
 -- the count of bodies that is tried is the paper's K
-most-min : (n : ℕ) (high : Option ℕ) → n ≤ label-limit → min n (high-field high) ≡ most n high
-unfolding most
-most-min n none h = omega arith
-most-min n (some m) h = refl
+most-min : (n h : ℕ) → n ≤ label-limit → min n h ≡ most n (high-of h)
+unfolding most high-of
+most-min n h l = go (eqb h open-high) refl
+  where
+    go : (b : Bool) → eqb h open-high ≡ b → min n h ≡ most n (elim b [ true ↦ none | false ↦ some h ])
+    go true e = omega (arith, eqb-true h open-high e)
+    go false e = refl
 
 and-true : (b : Bool) → b && true ≡ b
 and-true true = refl
@@ -102,7 +103,7 @@ unfolding decide inside
 decide-is l a low high e = ap (λ (z : Syntax atom). decide l z) e
 
 module _ (table label s : Bytes) (w top x budget spent : ℕ) (ok : Bodying table label s w top x) (s₁ : Bytes) (l₁ : length s₁ ≡ length s) (got : Begun table label s s₁ w top x)
-    (r : Record) (is : r ≡ record-of (its table (layout table) x)) (s₂ : Bytes) (l₂ : length s₂ ≡ length s₁) (low times : ℕ) (low-is : low ≡ min (r .low) (length label)) (times-is : times ≡ min (length label) (r .high))
+    (r : Record) (is : RecordOf table x r) (s₂ : Bytes) (l₂ : length s₂ ≡ length s₁) (low times : ℕ) (low-is : low ≡ min (r .low) (length label)) (times-is : times ≡ min (length label) (r .high))
     (t : Tally) (made-of : MadeOf s₁ s₂ w top (2 * x) low times budget spent t) where
   abbrev a : Syntax atom
   a = head (node table x)
@@ -115,12 +116,12 @@ module _ (table label s : Bytes) (w top x budget spent : ℕ) (ok : Bodying tabl
 
   tried : sum times (body-trials w (on s₁ w top)) ≡ repeats label a
   tried =
-      let (high, e, f) = told-count table (ok .work .good) x (ok .there) r is in
-      let m : times ≡ most (length label) high = times-is ∙ ap (min (length label)) (sym f) ∙ most-min (length label) high (ok .work .short) in
+      let high : Option ℕ = high-of (r .high) in
+      let m : times ≡ most (length label) high = times-is ∙ most-min (length label) (r .high) (ok .work .short) in
       let z : w ≡ suc (length label) = omega (arith, ok .work .wide) in
       ap (λ (k : ℕ). sum k (body-trials w (on s₁ w top))) m
       ∙ sum-same (most (length label) high) _ _ (λ k h. join-trials-same w _ _ _ _ bodies (made-same w _ _ bodies k) ∙ ap (λ (v : ℕ). join-trials v R (made R k)) z ∙ sym (joins-all (length label) R (made R k)))
-      ∙ sym (repeats-is label a (r .low) high e)
+      ∙ sym (repeats-is label a (r .low) high (is .count))
 
   -- the stretches made of enough bodies, numbers cut to the label's length
   enough : t .stopped ≡ false → Plane s₂ w (2 * x) (fewer R low (suc times))
@@ -129,9 +130,9 @@ module _ (table label s : Bytes) (w top x budget spent : ℕ) (ok : Bodying tabl
   decided : (i j : ℕ) → decide label a i j ≡ fewer R low (suc times) i j && (leb (r .low) (length label) || R i i)
   unfolding repeated
   decided i j =
-      let (high, e, f) = told-count table (ok .work .good) x (ok .there) r is in
-      let m : times ≡ most (length label) high = times-is ∙ ap (min (length label)) (sym f) ∙ most-min (length label) high (ok .work .short) in
-      ap (λ (S : Rel). S i j) (decide-is label a (r .low) high e) ∙ rw (low-is, m)
+      let high : Option ℕ = high-of (r .high) in
+      let m : times ≡ most (length label) high = times-is ∙ most-min (length label) (r .high) (ok .work .short) in
+      ap (λ (S : Rel). S i j) (decide-is label a (r .low) high (is .count)) ∙ rw (low-is, m)
 
   later : Kept s s₂ w (top + 4) (Later top x)
   later = kept-then (got .kept) (made-of .kept) (λ q i j n. n) (λ q i j (m, n). (λ e. omega arith, λ e. omega arith, λ e. omega arith))

@@ -12,7 +12,7 @@ use Rattle.pattern.specs.Decode.{tree-of}
 use Rattle.pattern.specs.Answers.{Answer, refusal, result, work, Ending, ending, matchOf, Matched as Outcome}
 use Rattle.matcher.specs.declared.Matched.{Matched}
 use Rattle.matcher.specs.declared.Matched.the-variants.{Table, Label, Work, Parts, Budget, No, Yes}
-use Rattle.matcher.specs.Atoms.{GoodTable, atoms}
+use Rattle.atoms.specs.Atoms.{GoodTable, atoms}
 
 -- the paper's numbers for each case: "15 reports the budget as trials, every other refusal 0"
 abbrev pub answer-of : (budget : ℕ) → Matched → Answer

@@ -4,7 +4,9 @@ use Prim.Native.Nat.{ℕ, suc, _+_, _*_, _<_}
 use Rattle.pattern.specs.Bytes.{Bytes}
 use Rattle.pattern.specs.Decision.{decide}
 use Rattle.planes.specs.Cells.{Plane, Kept, Others}
-use Rattle.matcher.specs.Atoms.{atoms, node, head, inside, Work, Settled}
+use Rattle.atoms.specs.Atoms.{atoms, node, head, inside}
+use Rattle.atoms.specs.Records.{GroupIn}
+use Rattle.matcher.specs.Work.{Work, Settled}
 
 -- the planes of all atoms after x are settled, and top is the first plane after those of the atoms
 pub record Bodying (table label s : Bytes) (w top x : ℕ) : Type 0 where
@@ -12,6 +14,11 @@ pub record Bodying (table label s : Bytes) (w top x : ℕ) : Type 0 where
   pub topmost : top ≡ 2 * atoms table
   pub there : x < atoms table
   pub settled : Settled table label s w (suc x)
+
+-- besides, x is a group of this many branches
+pub record UnitePre (table label s : Bytes) (w top x branches : ℕ) : Type 0 where
+  pub body : Bodying table label s w top x
+  pub group : GroupIn table x branches
 
 pub record Bodied (table label s s′ : Bytes) (w top x : ℕ) : Type 0 where
   pub plane : Plane s′ w top (decide label (inside (head (node table x))))

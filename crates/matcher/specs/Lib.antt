@@ -1,4 +1,4 @@
-pub mod Atoms
+pub mod Work
 pub mod Bodied
 pub mod Steps
 pub mod Parted

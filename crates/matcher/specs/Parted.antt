@@ -7,7 +7,7 @@ use Rattle.pattern.specs.Syntax.{top-size}
 use Rattle.pattern.specs.Parts.{parts}
 use Rattle.pattern.specs.Decode.{tree-of}
 use Rattle.pattern.specs.Answers.{part-bytes}
-use Rattle.matcher.specs.Atoms.{Work, Settled}
+use Rattle.matcher.specs.Work.{Work, Settled}
 
 pub record Parting (table label s : Bytes) (w : ℕ) (lent : Bytes) : Type 0 where
   pub work : Work table label s w

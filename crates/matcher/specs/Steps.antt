@@ -12,7 +12,8 @@ use Rattle.planes.specs.declared.join.Tally.{Tally}
 use Rattle.planes.specs.Cells.{Plane, Kept, Others}
 use Rattle.planes.specs.Budget.{Counted}
 use Rattle.planes.specs.Made.{Making}
-use Rattle.matcher.specs.Atoms.{atoms, node, head, inside, Work, Settled}
+use Rattle.atoms.specs.Atoms.{atoms, node, head, inside}
+use Rattle.matcher.specs.Work.{Work, Settled}
 
 -- the planes between 2 x and top
 abbrev pub Later : ℕ → ℕ → ℕ → ℕ → ℕ → Type 0

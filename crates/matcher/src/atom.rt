@@ -1,12 +1,13 @@
 // One atom after the other, from the last record to the first: what an atom needs is settled before it.
 ghost use mathlib.Core.Path.{_≡_};
 ghost use Prim.Native.Nat.{_*_, _≤_, min};
-ghost use Rattle.matcher.specs.Atoms.{atoms, Work};
+ghost use Rattle.atoms.specs.Atoms.{atoms};
+ghost use Rattle.matcher.specs.Work.{Work};
 ghost use Rattle.matcher.specs.Bodied.{Bodying};
 ghost use Rattle.matcher.specs.Steps.{Begun, Owned, Following, Followed, Stepped, AllSettled};
 use crate::body::fill_body;
-use crate::walk::after;
-use crate::walk::record_at;
+use atoms::next_atom;
+use atoms::record_at;
 use planes::cells::add;
 use planes::cells::blank;
 use planes::cells::holds;
@@ -96,7 +97,7 @@ fn follow(
             stopped: false,
         };
     }
-    let next = after(table, x);
+    let next = next_atom(table, x);
     join(scratch, w, 2 * x, 2 * next + 1, 2 * x + 1, budget, trials)
 }
 

@@ -9,7 +9,6 @@ ghost use Rattle.matcher.specs.Answered.{answer-of, outcome-of, Running,
 mod atom;
 mod body;
 mod parts;
-mod walk;
 
 use atom::settle_all;
 use parts::write_parts;
@@ -17,7 +16,7 @@ use pattern::limits::LABEL_LIMIT;
 use pattern::refusal;
 use planes::cells::holds;
 use planes::clear::clear;
-use table::Summary;
+use table::Sizes;
 use table::Tested;
 
 // The answer to a match: a refusal by its name in the paper, or the verdict with the trials made.
@@ -111,7 +110,7 @@ fn run(
 // Whether the label satisfies the pattern of a table that was tested, and if so where its parts end: 12 to 14, then the trials.
 pub fn match_good(
     table: &[u8],
-    sizes: Summary,
+    sizes: Sizes,
     label: &[u8],
     scratch: &mut [u8],
     parts: &mut [u8],

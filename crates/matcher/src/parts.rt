@@ -6,8 +6,8 @@ ghost use Rattle.pattern.specs.Decision.{trial};
 ghost use Rattle.pattern.specs.Parts.{longest};
 ghost use Rattle.planes.specs.Cells.{on, Readable};
 ghost use Rattle.matcher.specs.Parted.{Parting, Parted};
-use crate::walk::after;
-use crate::walk::record_at;
+use atoms::next_atom;
+use atoms::record_at;
 use planes::cells::byte;
 
 // The last m with left on i to m and right on m to n, read in row n; i if there is none.
@@ -49,7 +49,7 @@ pub fn write_parts(table: &[u8], label: &[u8], scratch: &[u8], w: usize, parts: 
             put(parts, at, n);
             return;
         }
-        let next = after(table, x);
+        let next = next_atom(table, x);
         i = last_end(scratch, w, 2 * x, 2 * next + 1, i, n);
         put(parts, at, i);
         x = next;

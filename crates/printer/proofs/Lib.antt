@@ -1,8 +1,6 @@
 pub mod Storing
 pub mod Parting
 pub mod Digits
-pub mod Views
 pub mod Walking
-pub mod Loops
 pub mod Writing
 pub mod Again

@@ -6,7 +6,7 @@ use native.Mathlib.Omega.{arith}
 use lib.ListN.{length, set}
 use Rattle.pattern.specs.Bytes.{Bytes}
 use Rattle.pattern.specs.Stores.{Puts}
-use Rattle.pattern.proofs.Stores.{puts-none, puts-more, puts-length, puts-room, puts-as}
+use Rattle.pattern.proofs.Stores.{puts-none, puts-byte, puts-then, puts-length, puts-room, puts-as}
 
 -- of v, to be stored in l from n on, all but rest is stored
 pub record Partly (l : Bytes) (n : ℕ) (v l′ : Bytes) (m : ℕ) (rest : Bytes) : Type 0 where
@@ -21,9 +21,12 @@ module _ {l : Bytes} {n : ℕ} {v l′ : Bytes} {m : ℕ} where
   pub partly-as : {r q : Bytes} → r ≡ q → Partly l n v l′ m r → Partly l n v l′ m q
   partly-as e h = record { done = h .done; puts = h .puts; split = ap (λ (x : Bytes). h .done ++ x) (sym e) ∙ h .split }
 
+  pub partly-then : (u r : Bytes) {l″ : Bytes} {k : ℕ} → Partly l n v l′ m (u ++ r) → Puts l′ m u l″ k → Partly l n v l″ k r
+  partly-then u r h g =
+      record { done = h .done ++ u; puts = puts-then (h .puts) g; split = append-assoc (h .done) u r ∙ h .split }
+
   pub partly-byte : {b : ℕ} {r : Bytes} → Partly l n v l′ m (b ∷ r) → Partly l n v (set l′ m b) (m + 1) r
-  partly-byte {b} {r} h =
-      record { done = h .done ++ b ∷ []; puts = puts-more (h .puts) b; split = append-assoc (h .done) (b ∷ []) r ∙ h .split }
+  partly-byte {b} {r} h = partly-then (b ∷ []) r h (puts-byte l′ m b)
 
   pub partly-end : Partly l n v l′ m [] → Puts l n v l′ m
   partly-end h = puts-as (h .puts) (sym (append-nil (h .done)) ∙ h .split)

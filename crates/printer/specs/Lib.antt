@@ -1,3 +1,3 @@
 pub mod Digits
-pub mod Trees
+pub mod Walk
 pub mod Outputs

@@ -2,7 +2,6 @@
 mod parts;
 mod walk;
 
-use pattern::limits::HEADER_SIZE;
 use table::Tested;
 ghost use mathlib.Core.Path.{_≡_};
 ghost use Rattle.pattern.specs.Answers.{writeOf};
@@ -22,11 +21,10 @@ pub fn write_back(table: &[u8], source: &mut [u8]) -> Written
     match table::test(table) {
         Tested::Good(s) => {
             let n = s.source;
-            let atoms = s.atoms;
             if source.len() < n {
                 return Written::Room;
             }
-            walk::pattern(&table[HEADER_SIZE..], atoms, source, 0, 0);
+            walk::write_pattern(table, source, 0, 0);
             Written::Length(n)
         }
         Tested::Bad => Written::Table,

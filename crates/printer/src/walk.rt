@@ -1,9 +1,13 @@
 // The walk that writes: a cycle of three functions for patterns, atoms and groups.
 use super::parts;
+use atoms::literal_at;
+use atoms::record_at;
 use pattern::kind;
-use pattern::limits::RECORD_SIZE;
-ghost use Rattle.pattern.specs.Syntax.{pattern as pattern-sort, atom as atom-sort};
-ghost use Rattle.printer.specs.Trees.{Room, Printed, RoomFor, Branched};
+ghost use Prim.Native.Nat.{_+_, _-_};
+ghost use Rattle.pattern.specs.Syntax.{size};
+ghost use Rattle.pattern.specs.Print.{print};
+ghost use Rattle.atoms.specs.Atoms.{node, branches-from, head};
+ghost use Rattle.printer.specs.Walk.{WritePatternPre, WriteAtomPre, WriteGroupPre, WritePost};
 
 // The next atom, and the place after what is written.
 pub struct Next {
@@ -11,15 +15,15 @@ pub struct Next {
     pub at: usize,
 }
 
-// The pattern from atom i on, written from n on.
-pub fn pattern(body: &[u8], atoms: usize, out: &mut [u8], i: usize, n: usize) -> Next
-    requires { ⌜ Room pattern-sort (now body) atoms (now out) i n ⌝ }
-    ensures { λ r. ⌜ Printed pattern-sort (now (body .entry)) atoms (now (out .entry)) i n r (now (out .exit)) ⌝ }
+// The pattern that begins at atom x, written from n on.
+pub fn write_pattern(table: &[u8], out: &mut [u8], x: usize, n: usize) -> Next
+    requires { ⌜ WritePatternPre (now table) (now out) x n ⌝ }
+    ensures { λ r. ⌜ WritePost (print (node (now (table .entry)) x)) (x + size (node (now (table .entry)) x)) (now (out .entry)) n r (now (out .exit)) ⌝ }
 {
-    let mut from = Next { atom: i, at: n };
+    let mut from = Next { atom: x, at: n };
     loop {
-        let next = atom(body, atoms, out, from.atom, from.at);
-        let r = table::fields(body, RECORD_SIZE * from.atom);
+        let next = write_atom(table, out, from.atom, from.at);
+        let r = record_at(table, from.atom);
         if r.ends == 1 {
             return next;
         }
@@ -27,47 +31,48 @@ pub fn pattern(body: &[u8], atoms: usize, out: &mut [u8], i: usize, n: usize) ->
     }
 }
 
-// Atom i.
-fn atom(body: &[u8], atoms: usize, out: &mut [u8], i: usize, n: usize) -> Next
-    requires { ⌜ Room atom-sort (now body) atoms (now out) i n ⌝ }
-    ensures { λ r. ⌜ Printed atom-sort (now (body .entry)) atoms (now (out .entry)) i n r (now (out .exit)) ⌝ }
+// Atom x.
+fn write_atom(table: &[u8], out: &mut [u8], x: usize, n: usize) -> Next
+    requires { ⌜ WriteAtomPre (now table) (now out) x n ⌝ }
+    ensures { λ r. ⌜ WritePost (print (head (node (now (table .entry)) x))) (x + size (head (node (now (table .entry)) x))) (now (out .entry)) n r (now (out .exit)) ⌝ }
 {
-    let r = table::fields(body, RECORD_SIZE * i);
+    let r = record_at(table, x);
     let m = parts::count(out, n, r.low, r.high);
-    if r.kind == kind::GROUP {
-        out[m] = b'(';
-        let next = group(body, atoms, out, i + 1, m + 1, r.a as usize);
-        let z = next.at;
-        out[z] = b')';
-        return Next {
-            atom: next.atom,
-            at: z + 1,
-        };
-    }
     if r.kind == kind::CODES {
         return Next {
-            atom: i + 1,
+            atom: x + 1,
             at: parts::letters(out, m, r.a),
         };
     }
-    let from = RECORD_SIZE * atoms + r.a as usize;
-    let to = from + r.b as usize;
+    if r.kind == kind::LITERAL {
+        let v = literal_at(table, x);
+        let from = v.from;
+        let to = from + v.len;
+        return Next {
+            atom: x + 1,
+            at: parts::literal(out, m, &table[from..to]),
+        };
+    }
+    out[m] = b'(';
+    let next = write_group(table, out, x + 1, m + 1, r.a as usize);
+    let z = next.at;
+    out[z] = b')';
     Next {
-        atom: i + 1,
-        at: parts::literal(out, m, &body[from..to]),
+        atom: next.atom,
+        at: z + 1,
     }
 }
 
-// k branches from atom i on.
-fn group(body: &[u8], atoms: usize, out: &mut [u8], i: usize, n: usize, k: usize) -> Next
-    requires { ⌜ RoomFor k (now body) atoms (now out) i n ⌝ }
-    ensures { λ r. ⌜ Branched k (now (body .entry)) atoms (now (out .entry)) i n r (now (out .exit)) ⌝ }
+// k branches from atom x on.
+fn write_group(table: &[u8], out: &mut [u8], x: usize, n: usize, k: usize) -> Next
+    requires { ⌜ WriteGroupPre (now table) (now out) x n k ⌝ }
+    ensures { λ r. ⌜ WritePost (print (branches-from (now (table .entry)) (k - 1) x)) (x + size (branches-from (now (table .entry)) (k - 1) x)) (now (out .entry)) n r (now (out .exit)) ⌝ }
 {
-    let mut from = Next { atom: i, at: n };
-    let mut left = k;
+    let mut from = Next { atom: x, at: n };
+    let mut more = k - 1;
     loop {
-        let next = pattern(body, atoms, out, from.atom, from.at);
-        if left == 1 {
+        let next = write_pattern(table, out, from.atom, from.at);
+        if more == 0 {
             return next;
         }
         let m = next.at;
@@ -76,6 +81,6 @@ fn group(body: &[u8], atoms: usize, out: &mut [u8], i: usize, n: usize, k: usize
             atom: next.atom,
             at: m + 1,
         };
-        left -= 1;
+        more -= 1;
     }
 }

@@ -10,17 +10,16 @@ use lib.Seq.{take-all}
 use borrow.Author.Tests.{ne-eqb, lt-ltb, le-ltb}
 use Rattle.pattern.specs.Numbers.{zero-byte, TABLE, table-room, parts-room}
 use Rattle.pattern.specs.Bytes.{Bytes, bytes}
-use Rattle.pattern.specs.Syntax.{pattern, Syntax, size, top-size}
+use Rattle.pattern.specs.Syntax.{pattern, Syntax, top-size}
 use Rattle.pattern.specs.Parts.{verdict}
-use Rattle.pattern.specs.Print.{print}
-use Rattle.pattern.specs.Decode.{decode}
+use Rattle.pattern.specs.Decode.{tree-of, decode}
 use Rattle.pattern.specs.Answers.{Answer, refusal, result, Output, compileOf, Matched, cleared, untried, exhausted, decided, ended, match-ending, matchOf}
 use Rattle.pattern.proofs.Longest.{verdict-length}
 use Rattle.pattern.proofs.Calls.{match-cases}
-use Rattle.table.specs.declared.Summary.{Summary}
+use Rattle.table.specs.declared.Sizes.{Sizes}
 use Rattle.table.specs.declared.Tested.the-variants.{Bad, Good}
 use Rattle.table.specs.Walk.{tested}
-use Rattle.matcher.proofs.Refusals.{none-bad}
+use Rattle.atoms.proofs.Goods.{tested-good, tested-bad}
 use Rattle.pattern.proofs.Tests.{if-true, if-false}
 use Rattle.replies.specs.Sizes.{line-limit, budget, tab-byte, space-byte, refused-letter, number-room, coded-room, refused-room}
 use Rattle.replies.specs.Text.{decimal, coded-text, refused-text, unmatched-text, numbers-in, matched-text, ending-text}
@@ -93,20 +92,20 @@ module _ (scratch parts : Bytes) (T : ℕ) where
   }
 
 -- the sizes that the test answers have the T of the table's tree
-top-is : (sizes : Summary) (o : Option (Syntax pattern)) (t : Syntax pattern) → Good sizes ≡ tested o → o ≡ some t → sizes .top ≡ top-size t
-unfolding tested
-top-is sizes o t e d =
-    let x : Good sizes ≡ Good (record { atoms = size t; top = top-size t; source = length (print t) }) = e ∙ ap tested d in
-    let y : sizes ≡ record { atoms = size t; top = top-size t; source = length (print t) } = cc in
-    ap (λ (s : Summary). s .top) y
+top-is : (table : Bytes) (sizes : Sizes) → Good sizes ≡ tested (decode table) → (t : Syntax pattern) → decode table ≡ some t → sizes .top ≡ top-size t
+top-is table sizes g t d =
+    let k = tested-good table sizes g in
+    let x : some (tree-of table) ≡ some t = sym (k .good .decoded) ∙ d in
+    let e : tree-of table ≡ t = cc in
+    k .top-are ∙ ap top-size e
 
 -- a bad table
 pub bad-reply : (table label scratch : Bytes) → Bad ≡ tested (decode table) → texted scratch (unmatched-text TABLE) ≡ label-reply table label scratch
 unfolding label-reply match-ending ending-reply ending-text ended
-bad-reply table label scratch e = sym (rw (none-bad (decode table) e))
+bad-reply table label scratch e = sym (rw (tested-bad table e))
 
 -- what the matching call answers, and the scratch and parts that it leaves
-module _ (table label scratch : Bytes) (sizes : Summary) (g : Good sizes ≡ tested (decode table)) (r : call.Matched) (s p : Bytes)
+module _ (table label scratch : Bytes) (sizes : Sizes) (g : Good sizes ≡ tested (decode table)) (r : call.Matched) (s p : Bytes)
     (e : outcome-of budget r s p ≡ matchOf table label scratch (replicate parts-room 0) budget)
     (a : called.Answer) (n : record { number = a .number; position = 0; value = a .value; trials = a .trials } ≡ numbers-of budget r) where
   pub match-texts : Texts (sizes .top) (record { answer = record { number = a .number; position = 0; value = a .value; trials = a .trials }; scratch = s; parts = p }) (label-reply table label scratch)
@@ -119,7 +118,7 @@ module _ (table label scratch : Bytes) (sizes : Summary) (g : Good sizes ≡ tes
       (match-cases (λ y. Texts T (ended y scratch parts) (ending-reply y scratch parts)) (decode table) label scratch parts budget
       (λ f l h. untried-texts scratch parts T f (omega arith))
       (λ t d f h. exhausted-texts scratch parts T _ _)
-      (λ t d f h. decided-texts scratch parts T _ _ (verdict label t) (λ ends v. verdict-length label t ends v ∙ sym (top-is sizes (decode table) t g d))))
+      (λ t d f h. decided-texts scratch parts T _ _ (verdict label t) (λ ends v. verdict-length label t ends v ∙ sym (top-is table sizes g t d))))
 
 -- ---- compiling
 

@@ -17,7 +17,7 @@ use crate::sizes::TABLE_ROOM;
 use crate::text;
 use compiler::Compiled;
 use pattern::refusal;
-use table::Summary;
+use table::Sizes;
 use table::Tested;
 
 // Where the first tab stands, the length if there is none.
@@ -37,7 +37,7 @@ fn tab_at(line: &[u8]) -> usize
 // A label under a table that was tested.
 fn put_match(
     table: &[u8],
-    sizes: Summary,
+    sizes: Sizes,
     label: &[u8],
     scratch: &mut [u8],
     out: &mut [u8],

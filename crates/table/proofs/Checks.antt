@@ -14,13 +14,13 @@ use Rattle.pattern.specs.Syntax.{pattern, Syntax, size, top-size}
 use Rattle.pattern.specs.Table.{pool}
 use Rattle.pattern.specs.Print.{print}
 use Rattle.pattern.specs.Decode.{decode}
-use Rattle.table.specs.Opening.{pick, header-of, headed, opened-of}
+use Rattle.table.specs.Headers.{pick, header-of, headed, read-header}
 use Rattle.table.specs.Checked.{after, only-if, read-pattern, read, walk}
 use Rattle.table.specs.Walk.{place, Ready, PatternWalked, tested}
 use Rattle.table.specs.declared.Tested.the-variants as verdict
-use Rattle.table.specs.declared.opening.Header.{Header}
-use Rattle.table.specs.declared.opening.Opened.{Opened}
-use Rattle.table.specs.declared.opening.Opened.the-variants as opened
+use Rattle.table.specs.declared.header.Header.{Header}
+use Rattle.table.specs.declared.header.HeaderRead.{HeaderRead}
+use Rattle.table.specs.declared.header.HeaderRead.the-variants as head
 use Rattle.table.specs.declared.walk.Place.{Place}
 use Rattle.table.specs.declared.walk.Walked.{Walked}
 use Rattle.table.specs.declared.walk.Walked.the-variants as walked
@@ -29,19 +29,19 @@ use Rattle.table.proofs.Whole.{opens, walk-is-decode}
 use Rattle.table.proofs.Steps.{walked-some, walked-none}
 
 -- what reading the header said
-head-is : (s : Bytes) (h : Header) → opened.Table h ≡ opened-of s → (headed s ≡ true) × (h ≡ header-of s)
-unfolding opened-of pick
+head-is : (s : Bytes) (h : Header) → head.Is h ≡ read-header s → (headed s ≡ true) × (h ≡ header-of s)
+unfolding read-header pick
 head-is s h e = go (headed s) e
   where
-    go : (b : Bool) → opened.Table h ≡ pick b (opened.Table (header-of s)) opened.Bad → (b ≡ true) × (h ≡ header-of s)
+    go : (b : Bool) → head.Is h ≡ pick b (head.Is (header-of s)) head.Bad → (b ≡ true) × (h ≡ header-of s)
     go true e = (refl, cc)
     go false e = let z : _≡_ {A = ℕ} 0 1 = cc in absurd (omega arith)
 
-head-not : (s : Bytes) → opened.Bad ≡ opened-of s → headed s ≡ false
-unfolding opened-of pick
+head-not : (s : Bytes) → head.Bad ≡ read-header s → headed s ≡ false
+unfolding read-header pick
 head-not s e = go (headed s) e
   where
-    go : (b : Bool) → opened.Bad ≡ pick b (opened.Table (header-of s)) opened.Bad → b ≡ false
+    go : (b : Bool) → head.Bad ≡ pick b (head.Is (header-of s)) head.Bad → b ≡ false
     go true e = let z : _≡_ {A = ℕ} 0 1 = cc in absurd (omega arith)
     go false e = refl
 
@@ -55,7 +55,7 @@ body s h = take (length s - h .records) (drop (h .records) s)
 -- bytes whose header was read
 pub record HeadRead (s : Bytes) (h : Header) : Type 0 where
   pub bytes : (k : ℕ) → getD s k 0 < 256
-  pub head : opened.Table h ≡ opened-of s
+  pub head : head.Is h ≡ read-header s
 
 -- and whose records were walked
 pub record BodyRead (s : Bytes) (h : Header) (x : Walked) : Type 0 where
@@ -69,7 +69,7 @@ module _ (s : Bytes) (bytes : (k : ℕ) → getD s k 0 < 256) where
   unfolding walk tested
   unread e = sym (ap tested (sym (walk-is-decode s bytes) ∙ stopped _ _ e))
 
-  pub bad-head : {x : Opened} → x ≡ opened-of s → x ≡ opened.Bad → verdict.Bad ≡ tested (decode s)
+  pub bad-head : {x : HeaderRead} → x ≡ read-header s → x ≡ head.Bad → verdict.Bad ≡ tested (decode s)
   unfolding read
   bad-head e z = unread (dropped _ _ (head-not s (sym z ∙ e)))
 

@@ -15,7 +15,7 @@ use Rattle.pattern.specs.Codes.{all-codes}
 use Rattle.pattern.specs.Syntax.{body, Syntax, size}
 use Rattle.pattern.specs.Table.{pool}
 use Rattle.pattern.specs.Print.{print-set, double, print}
-use Rattle.table.specs.Opening.{pick}
+use Rattle.table.specs.Headers.{pick}
 use Rattle.table.specs.Checked.{plain, a-set, codes-leaf, text-leaf, leaf as leaf-read}
 use Rattle.table.specs.Leaves.{text-of, leaf-of}
 use Rattle.table.specs.declared.lengths.Text.the-variants as texts

@@ -16,11 +16,11 @@ use Rattle.pattern.specs.Print.{decimal-of, decimal, print-low, print-count, pr
 use Rattle.pattern.specs.Decode.{high-of}
 use Rattle.pattern.proofs.Tests.{and-both, all, all-at}
 use Rattle.pattern.proofs.Decimal.{one-digit, more-digits}
-use Rattle.table.specs.Opening.{pick, opening, header-of, headed, opened-of}
+use Rattle.table.specs.Headers.{pick, first-bytes, header-of, headed, read-header}
 use Rattle.table.specs.Checked.{plain}
 use Rattle.table.specs.Leaves.{text-of}
-use Rattle.table.specs.declared.opening.Opened.{Opened}
-use Rattle.table.specs.declared.opening.Opened.the-variants as opened
+use Rattle.table.specs.declared.header.HeaderRead.{HeaderRead}
+use Rattle.table.specs.declared.header.HeaderRead.the-variants as head
 use Rattle.table.specs.declared.lengths.Text.the-variants as texts
 use Rattle.table.proofs.Sources.{count-open, count-two, quote-here, plain-here, double-end}
 
@@ -111,24 +111,24 @@ whole k e = omega arith
 
 module _ (t : Bytes) (i : ℕ) (long : atoms-place ≤ length t) where
   abbrev Marked : ℕ → Type 0
-  Marked k = same (take atoms-place t) opening ≡ same (drop k (take atoms-place t)) (drop k opening)
+  Marked k = same (take atoms-place t) first-bytes ≡ same (drop k (take atoms-place t)) (drop k first-bytes)
 
-  mark-step : i < atoms-place → same (drop i (take atoms-place t)) (drop i opening) ≡ eqb (getD t i 0) (getD opening i 0) && same (drop (i + 1) (take atoms-place t)) (drop (i + 1) opening)
+  mark-step : i < atoms-place → same (drop i (take atoms-place t)) (drop i first-bytes) ≡ eqb (getD t i 0) (getD first-bytes i 0) && same (drop (i + 1) (take atoms-place t)) (drop (i + 1) first-bytes)
   mark-step h =
-      same-step (take atoms-place t) opening i (i + 1) refl (omega (arith, length-take-le atoms-place t long)) h
-      ∙ ap (λ x. eqb x (getD opening i 0) && same (drop (i + 1) (take atoms-place t)) (drop (i + 1) opening)) (getD-take atoms-place t i 0 h)
+      same-step (take atoms-place t) first-bytes i (i + 1) refl (omega (arith, length-take-le atoms-place t long)) h
+      ∙ ap (λ x. eqb x (getD first-bytes i 0) && same (drop (i + 1) (take atoms-place t)) (drop (i + 1) first-bytes)) (getD-take atoms-place t i 0 h)
 
-  pub mark-off : i < atoms-place → Marked i → (getD t i 0 ≡ getD opening i 0 → ⊥) → false ≡ same (take atoms-place t) opening
-  mark-off h e n = sym (e ∙ mark-step h ∙ ap (λ b. b && same (drop (i + 1) (take atoms-place t)) (drop (i + 1) opening)) (ne-eqb _ _ n))
+  pub mark-off : i < atoms-place → Marked i → (getD t i 0 ≡ getD first-bytes i 0 → ⊥) → false ≡ same (take atoms-place t) first-bytes
+  mark-off h e n = sym (e ∙ mark-step h ∙ ap (λ b. b && same (drop (i + 1) (take atoms-place t)) (drop (i + 1) first-bytes)) (ne-eqb _ _ n))
 
-  pub mark-on : i < atoms-place → Marked i → getD t i 0 ≡ getD opening i 0 → Marked (i + 1)
-  mark-on h e n = e ∙ mark-step h ∙ ap (λ b. b && same (drop (i + 1) (take atoms-place t)) (drop (i + 1) opening)) (eq-eqb _ _ n)
+  pub mark-on : i < atoms-place → Marked i → getD t i 0 ≡ getD first-bytes i 0 → Marked (i + 1)
+  mark-on h e n = e ∙ mark-step h ∙ ap (λ b. b && same (drop (i + 1) (take atoms-place t)) (drop (i + 1) first-bytes)) (eq-eqb _ _ n)
 
-  pub mark-end : i ≤ atoms-place → atoms-place ≤ i → Marked i → true ≡ same (take atoms-place t) opening
+  pub mark-end : i ≤ atoms-place → atoms-place ≤ i → Marked i → true ≡ same (take atoms-place t) first-bytes
   unfolding same
   mark-end h k e =
       let n : i ≡ atoms-place = omega arith in
-      sym (e ∙ ap (λ j. same (drop j (take atoms-place t)) (drop j opening)) n ∙ ap (λ l. same l []) (drop-of-length-le (take atoms-place t) (whole atoms-place (length-take-le atoms-place t long))))
+      sym (e ∙ ap (λ j. same (drop j (take atoms-place t)) (drop j first-bytes)) n ∙ ap (λ l. same l []) (drop-of-length-le (take atoms-place t) (whole atoms-place (length-take-le atoms-place t long))))
 
 -- ---- a literal, byte by byte
 
@@ -164,25 +164,25 @@ module _ (v : Bytes) (i : ℕ) where
 -- ---- a header
 
 module _ (s : Bytes) where
-  abbrev Heads : Bool → Bool → Bool → Opened
-  Heads a b c = pick ((a && b) && c) (opened.Table (header-of s)) opened.Bad
+  abbrev Heads : Bool → Bool → Bool → HeaderRead
+  Heads a b c = pick ((a && b) && c) (head.Is (header-of s)) head.Bad
 
-  heads : (a b c : Bool) → leb header-size (length s) ≡ a → same (take atoms-place s) opening ≡ b → eqb (length s) (header-of s .pool + header-of s .length) ≡ c → opened-of s ≡ Heads a b c
-  unfolding opened-of headed
+  heads : (a b c : Bool) → leb header-size (length s) ≡ a → same (take atoms-place s) first-bytes ≡ b → eqb (length s) (header-of s .pool + header-of s .length) ≡ c → read-header s ≡ Heads a b c
+  unfolding read-header headed
   heads a b c e f g = ap₂ (λ x y. Heads x y (eqb (length s) (header-of s .pool + header-of s .length))) e f ∙ ap (λ z. Heads a b z) g
 
-  pub head-short : length s < header-size → opened.Bad ≡ opened-of s
+  pub head-short : length s < header-size → head.Bad ≡ read-header s
   unfolding pick
-  head-short h = sym (heads false (same (take atoms-place s) opening) _ (lt-leb _ _ h) refl refl)
+  head-short h = sym (heads false (same (take atoms-place s) first-bytes) _ (lt-leb _ _ h) refl refl)
 
-  pub head-off : header-size ≤ length s → same (take atoms-place s) opening ≡ false → opened.Bad ≡ opened-of s
+  pub head-off : header-size ≤ length s → same (take atoms-place s) first-bytes ≡ false → head.Bad ≡ read-header s
   unfolding pick
   head-off h e = sym (heads true false _ (le-leb _ _ h) e refl)
 
-  pub head-wrong : header-size ≤ length s → same (take atoms-place s) opening ≡ true → (length s ≡ header-of s .pool + header-of s .length → ⊥) → opened.Bad ≡ opened-of s
+  pub head-wrong : header-size ≤ length s → same (take atoms-place s) first-bytes ≡ true → (length s ≡ header-of s .pool + header-of s .length → ⊥) → head.Bad ≡ read-header s
   unfolding pick
   head-wrong h e n = sym (heads true true false (le-leb _ _ h) e (ne-eqb _ _ n))
 
-  pub head-right : header-size ≤ length s → same (take atoms-place s) opening ≡ true → length s ≡ header-of s .pool + header-of s .length → opened.Table (header-of s) ≡ opened-of s
+  pub head-right : header-size ≤ length s → same (take atoms-place s) first-bytes ≡ true → length s ≡ header-of s .pool + header-of s .length → head.Is (header-of s) ≡ read-header s
   unfolding pick
   head-right h e n = sym (heads true true true (le-leb _ _ h) e (eq-eqb _ _ n))

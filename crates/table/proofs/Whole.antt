@@ -23,7 +23,7 @@ use Rattle.pattern.proofs.Accepted.{accepted-exactly}
 use Rattle.pattern.proofs.Records.{length-flat, count-records, next-there}
 use Rattle.pattern.proofs.RoundTrip.{encode-length, good-exactly}
 use Rattle.pattern.proofs.Calls.{print-accepted}
-use Rattle.table.specs.Opening.{opening, header-of, headed}
+use Rattle.table.specs.Headers.{first-bytes, header-of, headed}
 use Rattle.table.specs.Checked.{after, only-if, read-pattern, read, walk}
 use Rattle.table.specs.Standing.{Clean, Set}
 use Rattle.table.proofs.Options.{inside, after-some, only-some, kept, dropped, going-on, and-true, true-and}
@@ -36,15 +36,15 @@ use Rattle.table.proofs.Complete.{found}
 
 pub record Opens (s : Bytes) : Type 0 where
   pub long : header-size ≤ length s
-  pub marked : take atoms-place s ≡ opening
+  pub marked : take atoms-place s ≡ first-bytes
   pub whole : length s ≡ header-of s .pool + header-of s .length
 
 pub opens : (s : Bytes) → headed s ≡ true → Opens s
 unfolding headed
 opens s e =
-    let (x, c) = and-true (leb header-size (length s) && same (take atoms-place s) opening) _ e in
-    let (a, b) = and-true (leb header-size (length s)) (same (take atoms-place s) opening) x in
-    record { long = leb-true _ _ a; marked = same-decides (take atoms-place s) opening .sound (true-T _ b); whole = eqb-true _ _ c }
+    let (x, c) = and-true (leb header-size (length s) && same (take atoms-place s) first-bytes) _ e in
+    let (a, b) = and-true (leb header-size (length s)) (same (take atoms-place s) first-bytes) x in
+    record { long = leb-true _ _ a; marked = same-decides (take atoms-place s) first-bytes .sound (true-T _ b); whole = eqb-true _ _ c }
 
 -- ---- a tree that is read has these bytes as its table, and is good
 
@@ -61,7 +61,7 @@ module _ (s : Bytes) (bytes : (k : ℕ) → getD s k 0 < 256) where
   unfolding header
   open-table o =
       sym (take-append-drop atoms-place s) ∙ ap (λ x. x ++ drop atoms-place s) (o .marked)
-      ∙ ap (λ x. opening ++ x) (step s atoms-place length-place (omega arith) (omega (arith, o .long)) (pair s bytes length-place header-size (omega arith) (o .long) refl))
+      ∙ ap (λ x. first-bytes ++ x) (step s atoms-place length-place (omega arith) (omega (arith, o .long)) (pair s bytes length-place header-size (omega arith) (o .long) refl))
 
   read-whole : (t : Syntax pattern) → read s ≡ some t → Whole s t
   unfolding read encode
@@ -103,7 +103,7 @@ module _ (t : Syntax pattern) where
   unfolding encode header
   atoms-there = refl
 
-  marked-there : same (take atoms-place (encode t)) opening ≡ true
+  marked-there : same (take atoms-place (encode t)) first-bytes ≡ true
   unfolding encode header same
   marked-there = refl
 

@@ -11,7 +11,7 @@ use Rattle.pattern.specs.Syntax.{pattern, atom, body, branches, Syntax, last, t
 use Rattle.pattern.specs.Print.{print}
 use Rattle.pattern.specs.Table.{pool, Rec}
 use Rattle.pattern.specs.Decode.{rec-at, high-of}
-use Rattle.table.specs.Opening.{header-of, headed}
+use Rattle.table.specs.Headers.{header-of, headed}
 
 -- ---- tests one after the other
 

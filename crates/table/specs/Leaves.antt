@@ -8,7 +8,7 @@ use Rattle.pattern.specs.Bytes.{Bytes}
 use Rattle.pattern.specs.Syntax.{body, Syntax}
 use Rattle.pattern.specs.Table.{pool}
 use Rattle.pattern.specs.Print.{double, print}
-use Rattle.table.specs.Opening.{pick}
+use Rattle.table.specs.Headers.{pick}
 use Rattle.table.specs.Checked.{plain}
 use Rattle.table.specs.declared.lengths.Text.{Text}
 use Rattle.table.specs.declared.lengths.Text.the-variants as texts

@@ -1,5 +1,5 @@
 pub mod Fields
-pub mod Opening
+pub mod Headers
 pub mod Checked
 pub mod Standing
 pub mod Leaves

@@ -1,10 +1,12 @@
 // Tables: the fields of a record, the header, and the test whether bytes are a good table.
+pub mod header;
 mod lengths;
-pub mod opening;
 mod walk;
 
-use opening::Opened;
+use header::HeaderRead;
 use pattern::limits::ATOM_LIMIT;
+use pattern::limits::HEADER_SIZE;
+use pattern::limits::RECORD_SIZE;
 use pattern::limits::SOURCE_LIMIT;
 use walk::Place;
 use walk::Walked;
@@ -12,8 +14,8 @@ ghost use mathlib.Core.Path.{_≡_};
 ghost use Prim.Native.Nat.{_+_, _≤_, _<_};
 ghost use lib.ListN.{length};
 ghost use Rattle.pattern.specs.Numbers.{record-size};
-ghost use Rattle.pattern.specs.Decode.{field, rec-at, decode};
-ghost use Rattle.table.specs.Fields.{record-of};
+ghost use Rattle.pattern.specs.Decode.{field, rec-at, layout, its, decode};
+ghost use Rattle.table.specs.Fields.{record-of, RecordIn};
 ghost use Rattle.table.specs.Walk.{tested};
 
 // What a record says.
@@ -27,7 +29,7 @@ pub struct Record {
 }
 
 // A good table: its atoms, how many of them stand in no group, and the bytes of its shortest source.
-pub struct Summary {
+pub struct Sizes {
     pub atoms: usize,
     pub top: usize,
     pub source: usize,
@@ -35,7 +37,7 @@ pub struct Summary {
 
 pub enum Tested {
     Bad,
-    Good(Summary),
+    Good(Sizes),
 }
 
 fn wide(x: u8) -> u16
@@ -67,12 +69,20 @@ pub fn fields(table: &[u8], at: usize) -> Record
     }
 }
 
+// The record of atom i.
+pub fn record_at(table: &[u8], i: usize) -> Record
+    requires { ⌜ RecordIn (now table) i ⌝ }
+    ensures { λ r. ⌜ r ≡ record-of (its (now (table .entry)) (layout (now (table .entry))) i) ⌝ }
+{
+    fields(table, HEADER_SIZE + RECORD_SIZE * i)
+}
+
 // Whether bytes are a good table, and what of: one walk over the records.
 pub fn test(table: &[u8]) -> Tested
     ensures { λ r. ⌜ r ≡ tested (decode (now (table .entry))) ⌝ }
 {
-    match opening::head_of(table) {
-        Opened::Table(h) => {
+    match header::read_header(table) {
+        HeaderRead::Is(h) => {
             let atoms = h.atoms;
             let records = h.records;
             if ATOM_LIMIT < atoms {
@@ -94,7 +104,7 @@ pub fn test(table: &[u8]) -> Tested
                     if SOURCE_LIMIT < end.source {
                         return Tested::Bad;
                     }
-                    Tested::Good(Summary {
+                    Tested::Good(Sizes {
                         atoms,
                         top,
                         source: end.source,
@@ -103,6 +113,6 @@ pub fn test(table: &[u8]) -> Tested
                 Walked::Bad => Tested::Bad,
             }
         }
-        Opened::Bad => Tested::Bad,
+        HeaderRead::Bad => Tested::Bad,
     }
 }

@@ -7,13 +7,13 @@ use Rattle.table.proofs.test.Tie as tie
 
 -- what is known where the header is there, and where its records were walked
 head-read : (c : tie.After-known-told) → HeadRead (c .before .before .before .before .before .args .table .now) (c .before .h .given .0 .0)
-head-read c = record { bytes = λ k. c .before .before .before .before .shared-slice-known .given k .fits; head = sym (c .before .h .given .1) ∙ c .before .before .before .head-of .ensures }
+head-read c = record { bytes = λ k. c .before .before .before .before .shared-slice-known .given k .fits; head = sym (c .before .h .given .1) ∙ c .before .before .before .read-header .ensures }
 
 body-read : (c : tie.After-pattern) → BodyRead (c .before .before .before .before .before .before .before .before .args .table .now) (c .before .before .before .before .h .given .0 .0) (c .pattern .result)
 body-read c = record { read-head = head-read (c .before .before .before); few = c .before .before .if1 .left; walks = c .pattern .ensures }
 
-head-of-requires : tie.Need-head-of-requires
-head-of-requires c κs = search needs
+read-header-requires : tie.Need-read-header-requires
+read-header-requires c κs = search needs
 
 enum-known-h : tie.Need-enum-known-h
 enum-known-h c = search needs
@@ -70,13 +70,13 @@ returns-6 : tie.Need-returns-6
 returns-6 c = bad-walk (body-read (c .before .before)) (c .enum-told .given .1)
 
 returns-7 : tie.Need-returns-7
-returns-7 c = bad-head (c .before .before .before .before .args .table .now) (λ k. c .before .before .before .shared-slice-known .given k .fits) (c .before .before .head-of .ensures) (c .enum-told2 .given .1)
+returns-7 c = bad-head (c .before .before .before .before .args .table .now) (λ k. c .before .before .before .shared-slice-known .given k .fits) (c .before .before .read-header .ensures) (c .enum-told2 .given .1)
 
 pub test-spec : {M : Type 1} → statement M
 test-spec =
     tie.close
     (tie.spec
-    head-of-requires
+    read-header-requires
     enum-known-h
     returns
     sub-pattern

@@ -7,7 +7,7 @@ use Rattle.matcher.proofs.atom.follow.Statement.{statement}
 use Rattle.matcher.proofs.atom.follow.Tie as tie
 
 record-at-requires : tie.Need-record-at-requires
-record-at-requires c κs = (c .before .before .before .pre .1 .work .good, c .before .before .before .pre .1 .there)
+record-at-requires c κs = record { good = c .before .before .before .pre .1 .work .good; there = c .before .before .before .pre .1 .there }
 
 mul-blank : tie.Need-mul-blank
 mul-blank c = omega (arith, follow-few _ _ _ _ _ (c .before .before .before .before .before .before .before .pre .1))
@@ -44,10 +44,10 @@ returns c =
     let start = after-record-at .before .before .before .before in
     follow-last _ _ _ _ _ (start .pre .1) _ (after-blank .blank .kept .0) (after-blank .blank .ensures) _ (after-record-at .record-at .ensures) _ _ (start .pre .0) (after-if1 .if1 .taken) _ (c .before .before .add .ensures)
 
-after-requires : tie.Need-after-requires
-after-requires c κs =
+next-atom-requires : tie.Need-next-atom-requires
+next-atom-requires c κs =
     let start = c .before .before .before .before .before .before in
-    (start .pre .1 .work .good, start .pre .1 .there)
+    record { good = start .pre .1 .work .good; there = start .pre .1 .there }
 
 mul-join : tie.Need-mul-join
 mul-join c = omega (arith, follow-few _ _ _ _ _ (c .before .before .before .before .before .before .before .before .pre .1))
@@ -56,13 +56,13 @@ mul-join-2 : tie.Need-mul-join-2
 mul-join-2 c =
     let after-record-at = c .before .before .before .before in
     let start = after-record-at .before .before .before .before in
-    omega (arith, work-few (start .pre .1 .work), follow-next _ _ _ _ _ (start .pre .1) _ (after-record-at .record-at .ensures) (c .before .before .if1 .left) _ (c .before .after .ensures))
+    omega (arith, work-few (start .pre .1 .work), follow-next _ _ _ _ _ (start .pre .1) _ (after-record-at .record-at .ensures) (c .before .before .if1 .left) _ (c .before .next-atom .ensures))
 
 add-join : tie.Need-add-join
 add-join c =
     let after-record-at = c .before .before .before .before in
     let start = after-record-at .before .before .before .before in
-    omega (arith, work-few (start .pre .1 .work), follow-next _ _ _ _ _ (start .pre .1) _ (after-record-at .record-at .ensures) (c .before .before .if1 .left) _ (c .before .after .ensures))
+    omega (arith, work-few (start .pre .1 .work), follow-next _ _ _ _ _ (start .pre .1) _ (after-record-at .record-at .ensures) (c .before .before .if1 .left) _ (c .before .next-atom .ensures))
 
 mul-join-3 : tie.Need-mul-join-3
 mul-join-3 c = omega (arith, follow-few _ _ _ _ _ (c .before .before .before .before .before .before .before .before .pre .1))
@@ -74,20 +74,20 @@ join-requires : tie.Need-join-requires
 join-requires c κs =
     let after-record-at = c .before .before .before .before in
     let start = after-record-at .before .before .before .before in
-    (start .pre .0, follow-ready _ _ _ _ _ (start .pre .1) _ (after-record-at .record-at .ensures) (c .before .before .if1 .left) _ (c .before .after .ensures))
+    (start .pre .0, follow-ready _ _ _ _ _ (start .pre .1) _ (after-record-at .record-at .ensures) (c .before .before .if1 .left) _ (c .before .next-atom .ensures))
 
 same-length-2 : tie.Need-same-length-2
 same-length-2 c = c .before .before .join .kept .0
 
 returns-2 : tie.Need-returns-2
 returns-2 c =
-    let after-after = c .before .before .before .before in
-    let after-if1 = after-after .before in
+    let after-next-atom = c .before .before .before .before in
+    let after-if1 = after-next-atom .before in
     let after-record-at = after-if1 .before .before in
     let start = after-record-at .before .before .before .before in
-    follow-then _ _ _ _ _ (start .pre .1) _ (after-record-at .record-at .ensures) (after-if1 .if1 .left) _ (after-after .after .ensures) _ _ _ _ (c .before .before .join .ensures)
+    follow-then _ _ _ _ _ (start .pre .1) _ (after-record-at .record-at .ensures) (after-if1 .if1 .left) _ (after-next-atom .next-atom .ensures) _ _ _ _ (c .before .before .join .ensures)
 
 pub follow-spec : {M : Type 1} → statement M
 follow-spec =
     tie.close
-    (tie.spec record-at-requires mul-blank add-blank blank-requires mul-add mul-add-2 add-add add-requires same-length returns after-requires mul-join mul-join-2 add-join mul-join-3 add-join-2 join-requires same-length-2 returns-2)
+    (tie.spec record-at-requires mul-blank add-blank blank-requires mul-add mul-add-2 add-add add-requires same-length returns next-atom-requires mul-join mul-join-2 add-join mul-join-3 add-join-2 join-requires same-length-2 returns-2)

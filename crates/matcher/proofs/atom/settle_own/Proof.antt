@@ -16,7 +16,7 @@ begin-requires c κs = c .before .before .before .before .pre .1
 record-at-requires : tie.Need-record-at-requires
 record-at-requires c κs =
     let start = c .before .before .before .before .before .before .before in
-    (start .pre .1 .work .good, start .pre .1 .there)
+    record { good = start .pre .1 .work .good; there = start .pre .1 .there }
 
 cast-low : tie.Need-cast-low
 cast-low c = search needs

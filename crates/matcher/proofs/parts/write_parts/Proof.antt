@@ -4,7 +4,7 @@ use Prim.Native.Nat.{_-_}
 use native.Mathlib.Omega.{arith}
 use Rattle.pattern.proofs.RoundTrip.{some-atom}
 use denote.Ref.{now}
-use Rattle.matcher.specs.Atoms.{atoms, node, head}
+use Rattle.atoms.specs.Atoms.{atoms, node, head}
 use Rattle.matcher.proofs.Groups.{work-few}
 use Rattle.matcher.proofs.Ends.{PartsAt, parts-start, parts-room, parts-end, parts-next, parts-left, parts-right, parts-in, parts-step}
 use Rattle.matcher.proofs.parts.write_parts.Statement.{statement}
@@ -20,7 +20,7 @@ loop-holds : tie.Need-loop-holds Inv-loop μ-loop
 loop-holds c = parts-start _ _ _ _ _ (c .before .before .before .before .pre)
 
 record-at-requires : tie.Need-record-at-requires Inv-loop μ-loop
-record-at-requires c κs = (c .before .before .before .before .before .pre .work .good, c .loop .inv .there)
+record-at-requires c κs = record { good = c .before .before .before .before .before .pre .work .good; there = c .loop .inv .there }
 
 put-requires : tie.Need-put-requires Inv-loop μ-loop
 put-requires c κs =
@@ -39,8 +39,8 @@ returns c =
     let start = turn .before .before .before .before .before in
     parts-end _ _ _ _ _ (start .pre) _ _ _ _ (turn .loop .inv) _ (after-record-at .record-at .ensures) (after-if1 .if1 .taken) _ (c .before .before .put .ensures)
 
-after-requires : tie.Need-after-requires Inv-loop μ-loop
-after-requires c κs = (c .before .before .before .before .before .before .before .before .pre .work .good, c .before .before .before .loop .inv .there)
+next-atom-requires : tie.Need-next-atom-requires Inv-loop μ-loop
+next-atom-requires c κs = record { good = c .before .before .before .before .before .before .before .before .pre .work .good; there = c .before .before .before .loop .inv .there }
 
 mul-last-end : tie.Need-mul-last-end Inv-loop μ-loop
 mul-last-end c = omega (arith, work-few (c .before .before .before .before .before .before .before .before .before .pre .work), c .before .before .before .before .loop .inv .there)
@@ -50,14 +50,14 @@ mul-last-end-2 c =
     let after-record-at = c .before .before .before in
     let turn = after-record-at .before in
     let start = turn .before .before .before .before .before in
-    omega (arith, work-few (start .pre .work), parts-next _ _ _ _ _ (start .pre) _ _ _ _ (turn .loop .inv) _ (after-record-at .record-at .ensures) (c .before .if1 .left) _ (c .after .ensures))
+    omega (arith, work-few (start .pre .work), parts-next _ _ _ _ _ (start .pre) _ _ _ _ (turn .loop .inv) _ (after-record-at .record-at .ensures) (c .before .if1 .left) _ (c .next-atom .ensures))
 
 add-last-end : tie.Need-add-last-end Inv-loop μ-loop
 add-last-end c =
     let after-record-at = c .before .before .before in
     let turn = after-record-at .before in
     let start = turn .before .before .before .before .before in
-    omega (arith, work-few (start .pre .work), parts-next _ _ _ _ _ (start .pre) _ _ _ _ (turn .loop .inv) _ (after-record-at .record-at .ensures) (c .before .if1 .left) _ (c .after .ensures))
+    omega (arith, work-few (start .pre .work), parts-next _ _ _ _ _ (start .pre) _ _ _ _ (turn .loop .inv) _ (after-record-at .record-at .ensures) (c .before .if1 .left) _ (c .next-atom .ensures))
 
 last-end-requires : tie.Need-last-end-requires Inv-loop μ-loop
 last-end-requires c κs =
@@ -70,8 +70,8 @@ last-end-requires c κs =
       (
         omega (arith, p .work .wide),
         (
-          parts-left _ _ _ _ _ p _ _ _ _ (l .inv) _ (after-record-at .record-at .ensures) (c .before .if1 .left) _ (c .after .ensures),
-          parts-right _ _ _ _ _ p _ _ _ _ (l .inv) _ (after-record-at .record-at .ensures) (c .before .if1 .left) _ (c .after .ensures),
+          parts-left _ _ _ _ _ p _ _ _ _ (l .inv) _ (after-record-at .record-at .ensures) (c .before .if1 .left) _ (c .next-atom .ensures),
+          parts-right _ _ _ _ _ p _ _ _ _ (l .inv) _ (after-record-at .record-at .ensures) (c .before .if1 .left) _ (c .next-atom .ensures),
         ),
       ),
     )
@@ -85,7 +85,7 @@ put-requires-2 c κs =
     let p = start .pre in
     let l = turn .loop in (
       parts-room _ _ _ _ _ p _ _ _ _ (l .inv),
-      omega (arith, p .work .short, parts-in _ _ _ _ _ p _ _ _ _ (l .inv) _ (after-record-at .record-at .ensures) (after-if1 .if1 .left) _ (c .before .before .after .ensures) _ (c .before .last-end .ensures)),
+      omega (arith, p .work .short, parts-in _ _ _ _ _ p _ _ _ _ (l .inv) _ (after-record-at .record-at .ensures) (after-if1 .if1 .left) _ (c .before .before .next-atom .ensures) _ (c .before .last-end .ensures)),
     )
 
 add-at : tie.Need-add-at Inv-loop μ-loop
@@ -96,25 +96,25 @@ add-at c =
 
 loop-less : tie.Need-loop-less Inv-loop μ-loop
 loop-less c =
-    let after-after = c .before .before .before .before .before in
-    let after-if1 = after-after .before in
+    let after-next-atom = c .before .before .before .before .before in
+    let after-if1 = after-next-atom .before in
     let after-record-at = after-if1 .before .before in
     let turn = after-record-at .before in
     let start = turn .before .before .before .before .before in
-    let n = parts-next _ _ _ _ _ (start .pre) _ _ _ _ (turn .loop .inv) _ (after-record-at .record-at .ensures) (after-if1 .if1 .left) _ (after-after .after .ensures) in
-    omega (arith, n, after-after .after .ensures, some-atom (head (node (now (start .args .table)) (turn .loop .x))))
+    let n = parts-next _ _ _ _ _ (start .pre) _ _ _ _ (turn .loop .inv) _ (after-record-at .record-at .ensures) (after-if1 .if1 .left) _ (after-next-atom .next-atom .ensures) in
+    omega (arith, n, after-next-atom .next-atom .ensures, some-atom (head (node (now (start .args .table)) (turn .loop .x))))
 
 loop-again : tie.Need-loop-again Inv-loop μ-loop
 loop-again c =
     let after-last-end = c .before .before .before .before in
-    let after-after = after-last-end .before in
-    let after-if1 = after-after .before in
+    let after-next-atom = after-last-end .before in
+    let after-if1 = after-next-atom .before in
     let after-record-at = after-if1 .before .before in
     let turn = after-record-at .before in
     let start = turn .before .before .before .before .before in
-    parts-step _ _ _ _ _ (start .pre) _ _ _ _ (turn .loop .inv) _ (after-record-at .record-at .ensures) (after-if1 .if1 .left) _ (after-after .after .ensures) _ (after-last-end .last-end .ensures) _ (c .before .before .put2 .ensures)
+    parts-step _ _ _ _ _ (start .pre) _ _ _ _ (turn .loop .inv) _ (after-record-at .record-at .ensures) (after-if1 .if1 .left) _ (after-next-atom .next-atom .ensures) _ (after-last-end .last-end .ensures) _ (c .before .before .put2 .ensures)
 
 pub write-parts-spec : {M : Type 1} → statement M
 write-parts-spec =
     tie.close
-    (tie.spec Inv-loop μ-loop loop-holds record-at-requires put-requires same-length returns after-requires mul-last-end mul-last-end-2 add-last-end last-end-requires put-requires-2 add-at loop-less loop-again)
+    (tie.spec Inv-loop μ-loop loop-holds record-at-requires put-requires same-length returns next-atom-requires mul-last-end mul-last-end-2 add-last-end last-end-requires put-requires-2 add-at loop-less loop-again)

@@ -7,17 +7,17 @@ use lib.ListN.{length, getD, take}
 use Rattle.pattern.specs.Numbers.{mark, version, atoms-place, length-place, header-size}
 use Rattle.pattern.specs.Bytes.{Bytes, word, same}
 use Rattle.pattern.specs.Decode.{field, layout}
-use Rattle.table.specs.declared.opening.Header.{Header}
-use Rattle.table.specs.declared.opening.Opened.{Opened}
-use Rattle.table.specs.declared.opening.Opened.the-variants as opened
+use Rattle.table.specs.declared.header.Header.{Header}
+use Rattle.table.specs.declared.header.HeaderRead.{HeaderRead}
+use Rattle.table.specs.declared.header.HeaderRead.the-variants as head
 
 unfoldable pub pick : {A : Type 0} → Bool → A → A → A
 pick true a b = a
 pick false a b = b
 
 -- the mark and the version, as every table begins
-abbrev pub opening : Bytes
-opening = mark ++ word version []
+abbrev pub first-bytes : Bytes
+first-bytes = mark ++ word version []
 
 -- what the header says: the number of atoms and of bytes of the pool, and where the records and the pool begin
 abbrev pub header-of : Bytes → Header
@@ -27,7 +27,7 @@ header-of s =
 -- the mark is there, and the length is what the header says
 unfoldable pub headed : Bytes → Bool
 headed s =
-    leb header-size (length s) && same (take atoms-place s) opening && eqb (length s) (header-of s .pool + header-of s .length)
+    leb header-size (length s) && same (take atoms-place s) first-bytes && eqb (length s) (header-of s .pool + header-of s .length)
 
-unfoldable pub opened-of : Bytes → Opened
-opened-of s = pick (headed s) (opened.Table (header-of s)) opened.Bad
+unfoldable pub read-header : Bytes → HeaderRead
+read-header s = pick (headed s) (head.Is (header-of s)) head.Bad

@@ -1,17 +1,17 @@
--- `opening::marked` meets its contract: the bytes passed are those of the mark. Assumes nothing.
+-- `header::marked` meets its contract: the bytes passed are those of the mark. Assumes nothing.
 use mathlib.Core.Path.{_≡_, refl}
 use Prim.Native.Nat.{_-_, _≤_}
 use native.Mathlib.Omega.{arith}
 use lib.ListN.{take, drop}
 use Rattle.pattern.specs.Numbers.{atoms-place}
 use Rattle.pattern.specs.Bytes.{same}
-use Rattle.table.specs.Opening.{opening}
+use Rattle.table.specs.Headers.{first-bytes}
 use Rattle.table.proofs.Measures.{mark-off, mark-on, mark-end}
-use Rattle.table.proofs.opening.marked.Statement.{statement}
-use Rattle.table.proofs.opening.marked.Tie as tie
+use Rattle.table.proofs.header.marked.Statement.{statement}
+use Rattle.table.proofs.header.marked.Tie as tie
 
 abbrev Inv-loop : tie.InvT-loop
-Inv-loop table i₀ i = (i ≤ atoms-place) × (same (take atoms-place table) opening ≡ same (drop i (take atoms-place table)) (drop i opening))
+Inv-loop table i₀ i = (i ≤ atoms-place) × (same (take atoms-place table) first-bytes ≡ same (drop i (take atoms-place table)) (drop i first-bytes))
 
 abbrev μ-loop : tie.MeasureT-loop
 μ-loop table i₀ i = atoms-place - i

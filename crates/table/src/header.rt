@@ -1,0 +1,71 @@
+// The header of a table.
+use pattern::limits::ATOMS_PLACE;
+use pattern::limits::HEADER_SIZE;
+use pattern::limits::LENGTH_PLACE;
+use pattern::limits::MARK;
+use pattern::limits::RECORD_SIZE;
+ghost use mathlib.Core.Path.{_≡_};
+ghost use Prim.Native.Nat.{_≤_};
+ghost use lib.ListN.{length, take};
+ghost use Rattle.pattern.specs.Numbers.{atoms-place, header-size};
+ghost use Rattle.pattern.specs.Bytes.{same};
+ghost use Rattle.table.specs.Headers.{first-bytes, header-of, read-header};
+
+// How many atoms and how many bytes of pool there are, and where the records and the pool begin.
+pub struct Header {
+    pub atoms: usize,
+    pub length: usize,
+    pub records: usize,
+    pub pool: usize,
+}
+
+pub enum HeaderRead {
+    Is(Header),
+    Bad,
+}
+
+// Whether a table begins with the mark and the version.
+fn marked(table: &[u8]) -> bool
+    requires { ⌜ atoms-place ≤ length (now table) ⌝ }
+    ensures { λ r. ⌜ r ≡ same (take atoms-place (now (table .entry))) first-bytes ⌝ }
+{
+    let mut i = 0;
+    while i < ATOMS_PLACE {
+        if table[i] != MARK[i] {
+            return false;
+        }
+        i += 1;
+    }
+    true
+}
+
+// What the header says, where there are bytes enough for one.
+pub fn header_at(table: &[u8]) -> Header
+    requires { ⌜ header-size ≤ length (now table) ⌝ }
+    ensures { λ r. ⌜ r ≡ header-of (now (table .entry)) ⌝ }
+{
+    let atoms = super::wide(table[ATOMS_PLACE]) as usize;
+    let length = super::word(table, LENGTH_PLACE) as usize;
+    Header {
+        atoms,
+        length,
+        records: HEADER_SIZE,
+        pool: HEADER_SIZE + RECORD_SIZE * atoms,
+    }
+}
+
+// The header, if the mark is there and the length is what the header says.
+pub fn read_header(table: &[u8]) -> HeaderRead
+    ensures { λ r. ⌜ r ≡ read-header (now (table .entry)) ⌝ }
+{
+    if table.len() < HEADER_SIZE {
+        return HeaderRead::Bad;
+    }
+    if marked(table) {
+        let h = header_at(table);
+        if table.len() == h.pool + h.length {
+            return HeaderRead::Is(h);
+        }
+    }
+    HeaderRead::Bad
+}
