@@ -21,6 +21,10 @@ pub stored-one : (l : Bytes) (i x : ℕ) → stored l i (x ∷ []) ≡ set l i x
 unfolding stored
 stored-one l i x = refl
 
+pub stored-two : (l : Bytes) (i x y : ℕ) → stored l i (x ∷ y ∷ []) ≡ set (set l i x) (i + 1) y
+unfolding stored
+stored-two l i x y = rw add-one
+
 -- a byte before others
 pub stored-first : (l : Bytes) (i x : ℕ) (v : Bytes) → stored l i (x ∷ v) ≡ stored (set l i x) (i + 1) v
 unfolding stored
