@@ -14,7 +14,7 @@ use parts::write_parts;
 use pattern::limits::LABEL_LIMIT;
 use pattern::refusal;
 use planes::cells::holds;
-use planes::clear::clear;
+use stores::clear;
 use table::Tested;
 
 // The answer to a match: a refusal by its name in the paper, or the verdict with the trials made.

@@ -4,9 +4,9 @@ use mathlib.Core.List.{List, [], _∷_}
 use mathlib.Core.Option.{Option, none, some}
 use Prim.Native.Nat.{ℕ, _+_, _*_}
 use lib.Dec.{leb, ltb}
-use lib.ListN.{length, replicate}
+use lib.ListN.{length}
 use Rattle.pattern.specs.Numbers.{label-limit, ROOM, TABLE, LABEL, WORK, PARTS, BUDGET}
-use Rattle.pattern.specs.Bytes.{Bytes, word, over}
+use Rattle.pattern.specs.Bytes.{Bytes, word, over, zeroed}
 use Rattle.pattern.specs.Syntax.{pattern, Syntax, size, top-size}
 use Rattle.pattern.specs.Parts.{verdict}
 use Rattle.pattern.specs.Trials.{trials}
@@ -71,7 +71,7 @@ work t n = (2 * size t + 4) * (n + 1) * (n + 1)
 
 -- scratch "after a verdict or BUDGET"
 unfoldable pub cleared : Syntax pattern → ℕ → Bytes → Bytes
-cleared t n scratch = over (replicate (work t n) 0) scratch
+cleared t n scratch = zeroed (work t n) scratch
 
 -- "the place where its stretch ends, 16 bits each"
 unfoldable pub part-bytes : List ℕ → Bytes

@@ -1,6 +1,5 @@
 pub mod Storing
 pub mod Parting
-pub mod Digits
 pub mod Views
 pub mod Walking
 pub mod Loops

@@ -1,3 +1,2 @@
-pub mod Digits
 pub mod Trees
 pub mod Outputs

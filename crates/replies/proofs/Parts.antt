@@ -9,7 +9,8 @@ use Rattle.pattern.specs.Numbers.{comma-byte}
 use Rattle.pattern.specs.Bytes.{Bytes}
 use Rattle.pattern.proofs.Tests.{if-true, if-false}
 use Rattle.replies.specs.Sizes.{unset}
-use Rattle.replies.specs.Text.{decimal, ends-in, listed}
+use Rattle.pattern.specs.Print.{decimal}
+use Rattle.replies.specs.Text.{ends-in, listed}
 use Rattle.pattern.specs.Stores.{Puts}
 use Rattle.replies.proofs.Firsts.{drop-one}
 use Rattle.pattern.proofs.Stores.{puts-then}

@@ -14,7 +14,8 @@ use Rattle.pattern.specs.Bytes.{Bytes, bytes}
 use Rattle.pattern.specs.Answers.{Answer, refusal, result, Output, compileOf, Matched, matchOf}
 use Rattle.pattern.proofs.Tests.{if-true, if-false}
 use Rattle.replies.specs.Sizes.{line-limit, budget, unset, tab-byte, space-byte, refused-letter, number-room, coded-room, refused-room}
-use Rattle.replies.specs.Text.{decimal, coded-text, refused-text, unmatched-text, matched-text}
+use Rattle.pattern.specs.Print.{decimal}
+use Rattle.replies.specs.Text.{coded-text, refused-text, unmatched-text, matched-text}
 use Rattle.replies.specs.Reply.{first, cut-at, cut, verdict-text, match-text, Reply, match-reply, label-reply, table-reply, source-reply, cut-reply, reply}
 use Rattle.pattern.specs.Stores.{Puts}
 use Rattle.replies.specs.Stores.{Within, Replied}
@@ -24,7 +25,7 @@ use Rattle.matcher.specs.Answered.{answer-of as numbers-of, outcome-of}
 use Rattle.compiler.specs.declared.Compiled as compiler
 use Rattle.compiler.specs.declared.Compiled.the-variants as outcome
 use Rattle.compiler.specs.Compiling.{answer-of}
-use Rattle.replies.proofs.Decimals.{decimal-short}
+use Rattle.pattern.proofs.Decimal.{decimal-short}
 use Rattle.pattern.proofs.Rooms.{compile-fits, compile-some}
 
 -- what is stored is another reply if the two are the same

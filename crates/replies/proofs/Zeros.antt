@@ -9,7 +9,7 @@ use lib.Dec.{eqb, ltb}
 use lib.ListN.{length, take, drop, replicate, length-replicate, take-append-drop, replicate-append-replicate}
 use borrow.Author.Tests.{ltb-false}
 use Rattle.pattern.specs.Numbers.{label-limit, LABEL, WORK, PARTS, table-room, parts-room}
-use Rattle.pattern.specs.Bytes.{Bytes, bytes, over}
+use Rattle.pattern.specs.Bytes.{Bytes, zeroed}
 use Rattle.pattern.specs.Syntax.{pattern, Syntax, top-size}
 use Rattle.pattern.specs.Parts.{verdict}
 use Rattle.pattern.specs.Scan.{refuse}
@@ -17,7 +17,7 @@ use Rattle.pattern.specs.Decode.{decode}
 use Rattle.pattern.specs.Answers.{work, cleared, lent-fault, judged, tried-if, tried, tried-unless, matched, matchOf, compileOf}
 use Rattle.replies.specs.Sizes.{line-limit, budget, unset}
 use Rattle.replies.specs.Reply.{cut, Reply, match-reply, label-reply, table-reply, source-reply, cut-reply, reply}
-use Rattle.replies.specs.Stores.{Zero, zeroed}
+use Rattle.replies.specs.Stores.{Zero}
 
 -- one of two, by a test
 pub either-same : {A : Type 0} (f : A → Bytes) (b : Bool) (x y : A) {s : Bytes} → f x ≡ s → f y ≡ s → f (elim b [ true ↦ x | false ↦ y ]) ≡ s
@@ -49,10 +49,8 @@ take-blank zero n h = refl
 take-blank (suc k) zero h = absurd (omega arith)
 take-blank (suc k) (suc n) h = ap (λ v. 0 ∷ v) (take-blank k n (omega arith))
 
-over-zero : (k : ℕ) (s : Bytes) → k ≤ length s → Zero s → over (blank k) s ≡ s
-unfolding over
-over-zero k s h z =
-    ap (λ n. blank k ++ drop n s) (length-replicate {A = ℕ} k 0) ∙ ap (λ v. v ++ drop k s) (sym (take-blank k (length s) h) ∙ ap (take k) (sym z)) ∙ take-append-drop k s
+zeroed-zero : (k : ℕ) (s : Bytes) → k ≤ length s → Zero s → zeroed k s ≡ s
+zeroed-zero k s h z = ap (λ v. v ++ drop k s) (sym (take-blank k (length s) h) ∙ ap (take k) (sym z)) ∙ take-append-drop k s
 
 -- ---- scratch of zeros stays so: after a match and after a line
 
@@ -72,13 +70,13 @@ module _ (scratch : Bytes) (z : Zero scratch) where
   module _ (label parts : Bytes) (budget : ℕ) where
     judged-same : (v : Option (List ℕ)) (t : Syntax pattern) → work t (length label) ≤ length scratch → judged v t label scratch parts .scratch ≡ scratch
     unfolding judged cleared
-    judged-same none t h = over-zero _ scratch h z
-    judged-same (some ends) t h = over-zero _ scratch h z
+    judged-same none t h = zeroed-zero _ scratch h z
+    judged-same (some ends) t h = zeroed-zero _ scratch h z
 
     tried-same : (b : Bool) (t : Syntax pattern) → work t (length label) ≤ length scratch → tried-if b t label scratch parts budget .scratch ≡ scratch
     unfolding tried-if cleared
     tried-same true t h = judged-same (verdict label t) t h
-    tried-same false t h = over-zero _ scratch h z
+    tried-same false t h = zeroed-zero _ scratch h z
 
     match-same : (table : Bytes) → matchOf table label scratch parts budget .scratch ≡ scratch
     unfolding matchOf matched tried-unless tried

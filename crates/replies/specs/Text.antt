@@ -5,12 +5,8 @@ use Prim.Native.Nat.{ℕ, _+_, _*_}
 use lib.Dec.{eqb}
 use Rattle.pattern.specs.Numbers.{comma-byte}
 use Rattle.pattern.specs.Bytes.{Bytes, bytes}
-use Rattle.pattern.specs.Print.{decimal-of}
+use Rattle.pattern.specs.Print.{decimal}
 use Rattle.replies.specs.Sizes.{unset, space-byte, refused-letter, unmatched-letter}
-
--- a number in decimal
-unfoldable pub decimal : ℕ → Bytes
-decimal n = decimal-of n n
 
 -- a letter, a space and a number
 unfoldable pub coded-text : (letter number : ℕ) → Bytes
