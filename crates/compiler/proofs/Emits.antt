@@ -4,8 +4,8 @@ use mathlib.Core.Bool.{cond}
 use mathlib.Core.List.{List, [], _∷_, _++_, append-assoc}
 use Prim.Native.Nat.{ℕ, _+_, _*_, _<_, _≤_}
 use native.Mathlib.Omega.{arith}
-use lib.ListN.{length, take, drop, set, length-append}
-use lib.Seq.{take-append-seam, length-take-le}
+use lib.ListN.{length, take, set, length-append}
+use lib.Seq.{length-take-le}
 use borrow.Author.Tests.{le-leb, lt-leb}
 use Rattle.pattern.specs.Numbers.{source-limit, atom-limit, header-size, record-size, mark, version, LONG, FORM, ROOM}
 use Rattle.pattern.specs.Bytes.{Bytes, word, over}
@@ -24,7 +24,7 @@ use Rattle.scanner.specs.Scans.{scanned}
 use Rattle.pattern.specs.Stores.{stored}
 use Rattle.compiler.specs.Readers.{Refused, PatternIs, PatternRead}
 use Rattle.compiler.specs.Compiling.{Emits, emitted}
-use Rattle.pattern.proofs.Stores.{stored-then, stored-more, stored-over}
+use Rattle.pattern.proofs.Stores.{stored-then, stored-more, stored-over, take-over}
 use Rattle.compiler.proofs.Descent.{whole-form, whole-accepted}
 use Rattle.compiler.proofs.Written.{flat-over}
 use Rattle.compiler.proofs.Leaves.{state}
@@ -33,8 +33,7 @@ abbrev output : Answer → Bytes → Output
 output a b = record { answer = a; bytes = b }
 
 take-stored : (l v : Bytes) (n : ℕ) → n ≡ length v → n ≤ length l → take n (stored l 0 v) ≡ v
-unfolding over
-take-stored l v n e h = rw (e, stored-over l v (omega arith)) (take-append-seam v (drop (length v) l))
+take-stored l v n e h = rw (e, stored-over l v (omega arith)) (take-over v l)
 
 module _ (position n m : ℕ) (recs text table : Bytes) (emits : Emits n m recs text) where
   abbrev written : Bytes

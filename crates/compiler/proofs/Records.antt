@@ -2,16 +2,11 @@
 use mathlib.Core.Path.{_≡_, refl, sym, ap, _∙_}
 use mathlib.Core.List.{[], _∷_, _++_}
 use Prim.Native.Nat.{ℕ, _+_}
-use native.Mathlib.Numerals.{add-one}
 use lib.ListN.{set}
 use Rattle.pattern.specs.Bytes.{Bytes, word}
 use Rattle.pattern.specs.Stores.{stored}
 use Rattle.pattern.specs.Table.{Rec, flat}
-use Rattle.pattern.proofs.Stores.{stored-then}
-
-pub stored-two : (l : Bytes) (i x y : ℕ) → stored l i (x ∷ y ∷ []) ≡ set (set l i x) (i + 1) y
-unfolding stored
-stored-two l i x y = rw add-one
+use Rattle.pattern.proofs.Stores.{stored-two, stored-then}
 
 -- the ten stores of a record
 pub record-puts : (l l₁ l₂ l₃ l₄ : Bytes) (at : ℕ) (r : Rec)

@@ -2,10 +2,10 @@
 ghost use mathlib.Core.Path.{_≡_};
 ghost use Rattle.compiler.specs.Compiling.{answer-of, Emits, emitted};
 use crate::Compiled;
-use crate::copy::copy;
-use crate::copy::put16;
 use pattern::limits;
 use pattern::refusal;
+use stores::copy;
+use stores::put16;
 
 // A table of these records and this pool, or ROOM at the source's length.
 pub fn emit(

@@ -2,15 +2,15 @@
 use mathlib.Core.Path.{_≡_, refl, sym, ap, ap₂, _∙_}
 use mathlib.Core.Bool.{Bool, true, false}
 use mathlib.Core.List.{List, [], _∷_, _++_, append-assoc, append-nil}
-use Prim.Native.Nat.{ℕ, _+_, _-_, _≤_}
+use Prim.Native.Nat.{ℕ, _+_, _≤_}
 use native.Mathlib.Omega.{arith}
-use lib.ListN.{length, take, drop, replicate, take-append-drop}
-use lib.Seq.{slice, drop-at, take-at, drop-drop, length-take-le}
-use Rattle.pattern.specs.Bytes.{Bytes, over}
-use Rattle.pattern.proofs.Stores.{stored-over, puts-none, puts-then, puts-as, puts-length}
+use lib.ListN.{length, take, drop, replicate}
+use lib.Seq.{slice, length-take-le}
+use Rattle.pattern.specs.Bytes.{Bytes, over, zeroed}
+use Rattle.pattern.proofs.Stores.{over-same, take-over, drop-over, stored-over, puts-none, puts-then, puts-as, puts-length}
 use Rattle.replies.specs.Sizes.{held-limit}
 use Rattle.replies.specs.Reply.{Reply, answer-to}
-use Rattle.replies.specs.Stores.{zeroed, Replied}
+use Rattle.replies.specs.Stores.{Replied}
 use Rattle.lines.specs.Output.{prefixed, answers, last-line, LinesIn, lines-in, wiped}
 use Rattle.lines.specs.Taking.{one-line, Took}
 use Rattle.lines.specs.Chunk.{Buffers, lend, Done}
@@ -60,26 +60,6 @@ replied-more ls line scratch₀ {room} {scratch = scratch} a b h =
     replied-as {room = room} (record { within = record { stores = puts-then (a .within .stores) (b .within .stores); short = omega arith }; works = b .works }) (sym e) (omega arith)
 
 -- ---- a line's bytes
-
--- bytes that are the same from a place on are so from a later one
-pub same-after : (s t : Bytes) (i j : ℕ) → i ≤ j → drop i s ≡ drop i t → drop j s ≡ drop j t
-same-after s t i j h e = sym (on s) ∙ ap (drop (j - i)) e ∙ on t
-  where
-    on : (u : Bytes) → drop (j - i) (drop i u) ≡ drop j u
-    on u = let k : i + (j - i) ≡ j = omega arith in drop-drop (j - i) i u ∙ ap (λ n. drop n u) k
-
--- bytes are the first of them over others that are the same past those
-over-same : (n : ℕ) (s t : Bytes) → n ≤ length s → drop n s ≡ drop n t → s ≡ over (take n s) t
-unfolding over
-over-same n s t h e = sym (take-append-drop n s) ∙ ap (λ v. take n s ++ v) e ∙ ap (λ k. take n s ++ drop k t) (sym (length-take-le n s h))
-
-pub take-over : (v s : Bytes) → take (length v) (over v s) ≡ v
-unfolding over
-take-over v s = take-at v (drop (length v) s) (length v) refl
-
-pub drop-over : (n : ℕ) (v s : Bytes) → length v ≤ n → drop n (over v s) ≡ drop n s
-unfolding over
-drop-over n v s h = same-after (over v s) s (length v) n h (drop-at v (drop (length v) s) (length v) refl)
 
 wiped-append : (a b : List Bytes) (line : Bytes) → wiped (a ++ b) line ≡ wiped b (wiped a line)
 unfolding wiped

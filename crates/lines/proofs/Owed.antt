@@ -22,7 +22,8 @@ use Rattle.lines.specs.declared.session.Next.{Next}
 use Rattle.lines.specs.declared.session.Next.the-variants.{Write, Read, Stop}
 use Rattle.lines.proofs.Lines.{slice-join}
 use Rattle.lines.proofs.Sessions.{apart, not-stop-read, not-stop-write}
-use Rattle.lines.proofs.Answering.{take-over, take-replied, held-over}
+use Rattle.pattern.proofs.Stores.{take-over}
+use Rattle.lines.proofs.Answering.{take-replied, held-over}
 use Rattle.lines.proofs.Chunks.{in-chunks, in-parts, chunks-hold}
 
 -- what is still to be written, if the input goes on with these chunks and nothing fails

@@ -8,10 +8,10 @@ use lib.IntN.{ℤ, pos, negsuc, natAbs}
 use lib.ListN.{length}
 use lib.Signed.{ltZ, nonNeg}
 use borrow.Author.Tests.{ltb-true}
-use Rattle.pattern.specs.Bytes.{Bytes}
+use Rattle.pattern.specs.Bytes.{Bytes, zeroed}
 use Rattle.pattern.proofs.Stores.{stored-over}
 use Rattle.replies.specs.Reply.{Reply}
-use Rattle.replies.specs.Stores.{zeroed, Replied}
+use Rattle.replies.specs.Stores.{Replied}
 use Rattle.lines.specs.Chunk.{Buffers, lend}
 use Rattle.lines.specs.Session.{reading-of, State, started, Starts, finished, AfterRead, PendingIn, AfterWrite}
 use Rattle.lines.specs.Trace.{read, end, write, read-fails, write-fails, Moves}

@@ -7,10 +7,10 @@ use native.Mathlib.Omega.{arith}
 use lib.Dec.{eqb, ltb}
 use lib.ListN.{length, take, drop, length-append}
 use lib.Seq.{slice, drop-length, drop-drop, length-take-le}
-use Rattle.pattern.specs.Bytes.{Bytes, over, bytes}
+use Rattle.pattern.specs.Bytes.{Bytes, over, bytes, zeroed}
 use Rattle.pattern.proofs.Stores.{puts-length}
 use Rattle.replies.specs.Sizes.{newline-byte}
-use Rattle.replies.specs.Stores.{zeroed, Zero}
+use Rattle.replies.specs.Stores.{Zero}
 use Rattle.replies.proofs.Zeros.{drop-zero, rest-zeroed}
 use Rattle.lines.specs.Output.{answers, last-line, first-line, hold, LinesIn, line-first, lines-in, wiped}
 use Rattle.lines.specs.Chunk.{Buffers}
@@ -20,7 +20,8 @@ use Rattle.lines.specs.Invariant.{NextIn, Tidy, Sized, Sound}
 use Rattle.lines.specs.declared.chunk.Pending.{Pending}
 use Rattle.lines.specs.declared.session.Next.the-variants.{Write, Stop}
 use Rattle.lines.proofs.Lines.{hold-longer}
-use Rattle.lines.proofs.Answering.{drop-over, drop-replied}
+use Rattle.pattern.proofs.Stores.{drop-over}
+use Rattle.lines.proofs.Answering.{drop-replied}
 use Rattle.lines.proofs.Chunks.{answers-same}
 use Rattle.lines.proofs.Sessions.{not-stop-read, not-stop-write}
 

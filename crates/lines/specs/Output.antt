@@ -4,10 +4,9 @@ use mathlib.Core.List.{List, [], _∷_, _++_}
 use Prim.Native.Nat.{ℕ}
 use lib.Dec.{ltb, eqb}
 use lib.ListN.{length}
-use Rattle.pattern.specs.Bytes.{Bytes, bytes}
+use Rattle.pattern.specs.Bytes.{Bytes, bytes, zeroed}
 use Rattle.replies.specs.Sizes.{held-limit, newline-byte}
 use Rattle.replies.specs.Reply.{Reply, answer-to, zeros}
-use Rattle.replies.specs.Stores.{zeroed}
 
 -- a text before that of a reply
 unfoldable pub prefixed : Bytes → Reply → Reply

@@ -5,9 +5,8 @@ use Prim.Native.Nat.{ℕ, zero, suc, min, _≤_}
 use lib.Dec.{ltb}
 use lib.IntN.{ℤ, pos, negsuc}
 use lib.ListN.{length, take}
-use Rattle.pattern.specs.Bytes.{Bytes, over}
+use Rattle.pattern.specs.Bytes.{Bytes, over, zeroed}
 use Rattle.replies.specs.Reply.{Reply}
-use Rattle.replies.specs.Stores.{zeroed}
 use Rattle.lines.specs.Output.{answers, last-line, first-line}
 use Rattle.lines.specs.Chunk.{Buffers, lend, Lent, Answered}
 use Rattle.lines.specs.declared.chunk.Pending.{Pending}

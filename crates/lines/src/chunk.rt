@@ -6,9 +6,9 @@ ghost use Rattle.replies.specs.Stores.{Replied};
 ghost use Rattle.lines.specs.Output.{answers, last-line};
 ghost use Rattle.lines.specs.Chunk.{lend, Lent, Answered};
 use crate::line::take_line;
-use planes::clear::clear;
 use replies::reply::answer_line;
 use replies::sizes::OUT_ROOM;
+use stores::clear;
 
 // The first end bytes of the output are to be written. Then the bytes from..to of the input are still to be answered, with
 // held bytes of a line before them; or, if it was the last output, nothing.

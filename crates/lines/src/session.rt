@@ -10,8 +10,8 @@ ghost use Rattle.lines.specs.Session.{reading-of, state-of, Starts, halt
 use crate::chunk::Pending;
 use crate::chunk::answer_chunk;
 use crate::chunk::answer_last;
-use planes::clear::clear;
 use replies::sizes::NEWLINE;
+use stores::clear;
 
 // What a read gave: nothing, since it failed; the end of the input; or the first bytes of the buffer.
 pub enum Input {

@@ -1,17 +1,18 @@
 -- The parts, in plain values: the search for a last end, and the loop over the top-level atoms. Assumes nothing.
 use mathlib.Core.Path.{_≡_, refl, sym, ap, _∙_}
 use mathlib.Core.Bool.{Bool, true, false, cond}
-use mathlib.Core.List.{[], _∷_, _++_, append-assoc, append-nil}
-use Prim.Native.Nat.{ℕ, zero, suc, _+_, _*_, _-_, _/_, _%_, _≤_, _<_}
+use mathlib.Core.List.{[], _++_, append-assoc, append-nil}
+use Prim.Native.Nat.{ℕ, zero, suc, _+_, _*_, _-_, _≤_, _<_}
 use native.Mathlib.Omega.{arith}
-use lib.ListN.{length, getD, set, drop, length-append, length-set}
-use lib.Seq.{drop-cons, set-at}
+use lib.ListN.{length}
 use Rattle.pattern.specs.Bytes.{Bytes, word, over}
 use Rattle.pattern.specs.Syntax.{pattern, atom, Syntax, last, then, size, top-size, nodes}
 use Rattle.pattern.specs.Decision.{trial, decide}
 use Rattle.pattern.specs.Parts.{longest, end, parts}
 use Rattle.pattern.specs.Decode.{tree-of}
 use Rattle.pattern.specs.Answers.{part-bytes}
+use Rattle.pattern.specs.Stores.{stored, Puts}
+use Rattle.pattern.proofs.Stores.{stored-over, puts-none, puts-then, puts-length}
 use Rattle.pattern.proofs.RoundTrip.{some-pattern}
 use Rattle.pattern.proofs.Longest.{longest-le}
 use Rattle.table.specs.declared.Record.{Record}
@@ -57,32 +58,15 @@ unfolding longest
 longest-same p q zero h = refl
 longest-same p q (suc c) h = rw (h c (omega arith), longest-same p q c (λ d l. h d (omega arith)))
 
--- ---- two bytes more
-
-two-more : (done lent : Bytes) (at a b : ℕ) → length done ≡ at → at + 2 ≤ length lent → set (set (done ++ drop at lent) at a) (at + 1) b ≡ (done ++ a ∷ b ∷ []) ++ drop (at + 2) lent
-two-more done lent at a b e h =
-    let z : suc (suc at) ≡ at + 2 = omega arith in
-    let rest : drop at lent ≡ getD lent at 0 ∷ getD lent (suc at) 0 ∷ drop (at + 2) lent
-    = drop-cons lent at 0 (omega arith) ∙ ap (λ (l : Bytes). getD lent at 0 ∷ l) (drop-cons lent (suc at) 0 (omega arith) ∙ ap (λ (k : ℕ). getD lent (suc at) 0 ∷ drop k lent) z) in
-    let one : set (done ++ drop at lent) at a ≡ done ++ a ∷ getD lent (suc at) 0 ∷ drop (at + 2) lent
-    = ap (λ (l : Bytes). set (done ++ l) at a) rest ∙ set-at done (getD lent at 0) _ a at e in
-    let y : length (done ++ a ∷ []) ≡ at + 1 = omega (arith, length-append done (a ∷ [])) in
-    let tail : Bytes = drop (at + 2) lent in
-    ap (λ (l : Bytes). set l (at + 1) b) (one ∙ sym (append-assoc done (a ∷ []) (getD lent (suc at) 0 ∷ tail)))
-    ∙ set-at (done ++ a ∷ []) (getD lent (suc at) 0) tail b (at + 1) y
-    ∙ append-assoc done (a ∷ []) (b ∷ tail) ∙ sym (append-assoc done (a ∷ b ∷ []) tail)
-
 -- ---- the top-level atoms
 
 -- `done` is written, and what is left begins with atom x at place i
 pub record PartsAt (table label lent₀ lent : Bytes) (x i at : ℕ) : Type 0 where
   pub there : x < atoms table
   pub inner : i ≤ length label
-  pub long : length lent ≡ length lent₀
   pub room : at + 2 * top-size (node table x) ≤ length lent₀
   pub done : Bytes
-  pub so-far : length done ≡ at
-  pub stored : lent ≡ done ++ drop at lent₀
+  pub puts : Puts lent₀ 0 done lent at
   pub left : part-bytes (parts label (tree-of table) 0) ≡ done ++ part-bytes (parts label (node table x) i)
 
 some-top : (p : Syntax pattern) → 1 ≤ top-size p
@@ -103,34 +87,27 @@ module _ (table label s : Bytes) (w : ℕ) (lent₀ : Bytes) (ok : Parting table
   parts-start = record {
     there = omega (arith, some-pattern (tree-of table));
     inner = omega arith;
-    long = refl;
     room = omega (arith, ok .fits, ap top-size (node-first table));
     done = [];
-    so-far = refl;
-    stored = refl;
+    puts = puts-none lent₀ 0;
     left = ap (λ (p : Syntax pattern). part-bytes (parts label p 0)) (sym (node-first table));
   }
 
   module _ (lent : Bytes) (x i at : ℕ) (inv : PartsAt table label lent₀ lent x i at) where
     pub parts-room : at + 2 ≤ length lent
-    parts-room = omega (arith, inv .room, inv .long, some-top (node table x))
+    parts-room = omega (arith, inv .room, puts-length (inv .puts), some-top (node table x))
 
     module _ (r : Record) (is : RecordOf table x r) where
       -- one part more
-      stored-more : (m : ℕ) → set (set lent at (m % 256)) (at + 1) (m / 256) ≡ (inv .done ++ word m []) ++ drop (at + 2) lent₀
-      stored-more m =
-          ap (λ (l : Bytes). set (set l at (m % 256)) (at + 1) (m / 256)) (inv .stored)
-          ∙ two-more (inv .done) lent₀ at (m % 256) (m / 256) (inv .so-far) (omega (arith, inv .room, some-top (node table x)))
+      puts-part : (m : ℕ) (lent′ : Bytes) → lent′ ≡ stored lent at (word m []) → Puts lent₀ 0 (inv .done ++ word m []) lent′ (at + 2)
+      puts-part m lent′ got = puts-then (inv .puts) (record { bytes = got; next = refl })
 
-      so-far-more : (m : ℕ) → length (inv .done ++ word m []) ≡ at + 2
-      so-far-more m = omega (arith, inv .so-far, length-append (inv .done) (word m []))
-
-      pub parts-end : r .ends ≡ 1 → (lent′ : Bytes) → lent′ ≡ set (set lent at (length label % 256)) (at + 1) (length label / 256) → Parted table label lent₀ lent′
-      unfolding over
+      pub parts-end : r .ends ≡ 1 → (lent′ : Bytes) → lent′ ≡ stored lent at (word (length label) []) → Parted table label lent₀ lent′
       parts-end e lent′ got =
           let (l, n) = parts-last label _ _ i (is .is-last e) in
           let whole : part-bytes (parts label (tree-of table) 0) ≡ inv .done ++ word (length label) [] = inv .left ∙ ap (λ (y : Bytes). inv .done ++ y) l in
-          record { written = got ∙ stored-more (length label) ∙ sym (rw (whole, so-far-more (length label))) }
+          let p = puts-part (length label) lent′ got in
+          record { written = p .bytes ∙ stored-over lent₀ (inv .done ++ word (length label) []) (omega (arith, p .next, parts-room, puts-length (inv .puts))) ∙ ap (λ (v : Bytes). over v lent₀) (sym whole) }
 
       module _ (n : r .ends ≡ 1 → ⊥) (next : ℕ) (e : next ≡ x + size (head (node table x))) where
         then-is : node table x ≡ then (head (node table x)) (node table next)
@@ -164,17 +141,15 @@ module _ (table label s : Bytes) (w : ℕ) (lent₀ : Bytes) (ok : Parting table
               let wide = ok .work .wide in
               found ∙ ap (λ (k : ℕ). i + k) (longest-same _ _ (suc (length label) - i) (trial-same w _ _ _ _ (plane-on own) (plane-on rest) i (length label) (inv .inner) (omega arith)))
 
-          pub parts-step : (lent′ : Bytes) → lent′ ≡ set (set lent at (m % 256)) (at + 1) (m / 256) → PartsAt table label lent₀ lent′ next m (at + 2)
+          pub parts-step : (lent′ : Bytes) → lent′ ≡ stored lent at (word m []) → PartsAt table label lent₀ lent′ next m (at + 2)
           parts-step lent′ got =
               let (l, k) = parts-then label _ _ _ i then-is in
               let whole : part-bytes (parts label (node table x) i) ≡ word m (part-bytes (parts label (node table next) m)) = rw end-is l in
               record {
                 there = parts-next;
                 inner = parts-in;
-                long = ap length got ∙ (simp length-set (inv .long));
                 room = omega (arith, inv .room);
                 done = inv .done ++ word m [];
-                so-far = so-far-more m;
-                stored = got ∙ stored-more m;
+                puts = puts-part m lent′ got;
                 left = inv .left ∙ ap (λ (y : Bytes). inv .done ++ y) whole ∙ sym (append-assoc (inv .done) (word m []) _);
               }

@@ -6,16 +6,16 @@ use mathlib.Core.Option.{none, some}
 use Prim.Native.Nat.{ℕ, _+_, _*_, _≤_}
 use native.Mathlib.Nat.{mul-le-mul-left, mul-one}
 use native.Mathlib.Omega.{arith}
-use lib.ListN.{length, getD, drop, replicate, length-drop, length-replicate}
+use lib.ListN.{length, getD, drop, replicate, length-drop}
 use lib.Seq.{ext-getD, getD-drop}
 use Rattle.pattern.specs.Numbers.{BUDGET}
-use Rattle.pattern.specs.Bytes.{Bytes, over}
+use Rattle.pattern.specs.Bytes.{Bytes, zeroed}
 use Rattle.pattern.specs.Syntax.{pattern, Syntax}
 use Rattle.pattern.specs.Decision.{decide}
 use Rattle.pattern.specs.Parts.{parts, verdict}
 use Rattle.pattern.specs.Trials.{trials}
 use Rattle.pattern.specs.Decode.{tree-of}
-use Rattle.pattern.specs.Answers.{result, work, cleared, ended, Matched as Outcome}
+use Rattle.pattern.specs.Answers.{result, work, ended, Matched as Outcome}
 use Rattle.pattern.proofs.Tests.{if-true, if-false}
 use Rattle.pattern.proofs.Calls.{ending-within, ending-beyond}
 use Rattle.pattern.proofs.RoundTrip.{some-pattern}
@@ -74,13 +74,10 @@ module _ (table label scratch lent : Bytes) (count : ℕ) (ok : Running table la
 
   module _ (budget : ℕ) (s : Bytes) (long : length s ≡ length scratch) (r : Tally) (got : AllSettled table label scratch s w (2 * count) budget r) where
     -- the planes' bytes are zero, the others as they were
-    cleared-is : (s′ : Bytes) → s′ ≡ replicate len 0 ++ drop len s → s′ ≡ cleared (work t (length label)) scratch
-    unfolding cleared over
-    cleared-is s′ e =
-        e ∙ ap (λ (l : Bytes). replicate len 0 ++ l) (drop-same scratch s len long (got .kept .rest) ∙ ap (λ (k : ℕ). drop k scratch) (sym (length-replicate {A = ℕ} len 0)))
-        ∙ ap (λ (k : ℕ). let z : Bytes = replicate k 0 in z ++ drop (length z) scratch) len-is
+    cleared-is : (s′ : Bytes) → s′ ≡ zeroed len s → s′ ≡ zeroed (work t (length label)) scratch
+    cleared-is s′ e = e ∙ ap (λ (l : Bytes). replicate len 0 ++ l) (drop-same scratch s len long (got .kept .rest)) ∙ ap (λ (k : ℕ). zeroed k scratch) len-is
 
-    pub run-stop : r .stopped ≡ true → (s′ : Bytes) → s′ ≡ replicate len 0 ++ drop len s
+    pub run-stop : r .stopped ≡ true → (s′ : Bytes) → s′ ≡ zeroed len s
         → _≡_ {A = Outcome} record { answer = record { number = BUDGET; position = 0; value = 0; trials = budget }; scratch = s′; parts = lent } (ended (unrefused table label budget) scratch lent)
     unfolding ended
     run-stop e s′ c = rw (ending-beyond _ _ budget _ (counted-past (got .counted) e), cleared-is s′ c)
@@ -95,14 +92,14 @@ module _ (table label scratch lent : Bytes) (count : ℕ) (ok : Running table la
       pub run-parting : Parting table label s w lent
       run-parting = record { work = work-long long run-work; settled = got .whole e; fits = ok .fits }
 
-      pub run-yes : on s w 1 0 (length label) ≡ true → (lent′ : Bytes) → Parted table label lent lent′ → (s′ : Bytes) → s′ ≡ replicate len 0 ++ drop len s
+      pub run-yes : on s w 1 0 (length label) ≡ true → (lent′ : Bytes) → Parted table label lent lent′ → (s′ : Bytes) → s′ ≡ zeroed len s
           → _≡_ {A = Outcome} record { answer = result 1 (r .trials); scratch = s′; parts = lent′ } (ended (unrefused table label budget) scratch lent)
       unfolding verdict ended
       run-yes h lent′ p s′ c =
           let z : verdict label t ≡ some (parts label t 0) = if-true _ _ _ (sym decided ∙ h) in
           rw (ending-within _ _ budget _ (counted-room (got .counted) e), z, cleared-is s′ c, p .written, counted-all (got .counted) e)
 
-      pub run-no : on s w 1 0 (length label) ≡ false → (s′ : Bytes) → s′ ≡ replicate len 0 ++ drop len s
+      pub run-no : on s w 1 0 (length label) ≡ false → (s′ : Bytes) → s′ ≡ zeroed len s
           → _≡_ {A = Outcome} record { answer = result 0 (r .trials); scratch = s′; parts = lent } (ended (unrefused table label budget) scratch lent)
       unfolding verdict ended
       run-no h s′ c =

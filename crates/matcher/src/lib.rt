@@ -15,7 +15,7 @@ use parts::write_parts;
 use pattern::limits::LABEL_LIMIT;
 use pattern::refusal;
 use planes::cells::holds;
-use planes::clear::clear;
+use stores::clear;
 use table::Sizes;
 use table::Tested;
 

@@ -1,7 +1,6 @@
 // The parts: where the stretches of the top-level atoms end, each as long as it can be. No trials: the planes are settled.
 ghost use mathlib.Core.Path.{_≡_};
-ghost use Prim.Native.Nat.{suc, _+_, _-_, _*_, _/_, _%_, _<_, _≤_};
-ghost use lib.ListN.{length, set};
+ghost use Prim.Native.Nat.{suc, _+_, _-_, _*_, _<_, _≤_};
 ghost use Rattle.pattern.specs.Decision.{trial};
 ghost use Rattle.pattern.specs.Parts.{longest};
 ghost use Rattle.planes.specs.Cells.{on, Readable};
@@ -9,6 +8,7 @@ ghost use Rattle.matcher.specs.Parted.{Parting, Parted};
 use atoms::next_atom;
 use atoms::record_at;
 use planes::cells::byte;
+use stores::put16;
 
 // The last m with left on i to m and right on m to n, read in row n; i if there is none.
 fn last_end(scratch: &[u8], w: usize, left: usize, right: usize, i: usize, n: usize) -> usize
@@ -25,15 +25,6 @@ fn last_end(scratch: &[u8], w: usize, left: usize, right: usize, i: usize, n: us
     i
 }
 
-// A place as 16 bits, the lower byte first.
-fn put(parts: &mut [u8], at: usize, m: usize)
-    requires { ⌜ at + 2 ≤ length (now parts) ⌝ ∗ ⌜ m < 65536 ⌝ }
-    ensures { λ _. ⌜ now (parts .exit) ≡ set (set (now (parts .entry)) at (m % 256)) (at + 1) (m / 256) ⌝ }
-{
-    parts[at] = (m % 256) as u8;
-    parts[at + 1] = (m / 256) as u8;
-}
-
 // The ends of the stretches of the top-level atoms.
 pub fn write_parts(table: &[u8], label: &[u8], scratch: &[u8], w: usize, parts: &mut [u8])
     requires { ⌜ Parting (now table) (now label) (now scratch) w (now parts) ⌝ }
@@ -46,12 +37,12 @@ pub fn write_parts(table: &[u8], label: &[u8], scratch: &[u8], w: usize, parts: 
     loop {
         let r = record_at(table, x);
         if r.ends == 1 {
-            put(parts, at, n);
+            put16(parts, at, n as u16);
             return;
         }
         let next = next_atom(table, x);
         i = last_end(scratch, w, 2 * x, 2 * next + 1, i, n);
-        put(parts, at, i);
+        put16(parts, at, i as u16);
         x = next;
         at += 2;
     }

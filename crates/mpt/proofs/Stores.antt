@@ -1,33 +1,14 @@
--- Numbers stored byte by byte. Assumes nothing.
-use mathlib.Core.Path.{_≡_, refl, ap, _∙_}
+-- Four numbers stored one after the other. Assumes nothing.
+use mathlib.Core.Path.{_≡_, ap, _∙_}
 use mathlib.Core.List.{_++_}
-use Prim.Native.Nat.{ℕ, zero, suc, _+_, _-_, _/_, _%_, _<_, _≤_}
+use Prim.Native.Nat.{ℕ, _≤_}
 use native.Mathlib.Omega.{arith}
-use lib.ListN.{length, set, length-append}
+use lib.ListN.{length, length-append}
 use Rattle.pattern.specs.Bytes.{Bytes, over}
 use Rattle.pattern.specs.Stores.{stored}
-use Rattle.pattern.proofs.Stores.{stored-none, stored-first, stored-then, stored-over}
-use Rattle.mpt.specs.Area.{little}
-
--- the bytes still to be stored, one of them stored
-pub store-next : (l : Bytes) (at j left : ℕ) → j < 8
-    → stored l (at + j) (little (8 - j) left) ≡ stored (set l (at + j) (left % 256)) (at + (j + 1)) (little (8 - (j + 1)) (left / 256))
-unfolding little
-store-next l at j left h =
-    let e : 8 - j ≡ suc (8 - (j + 1)) = omega arith in
-    let f : at + j + 1 ≡ at + (j + 1) = omega arith in
-    let rest : Bytes = little (8 - (j + 1)) (left / 256) in
-    ap (λ c. stored l (at + j) (little c left)) e ∙ stored-first l (at + j) (left % 256) rest ∙ ap (λ i. stored (set l (at + j) (left % 256)) i rest) f
-
--- after the last
-pub store-end : (l : Bytes) (at j left : ℕ) → 8 ≤ j → stored l (at + j) (little (8 - j) left) ≡ l
-unfolding little
-store-end l at j left h = let e : 8 - j ≡ 0 = omega arith in ap (λ c. stored l (at + j) (little c left)) e ∙ stored-none l (at + j)
-
-length-little : (c x : ℕ) → length (little c x) ≡ c
-unfolding little
-length-little zero x = refl
-length-little (suc c) x = ap suc (length-little c (x / 256))
+use Rattle.pattern.proofs.Stores.{stored-then, stored-over}
+use Rattle.stores.specs.Little.{little}
+use Rattle.stores.proofs.Little.{length-little}
 
 -- four numbers, one after the other
 pub four-over : (l : Bytes) (x y z w : ℕ) → 32 ≤ length l

@@ -12,7 +12,7 @@ use lib.ListN.{length, take}
 use lib.Seq.{take-append-seam, take-length}
 use borrow.Author.Tests.{le-leb, lt-leb, leb-true, leb-false}
 use Rattle.pattern.specs.Numbers.{source-limit, atom-limit, label-limit, LONG, DEPTH, ROOM, TABLE, LABEL, PARTS, BUDGET}
-use Rattle.pattern.specs.Bytes.{Bytes, over}
+use Rattle.pattern.specs.Bytes.{Bytes, over, zeroed}
 use Rattle.pattern.specs.Syntax.{Sort, pattern, Syntax, last, then, repeat, codes, literal, group, only, or, size, top-size}
 use Rattle.pattern.specs.Meaning.{Satisfies}
 use Rattle.pattern.specs.Parts.{Means, verdict}
@@ -24,7 +24,7 @@ use Rattle.pattern.specs.Faults.{rows-at, Applies, Least}
 use Rattle.pattern.specs.Print.{print}
 use Rattle.pattern.specs.Table.{encode}
 use Rattle.pattern.specs.Decode.{decode}
-use Rattle.pattern.specs.Answers.{Answer, refusal, result, Output, put-if, put, compiled, compileOf, written-back, writeOf, Matched, work, cleared, part-bytes, lent-fault, Ending, untried, exhausted, decided, ended, ending, match-ending, matchOf}
+use Rattle.pattern.specs.Answers.{Answer, refusal, result, Output, put-if, put, compiled, compileOf, written-back, writeOf, Matched, work, part-bytes, lent-fault, Ending, untried, exhausted, decided, ended, ending, match-ending, matchOf}
 use Rattle.pattern.proofs.Tests.{le-or-lt, if-true, if-false}
 use Rattle.pattern.proofs.Longest.{partition-satisfies, verdict-means, verdict-length, part-bytes-length}
 use Rattle.pattern.proofs.Bound.{bound}
@@ -145,12 +145,12 @@ match-cases P (some t) label scratch parts budget refuses stops decides = lent (
 record Reported (used count : ℕ) (scratch : Bytes) (m : Matched) : Type 0 where
   number-zero : m .answer .number ≡ 0
   trials-count : m .answer .trials ≡ count
-  used-cleared : m .scratch ≡ cleared used scratch
+  used-zeroed : m .scratch ≡ zeroed used scratch
 
 decided-reports : (used count : ℕ) (v : Option (List ℕ)) (scratch parts : Bytes) → Reported used count scratch (ended (decided used count v) scratch parts)
 unfolding ended
-decided-reports used count none scratch parts = record { number-zero = refl; trials-count = refl; used-cleared = refl }
-decided-reports used count (some ends) scratch parts = record { number-zero = refl; trials-count = refl; used-cleared = refl }
+decided-reports used count none scratch parts = record { number-zero = refl; trials-count = refl; used-zeroed = refl }
+decided-reports used count (some ends) scratch parts = record { number-zero = refl; trials-count = refl; used-zeroed = refl }
 
 -- where no other refusal applies: the table is good, the label and the lent slices fit
 module _ (table label scratch parts : Bytes) (t : Syntax pattern) (good : decode table ≡ some t) (lent : lent-fault t label scratch parts ≡ none) where
@@ -169,7 +169,7 @@ module _ (table label scratch parts : Bytes) (t : Syntax pattern) (good : decode
 
   -- what they report
   pub within-reports : (budget : ℕ) → trials label t ≤ budget → matchOf table label scratch parts budget .answer .trials ≡ trials label t
-  within-reports budget h = ap (λ m. m .answer .trials) (within-budget budget h) ∙ decided-reports _ _ (verdict label t) scratch parts .trials-count
+  within-reports budget h = ap (λ m. m .answer .trials) (within-budget budget h) ∙ decided-reports (work t (length label)) _ (verdict label t) scratch parts .trials-count
 
   pub beyond-reports : (budget : ℕ) → budget < trials label t → matchOf table label scratch parts budget .answer ≡ record { number = BUDGET; position = 0; value = 0; trials = budget }
   unfolding ended
@@ -179,7 +179,7 @@ module _ (table label scratch parts : Bytes) (t : Syntax pattern) (good : decode
   pub verdict-exactly : (budget : ℕ) → (matchOf table label scratch parts budget .answer .number ≡ 0) ↔ (trials label t ≤ budget)
   verdict-exactly budget = (
     λ e. ⊎-elim (λ h. h) (λ h. let x = ap (λ (a : Answer). a .number) (beyond-reports budget h) in absurd (omega arith)) (le-or-lt (trials label t) budget),
-    λ h. ap (λ m. m .answer .number) (within-budget budget h) ∙ decided-reports _ _ (verdict label t) scratch parts .number-zero,
+    λ h. ap (λ m. m .answer .number) (within-budget budget h) ∙ decided-reports (work t (length label)) _ (verdict label t) scratch parts .number-zero,
   )
 
   -- the bound holds of what is reported, with 15 too
@@ -318,19 +318,19 @@ pub match-number : (table label scratch parts : Bytes) (budget : ℕ) → MatchN
 unfolding matchOf ended
 match-number table label scratch parts budget =
     match-cases (λ e. MatchNumber (ended e scratch parts .answer .number)) (decode table) label scratch parts budget
-    (λ number l h. inr (omega arith, omega arith)) (λ t d f h. inr (omega arith, omega arith)) (λ t d f h. inl (decided-reports _ _ (verdict label t) scratch parts .number-zero))
+    (λ number l h. inr (omega arith, omega arith)) (λ t d f h. inr (omega arith, omega arith)) (λ t d f h. inl (decided-reports (work t (length label)) _ (verdict label t) scratch parts .number-zero))
 
 -- demand 1: scratch after a verdict or BUDGET
 pub match-zeroed : (table label scratch parts : Bytes) (budget : ℕ) (t : Syntax pattern) → decode table ≡ some t
     → (matchOf table label scratch parts budget .answer .number ≡ 0) ⊎ (matchOf table label scratch parts budget .answer .number ≡ BUDGET)
-    → matchOf table label scratch parts budget .scratch ≡ cleared (work t (length label)) scratch
+    → matchOf table label scratch parts budget .scratch ≡ zeroed (work t (length label)) scratch
 unfolding matchOf ended
 match-zeroed table label scratch parts budget t d =
-    match-cases (λ e. ((ended e scratch parts .answer .number ≡ 0) ⊎ (ended e scratch parts .answer .number ≡ BUDGET)) → ended e scratch parts .scratch ≡ cleared (work t (length label)) scratch)
+    match-cases (λ e. ((ended e scratch parts .answer .number ≡ 0) ⊎ (ended e scratch parts .answer .number ≡ BUDGET)) → ended e scratch parts .scratch ≡ zeroed (work t (length label)) scratch)
     (decode table) label scratch parts budget
     (λ f l h. ⊎-elim (λ z. absurd (omega arith)) (λ z. absurd (omega arith)))
-    (λ u g f h z. let e : u ≡ t = cc in ap (λ x. cleared (work x (length label)) scratch) e)
-    (λ u g f h z. let e : u ≡ t = cc in decided-reports _ _ (verdict label u) scratch parts .used-cleared ∙ ap (λ x. cleared (work x (length label)) scratch) e)
+    (λ u g f h z. let e : u ≡ t = cc in ap (λ x. zeroed (work x (length label)) scratch) e)
+    (λ u g f h z. let e : u ≡ t = cc in decided-reports (work u (length label)) _ (verdict label u) scratch parts .used-zeroed ∙ ap (λ x. zeroed (work x (length label)) scratch) e)
 
 -- ---- the verdict of a call
 

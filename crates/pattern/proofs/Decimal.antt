@@ -2,21 +2,23 @@
 use mathlib.Core.Path.{_≡_, refl, sym, ap, _∙_}
 use mathlib.Core.Logic.{⊎-elim}
 use mathlib.Core.List.{[], _∷_, _++_}
-use Prim.Native.Nat.{ℕ, zero, suc, _+_, _*_, _/_, _%_, _≤_, _<_}
+use Prim.Native.Nat.{ℕ, zero, suc, _+_, _*_, _/_, _%_, _^_, _≤_, _<_}
+use native.Mathlib.Nat.{pow-suc, div-lt-iff-lt-mul}
 use native.Mathlib.Omega.{arith}
+use lib.ListN.{length, length-append}
 use borrow.Author.Tests.{lt-ltb, le-ltb}
 use Rattle.pattern.specs.Numbers.{zero-byte}
 use Rattle.pattern.specs.Bytes.{Bytes}
-use Rattle.pattern.specs.Print.{decimal-of}
+use Rattle.pattern.specs.Print.{decimal-of, decimal}
 use Rattle.pattern.proofs.Tests.{if-true, if-false, le-or-lt}
 
 -- one digit, and more than one
-pub one-digit : (f n : ℕ) → n < 10 → decimal-of f n ≡ (zero-byte + n) ∷ []
+one-digit : (f n : ℕ) → n < 10 → decimal-of f n ≡ (zero-byte + n) ∷ []
 unfolding decimal-of
 one-digit zero n h = refl
 one-digit (suc f) n h = if-true _ _ _ (lt-ltb n 10 h)
 
-pub more-digits : (f n : ℕ) → 10 ≤ n → decimal-of (suc f) n ≡ decimal-of f (n / 10) ++ (zero-byte + n % 10) ∷ []
+more-digits : (f n : ℕ) → 10 ≤ n → decimal-of (suc f) n ≡ decimal-of f (n / 10) ++ (zero-byte + n % 10) ∷ []
 unfolding decimal-of
 more-digits f n h = if-false _ _ _ (le-ltb n 10 h)
 
@@ -31,7 +33,7 @@ le-most zero = omega arith
 le-most (suc f) = omega (arith, le-most f)
 
 -- how many digits are allowed does not matter where they are enough
-pub enough : (f g n : ℕ) → n ≤ most f → n ≤ most g → decimal-of f n ≡ decimal-of g n
+enough : (f g n : ℕ) → n ≤ most f → n ≤ most g → decimal-of f n ≡ decimal-of g n
 unfolding most
 enough zero g n h k = one-digit zero n (omega arith) ∙ sym (one-digit g n (omega arith))
 enough (suc f) zero n h k = one-digit (suc f) n (omega arith) ∙ sym (one-digit zero n (omega arith))
@@ -39,4 +41,25 @@ enough (suc f) (suc g) n h k =
     ⊎-elim
     (λ l. more-digits f n l ∙ ap (λ (v : Bytes). v ++ (zero-byte + n % 10) ∷ []) (enough f g (n / 10) (omega arith) (omega arith)) ∙ sym (more-digits g n l))
     (λ l. one-digit (suc f) n l ∙ sym (one-digit (suc g) n l))
+    (le-or-lt 10 n)
+
+pub decimal-one : (n : ℕ) → n < 10 → decimal n ≡ (zero-byte + n) ∷ []
+unfolding decimal
+decimal-one n h = one-digit n n h
+
+pub decimal-more : (n : ℕ) → 10 ≤ n → decimal n ≡ decimal (n / 10) ++ (zero-byte + n % 10) ∷ []
+unfolding decimal
+decimal-more zero h = absurd (omega arith)
+decimal-more (suc f) h = more-digits f (suc f) h ∙ ap (λ (v : Bytes). v ++ (zero-byte + suc f % 10) ∷ []) (enough f (suc f / 10) (suc f / 10) (omega (arith, le-most f)) (le-most (suc f / 10)))
+
+pub decimal-longer : (n : ℕ) → 10 ≤ n → length (decimal n) ≡ length (decimal (n / 10)) + 1
+decimal-longer n h = ap length (decimal-more n h) ∙ length-append (decimal (n / 10)) _
+
+-- a number below a power of ten has no more digits
+pub decimal-short : (k n : ℕ) → n < 10 ^ suc k → length (decimal n) ≤ suc k
+decimal-short zero n h = omega (arith, ap length (decimal-one n h))
+decimal-short (suc k) n h =
+    ⊎-elim
+    (λ l. let d : n / 10 < 10 ^ suc k = div-lt-iff-lt-mul (omega arith) .1 (rw pow-suc at h) in omega (arith, decimal-longer n l, decimal-short k (n / 10) d))
+    (λ l. omega (arith, ap length (decimal-one n l)))
     (le-or-lt 10 n)

@@ -8,7 +8,7 @@ use native.Mathlib.Omega.{arith}
 use lib.ListN.{length}
 use lib.Seq.{take-length}
 use Rattle.pattern.specs.Numbers.{source-limit, LONG, ROOM, TABLE, BUDGET}
-use Rattle.pattern.specs.Bytes.{Bytes, over}
+use Rattle.pattern.specs.Bytes.{Bytes, over, zeroed}
 use Rattle.pattern.specs.Syntax.{pattern, Syntax, size, top-size}
 use Rattle.pattern.specs.Parts.{Partition, Means}
 use Rattle.pattern.specs.Trials.{trials, trial-bound}
@@ -18,7 +18,7 @@ use Rattle.pattern.specs.Within.{Limited}
 use Rattle.pattern.specs.Faults.{Least}
 use Rattle.pattern.specs.Table.{encode}
 use Rattle.pattern.specs.Decode.{decode}
-use Rattle.pattern.specs.Answers.{refusal, result, compiled, compileOf, writeOf, work, cleared, part-bytes, lent-fault, matchOf}
+use Rattle.pattern.specs.Answers.{refusal, result, compiled, compileOf, writeOf, work, part-bytes, lent-fault, matchOf}
 use Rattle.pattern.proofs.Longest.{partition-satisfies}
 use Rattle.pattern.proofs.Bound.{bound}
 use Rattle.pattern.proofs.Accepted.{accepted-exactly}
@@ -39,7 +39,7 @@ pub record Demand1 : Type 0 where
   -- "when the budget runs out, the scratch bytes used are zeroed, as they are after a verdict"
   pub scratch-zeroed : (table label scratch parts : Bytes) (budget : ℕ) (t : Syntax pattern) → decode table ≡ some t
       → (matchOf table label scratch parts budget .answer .number ≡ 0) ⊎ (matchOf table label scratch parts budget .answer .number ≡ BUDGET)
-      → matchOf table label scratch parts budget .scratch ≡ cleared (work t (length label)) scratch
+      → matchOf table label scratch parts budget .scratch ≡ zeroed (work t (length label)) scratch
 
 pub demand-1 : Demand1
 demand-1 = record {

@@ -7,17 +7,17 @@ use Prim.Native.Nat.{ℕ, zero, suc, _+_, _-_, _*_, _/_, _%_, _≤_, _<_}
 use native.Mathlib.Omega.{arith}
 use lib.Bits.{bitOr, or-add-and, and-le-r}
 use lib.Dec.{T, leb, ltb, eqb, leb→le, le→leb, eqb→eq}
-use Rattle.pattern.specs.Numbers.{number-limit, set-limit}
+use Rattle.pattern.specs.Numbers.{set-limit}
 use Rattle.pattern.specs.Bytes.{Bytes, between}
 use Rattle.pattern.specs.Codes.{Code, all-codes, bit-among, bit}
 use Rattle.pattern.specs.Syntax.{Sort, Syntax, last, then, repeat, codes, literal, group, only, or}
 use Rattle.pattern.specs.Meaning.{Cut}
 use Rattle.pattern.specs.Spelling.{letter, quote as quote-starts, opening, digit, Kind, counts, starts, ends, kind, plain, text, Number, Low, missing, given, Count, exact, from, range, Letters, Quoted, start, byte, Spells}
-use Rattle.pattern.specs.Within.{Small, Fits, Good}
+use Rattle.pattern.specs.Within.{Good}
 use Rattle.pattern.specs.Print.{decimal-of, decimal, print-low, print-count, print-set, double, print}
 use Rattle.pattern.proofs.Tests.{and-both, passed, cond-case, all, all-at}
 use Rattle.pattern.proofs.Notation.{text-byte}
-use Rattle.pattern.proofs.Decimal.{most}
+use Rattle.pattern.proofs.Decimal.{most, le-most}
 
 digit-kind : (c : ℕ) → 48 ≤ c → c ≤ 57 → kind c ≡ counts digit
 unfolding kind between
@@ -39,26 +39,26 @@ decimal-number (suc f) n h = go (ltb n 10) (leb→le (suc n) 10) (decimal-number
         let e : 10 * (n / 10) + ((48 + n % 10) - 48) ≡ n = omega arith in
         rw e at (Number.more r (48 + n % 10) (digit-kind (48 + n % 10) (omega arith) (omega arith)))
 
-number-printed : (n : ℕ) → n ≤ number-limit → Number n (decimal n)
-unfolding decimal most
-number-printed n h = decimal-number 3 n (omega arith)
+number-printed : (n : ℕ) → Number n (decimal n)
+unfolding decimal
+number-printed n = decimal-number n n (le-most n)
 
-low-printed : (n : ℕ) → n ≤ number-limit → Low n (print-low n)
+low-printed : (n : ℕ) → Low n (print-low n)
 unfolding print-low
-low-printed n h = go (eqb n 0) (eqb→eq n 0)
+low-printed n = go (eqb n 0) (eqb→eq n 0)
   where
     go : (b : Bool) → (T b → n ≡ 0) → Low n (elim b [ true ↦ [] | false ↦ decimal n ])
     go true t = rw (t tt) missing
-    go false t = given (number-printed n h)
+    go false t = given (number-printed n)
 
-pub count-printed : (low : ℕ) (high : Option ℕ) → Fits low high → Count low high (print-count low high)
-unfolding print-count Small
-count-printed low none (x, y, z) = from (low-printed low x)
-count-printed low (some high) (x, y, z) = go (eqb low high) (eqb→eq low high)
+pub count-printed : (low : ℕ) (high : Option ℕ) → Count low high (print-count low high)
+unfolding print-count
+count-printed low none = from (low-printed low)
+count-printed low (some high) = go (eqb low high) (eqb→eq low high)
   where
     go : (b : Bool) → (T b → low ≡ high) → Count low (some high) (elim b [ true ↦ decimal low | false ↦ print-low low ++ 46 ∷ decimal high ])
-    go true t = let e : high ≡ low = sym (t tt) in rw e (exact (number-printed low x))
-    go false t = range (low-printed low x) (number-printed high y)
+    go true t = let e : high ≡ low = sym (t tt) in rw e (exact (number-printed low))
+    go false t = range (low-printed low) (number-printed high)
 
 -- the bytes of a literal's value
 unfoldable pub Printable : Bytes → Type 0
@@ -155,7 +155,7 @@ pub printed : {s : Sort} (d : ℕ) (x : Syntax s) (w : Bytes) → Good d x → S
 unfolding Spells Cut Good print
 printed d (last a) w g h = printed d a w g h
 printed d (then a p) w (g, k) (x, y, e, h, i) = (print a, print p, refl, printed d a x g h, printed d p y k i)
-printed d (repeat low high b) w (g, k) (x, y, e, h, i) = (print-count low high, print b, refl, count-printed low high g, printed d b y k i)
+printed d (repeat low high b) w (g, k) (x, y, e, h, i) = (print-count low high, print b, refl, count-printed low high, printed d b y k i)
 printed d (codes set) w g h = letters-printed set (letters-some h) g
 printed d (literal value) w g (q, e, h) = (34 ∷ double value, refl, quoted-printed value [] (34 ∷ []) start (quoted-printable h))
 printed d (group bs) w (g, k) (x, e, h) = (print bs, refl, printed (suc d) bs x k h)

@@ -1,13 +1,13 @@
 -- No source of a good tree is shorter than the printed one. Assumes nothing.
 use mathlib.Core.Path.{_≡_, refl, ap}
-use mathlib.Core.Logic.{_↔_}
+use mathlib.Core.Logic.{_↔_, ⊎-elim}
 use mathlib.Core.Bool.{Bool, true, false, cond, _||_}
 use mathlib.Core.List.{List, [], _∷_, _++_}
 use mathlib.Core.Option.{Option}
-use Prim.Native.Nat.{ℕ, zero, suc, _+_, _-_, _*_, _/_, _%_, _^_, _≤_, _<_}
+use Prim.Native.Nat.{ℕ, suc, _+_, _-_, _*_, _/_, _^_, _≤_, _<_}
 use native.Mathlib.Omega.{arith}
 use lib.Bits.{bitOr, or-add-and, and-le-l, and-le-r}
-use lib.Dec.{T, leb, ltb, eqb, leb→le, le→leb, eqb→eq, eqb-refl}
+use lib.Dec.{T, leb, eqb, leb→le, eqb→eq, eqb-refl}
 use lib.ListN.{length, length-append}
 use Rattle.pattern.specs.Numbers.{set-limit}
 use Rattle.pattern.specs.Bytes.{Bytes, between}
@@ -17,56 +17,46 @@ use Rattle.pattern.specs.Meaning.{Cut}
 use Rattle.pattern.specs.Spelling.{plain, quoting, barred, text, Number, Low, missing, given, Count, exact, from, range, Letters, Quoted, start, byte, Spells}
 use Rattle.pattern.specs.Scan.{accepted, outcome}
 use Rattle.pattern.specs.Within.{Good}
-use Rattle.pattern.specs.Print.{decimal-of, decimal, print-low, print-count, print-set, double, print}
-use Rattle.pattern.proofs.Tests.{cond-case, all, all-at}
+use Rattle.pattern.specs.Print.{decimal, print-low, print-count, print-set, double, print}
+use Rattle.pattern.proofs.Tests.{cond-case, all, all-at, le-or-lt}
 use Rattle.pattern.proofs.Notation.{kind-byte}
+use Rattle.pattern.proofs.Decimal.{decimal-one, decimal-longer}
 use Rattle.pattern.proofs.Printed.{printed}
 use Rattle.pattern.proofs.Accepted.{accepted-exactly}
 
-number-shortest : {n : ℕ} {s : Bytes} → Number n s → (f : ℕ) → length (decimal-of f n) ≤ length s
-unfolding decimal-of
-number-shortest (Number.one c d) zero = omega arith
-number-shortest (Number.one c d) (suc f) =
-    let h : c ≤ 57 = rw d at (kind-byte c) in
-    go (ltb (c - 48) 10) (le→leb (suc (c - 48)) 10 (omega arith))
-  where
-    go : (b : Bool) → T b → length {A = ℕ} (elim b [ true ↦ (48 + (c - 48)) ∷ [] | false ↦ decimal-of f ((c - 48) / 10) ++ (48 + (c - 48) % 10) ∷ [] ]) ≤ 1
-    go true t = omega arith
-    go false t = absurd t
-number-shortest (Number.more {n} {s} h c d) zero = omega (arith, length-append s (c ∷ []))
-number-shortest (Number.more {n} {s} h c d) (suc f) =
+number-shortest : {n : ℕ} {s : Bytes} → Number n s → length (decimal n) ≤ length s
+number-shortest (Number.one c d) = let h : c ≤ 57 = rw d at (kind-byte c) in omega (arith, ap length (decimal-one (c - 48) (omega arith)))
+number-shortest (Number.more {n} {s} h c d) =
     let k : c ≤ 57 = rw d at (kind-byte c) in
     let e : (10 * n + (c - 48)) / 10 ≡ n = omega arith in
-    go (ltb (10 * n + (c - 48)) 10) e (number-shortest h f)
-  where
-    go : (b : Bool) → (10 * n + (c - 48)) / 10 ≡ n → length (decimal-of f n) ≤ length s
-        → length {A = ℕ} (elim b [ true ↦ (48 + (10 * n + (c - 48))) ∷ [] | false ↦ decimal-of f ((10 * n + (c - 48)) / 10) ++ (48 + (10 * n + (c - 48)) % 10) ∷ [] ]) ≤ length (s ++ c ∷ [])
-    go true e i = omega (arith, length-append s (c ∷ []))
-    go false e i = rw e (omega (arith, length-append s (c ∷ []), length-append (decimal-of f n) ((48 + (10 * n + (c - 48)) % 10) ∷ [])))
+    ⊎-elim
+    (λ l. omega (arith, decimal-longer (10 * n + (c - 48)) l, ap (λ m. length (decimal m)) e, number-shortest h, length-append s (c ∷ [])))
+    (λ l. omega (arith, ap length (decimal-one (10 * n + (c - 48)) l), length-append s (c ∷ [])))
+    (le-or-lt 10 (10 * n + (c - 48)))
 
 low-shortest : {n : ℕ} {s : Bytes} → Low n s → length (print-low n) ≤ length s
 unfolding print-low
 low-shortest missing = omega arith
-low-shortest (given {n} {s} h) = go (eqb n 0) (number-shortest h 3)
+low-shortest (given {n} {s} h) = go (eqb n 0) (number-shortest h)
   where
-    go : (b : Bool) → length (decimal-of 3 n) ≤ length s → length {A = ℕ} (elim b [ true ↦ [] | false ↦ decimal n ]) ≤ length s
+    go : (b : Bool) → length (decimal n) ≤ length s → length {A = ℕ} (elim b [ true ↦ [] | false ↦ decimal n ]) ≤ length s
     go true i = omega arith
-    go false i = unfold decimal in i
+    go false i = i
 
 count-shortest : {low : ℕ} {high : Option ℕ} {s : Bytes} → Count low high s → length (print-count low high) ≤ length s
-unfolding print-count decimal
-count-shortest (exact {n} {s} h) = go (eqb n n) (eqb-refl n) (number-shortest h 3)
+unfolding print-count
+count-shortest (exact {n} {s} h) = go (eqb n n) (eqb-refl n) (number-shortest h)
   where
-    go : (b : Bool) → T b → length (decimal-of 3 n) ≤ length s → length {A = ℕ} (elim b [ true ↦ decimal-of 3 n | false ↦ print-low n ++ 46 ∷ decimal-of 3 n ]) ≤ length s
+    go : (b : Bool) → T b → length (decimal n) ≤ length s → length {A = ℕ} (elim b [ true ↦ decimal n | false ↦ print-low n ++ 46 ∷ decimal n ]) ≤ length s
     go true t i = i
     go false t i = absurd t
 count-shortest (from {n} {s} h) = omega (arith, low-shortest h, length-append (print-low n) (46 ∷ []), length-append s (46 ∷ []))
-count-shortest (range {n} {m} {s} {w} h g) = go (eqb n m) (eqb→eq n m) (low-shortest h) (number-shortest g 3)
+count-shortest (range {n} {m} {s} {w} h g) = go (eqb n m) (eqb→eq n m) (low-shortest h) (number-shortest g)
   where
-    go : (b : Bool) → (T b → n ≡ m) → length (print-low n) ≤ length s → length (decimal-of 3 m) ≤ length w
-        → length {A = ℕ} (elim b [ true ↦ decimal-of 3 n | false ↦ print-low n ++ 46 ∷ decimal-of 3 m ]) ≤ length (s ++ 46 ∷ w)
+    go : (b : Bool) → (T b → n ≡ m) → length (print-low n) ≤ length s → length (decimal m) ≤ length w
+        → length {A = ℕ} (elim b [ true ↦ decimal n | false ↦ print-low n ++ 46 ∷ decimal m ]) ≤ length (s ++ 46 ∷ w)
     go true t i j = rw (t tt) (omega (arith, length-append s (46 ∷ w)))
-    go false t i j = omega (arith, length-append (print-low n) (46 ∷ decimal-of 3 m), length-append s (46 ∷ w))
+    go false t i j = omega (arith, length-append (print-low n) (46 ∷ decimal m), length-append s (46 ∷ w))
 
 -- how many letters are printed for a set
 print-size : ℕ → ℕ

@@ -1,11 +1,11 @@
 -- Stores one after the other, and what they come to. Assumes nothing.
 use mathlib.Core.Path.{_≡_, refl, sym, ap, _∙_}
 use mathlib.Core.List.{[], _∷_, _++_}
-use Prim.Native.Nat.{ℕ, suc, _+_, _≤_, _<_}
+use Prim.Native.Nat.{ℕ, suc, _+_, _-_, _≤_, _<_}
 use native.Mathlib.Omega.{arith}
 use native.Mathlib.Numerals.{add-one}
-use lib.ListN.{length, set, getD, take, length-append}
-use lib.Seq.{sets, length-sets, sets-eq, set-comm, take-suc, length-take-le}
+use lib.ListN.{length, set, getD, take, drop, length-append, take-append-drop}
+use lib.Seq.{sets, length-sets, sets-eq, set-comm, take-suc, take-at, drop-at, drop-drop, length-take-le}
 use Rattle.pattern.specs.Bytes.{Bytes, over}
 use Rattle.pattern.specs.Stores.{stored, Puts}
 
@@ -20,6 +20,10 @@ stored-none l i = refl
 pub stored-one : (l : Bytes) (i x : ℕ) → stored l i (x ∷ []) ≡ set l i x
 unfolding stored
 stored-one l i x = refl
+
+pub stored-two : (l : Bytes) (i x y : ℕ) → stored l i (x ∷ y ∷ []) ≡ set (set l i x) (i + 1) y
+unfolding stored
+stored-two l i x y = rw add-one
 
 -- a byte before others
 pub stored-first : (l : Bytes) (i x : ℕ) (v : Bytes) → stored l i (x ∷ v) ≡ stored (set l i x) (i + 1) v
@@ -57,6 +61,28 @@ stored-more l i j x v e = sym (stored-one (stored l i v) j x) ∙ stored-then l 
 -- the last byte may be stored first
 pub stored-last : (l : Bytes) (i x : ℕ) (v : Bytes) → stored l i (v ++ x ∷ []) ≡ stored (set l (i + length v) x) i v
 stored-last l i x v = sym (stored-before l i (i + length v) v (x ∷ []) refl) ∙ ap (λ (m : Bytes). stored m i v) (stored-one l (i + length v) x)
+
+-- ---- a result over lent bytes
+
+-- bytes that are the same from a place on are so from a later one
+pub same-after : (s t : Bytes) (i j : ℕ) → i ≤ j → drop i s ≡ drop i t → drop j s ≡ drop j t
+same-after s t i j h e = sym (on s) ∙ ap (drop (j - i)) e ∙ on t
+  where
+    on : (u : Bytes) → drop (j - i) (drop i u) ≡ drop j u
+    on u = let k : i + (j - i) ≡ j = omega arith in drop-drop (j - i) i u ∙ ap (λ n. drop n u) k
+
+-- bytes are the first of them over others that are the same past those
+pub over-same : (n : ℕ) (s t : Bytes) → n ≤ length s → drop n s ≡ drop n t → s ≡ over (take n s) t
+unfolding over
+over-same n s t h e = sym (take-append-drop n s) ∙ ap (λ (v : Bytes). take n s ++ v) e ∙ ap (λ k. take n s ++ drop k t) (sym (length-take-le n s h))
+
+pub take-over : (v s : Bytes) → take (length v) (over v s) ≡ v
+unfolding over
+take-over v s = take-at v (drop (length v) s) (length v) refl
+
+pub drop-over : (n : ℕ) (v s : Bytes) → length v ≤ n → drop n (over v s) ≡ drop n s
+unfolding over
+drop-over n v s h = same-after (over v s) s (length v) n h (drop-at v (drop (length v) s) (length v) refl)
 
 -- what is stored from the start is over the bytes that were there
 pub stored-over : (l v : Bytes) → length v ≤ length l → stored l 0 v ≡ over v l

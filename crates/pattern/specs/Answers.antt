@@ -4,9 +4,9 @@ use mathlib.Core.List.{List, [], _∷_}
 use mathlib.Core.Option.{Option, none, some}
 use Prim.Native.Nat.{ℕ, _+_, _*_}
 use lib.Dec.{leb, ltb}
-use lib.ListN.{length, replicate}
+use lib.ListN.{length}
 use Rattle.pattern.specs.Numbers.{label-limit, ROOM, TABLE, LABEL, WORK, PARTS, BUDGET}
-use Rattle.pattern.specs.Bytes.{Bytes, word, over}
+use Rattle.pattern.specs.Bytes.{Bytes, word, over, zeroed}
 use Rattle.pattern.specs.Syntax.{pattern, Syntax, size, top-size}
 use Rattle.pattern.specs.Parts.{verdict}
 use Rattle.pattern.specs.Trials.{trials}
@@ -69,10 +69,6 @@ pub record Matched : Type 0 where
 abbrev pub work : Syntax pattern → ℕ → ℕ
 work t n = (2 * size t + 4) * (n + 1) * (n + 1)
 
--- scratch after a match that used so many bytes of it
-unfoldable pub cleared : (used : ℕ) → Bytes → Bytes
-cleared used scratch = over (replicate used 0) scratch
-
 -- "the place where its stretch ends, 16 bits each"
 unfoldable pub part-bytes : List ℕ → Bytes
 part-bytes [] = []
@@ -96,10 +92,10 @@ pub data Ending : Type 0 where
 unfoldable pub ended : Ending → (scratch parts : Bytes) → Matched
 ended (untried number) scratch parts = record { answer = refusal number 0; scratch = scratch; parts = parts }
 ended (exhausted used budget) scratch parts =
-    record { answer = record { number = BUDGET; position = 0; value = 0; trials = budget }; scratch = cleared used scratch; parts = parts }
-ended (decided used trials none) scratch parts = record { answer = result 0 trials; scratch = cleared used scratch; parts = parts }
+    record { answer = record { number = BUDGET; position = 0; value = 0; trials = budget }; scratch = zeroed used scratch; parts = parts }
+ended (decided used trials none) scratch parts = record { answer = result 0 trials; scratch = zeroed used scratch; parts = parts }
 ended (decided used trials (some ends)) scratch parts =
-    record { answer = result 1 trials; scratch = cleared used scratch; parts = over (part-bytes ends) parts }
+    record { answer = result 1 trials; scratch = zeroed used scratch; parts = over (part-bytes ends) parts }
 
 -- a fault of what is lent; else "a verdict is given exactly when that count is within the caller's budget; otherwise the answer is refusal 15"
 unfoldable pub ending : Option ℕ → (used trials budget : ℕ) → Option (List ℕ) → Ending

@@ -5,7 +5,7 @@ use Prim.Native.Nat.{ℕ, _/_, _%_}
 use Prim.Native.Char.{code}
 use Prim.Native.String.{String, [] as end, _∷_ as _then_}
 use lib.Dec.{leb, eqb}
-use lib.ListN.{length, drop}
+use lib.ListN.{length, drop, replicate}
 
 abbrev pub Bytes : Type 0
 Bytes = List ℕ
@@ -28,6 +28,10 @@ word x s = x % 256 ∷ x / 256 ∷ s
 -- lent bytes with a result at their start; the bytes after it stay
 unfoldable pub over : Bytes → Bytes → Bytes
 over result lent = result ++ drop (length result) lent
+
+-- lent bytes with zeros over the first n: "patient data stays in no buffer"
+abbrev pub zeroed : (n : ℕ) → Bytes → Bytes
+zeroed n lent = replicate n 0 ++ drop n lent
 
 -- the bytes of a text
 unfoldable pub bytes : String → Bytes

@@ -14,9 +14,9 @@ unfoldable pub decimal-of : ℕ → ℕ → Bytes
 decimal-of zero n = (zero-byte + n) ∷ []
 decimal-of (suc f) n = elim (ltb n 10) [ true ↦ (zero-byte + n) ∷ [] | false ↦ decimal-of f (n / 10) ++ (zero-byte + n % 10) ∷ [] ]
 
--- four digits are enough for every number that fits
+-- n + 1 digits are enough for every n
 unfoldable pub decimal : ℕ → Bytes
-decimal n = decimal-of 3 n
+decimal n = decimal-of n n
 
 -- "0 left out as the first number"
 unfoldable pub print-low : ℕ → Bytes

@@ -2,11 +2,10 @@
 ghost use mathlib.Core.Path.{_≡_};
 ghost use Prim.Native.Nat.{_+_, _≤_};
 ghost use lib.ListN.{length};
-ghost use lib.Seq.{slice};
-ghost use Rattle.pattern.specs.Bytes.{same};
 ghost use Rattle.planes.specs.Filled.{span, Fit, Fillable, held-in, Filled};
 use crate::cells::blank;
 use crate::cells::mark;
+use stores::equal;
 
 // What a plane is filled with: the empty stretches; one byte of a set; some bytes from a place of the table on.
 pub enum Content {
@@ -26,21 +25,6 @@ fn width(content: Content) -> usize
     }
 }
 
-// The len bytes of the label from i on are those of the table from its place on.
-fn is_same(label: &[u8], i: usize, table: &[u8], from: usize, len: usize) -> bool
-    requires { ⌜ i + len ≤ length (now label) ⌝ ∗ ⌜ from + len ≤ length (now table) ⌝ }
-    ensures { λ r. ⌜ r ≡ same (slice i (i + len) (now (label .entry))) (slice from (from + len) (now (table .entry))) ⌝ }
-{
-    let mut k = 0;
-    while k < len {
-        if label[i + k] != table[from + k] {
-            return false;
-        }
-        k += 1;
-    }
-    true
-}
-
 // The stretch of that length that begins at i is one of those.
 fn value(table: &[u8], label: &[u8], content: Content, i: usize) -> bool
     requires { ⌜ i + span content ≤ length (now label) ⌝ ∗ ⌜ Fit (now table) content ⌝ }
@@ -49,7 +33,7 @@ fn value(table: &[u8], label: &[u8], content: Content, i: usize) -> bool
     match content {
         Content::Empty => true,
         Content::Codes(set) => codes::in_set(set, label[i]),
-        Content::Literal(from, len) => is_same(label, i, table, from, len),
+        Content::Literal(from, len) => equal(label, i, table, from, len),
     }
 }
 

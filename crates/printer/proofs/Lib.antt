@@ -1,6 +1,5 @@
 pub mod Storing
 pub mod Parting
-pub mod Digits
 pub mod Walking
 pub mod Writing
 pub mod Again

@@ -9,27 +9,15 @@ use lib.Dec.{eqb}
 use lib.ListN.{length, getD, drop, length-append}
 use lib.ListN as ListN
 use borrow.Author.Tests.{eq-eqb, ne-eqb, eqb-true, eqb-false}
-use Rattle.pattern.specs.Numbers.{number-limit, zero-byte, point-byte, quote-byte, open-high}
+use Rattle.pattern.specs.Numbers.{number-limit, point-byte, quote-byte, open-high}
 use Rattle.pattern.specs.Bytes.{Bytes}
 use Rattle.pattern.specs.Codes.{Code, all-codes}
 use Rattle.codes.specs.Rows.{letter-at}
-use Rattle.pattern.specs.Within.{Small, Fits}
 use Rattle.pattern.specs.Print.{decimal, print-low, print-count, print-set, double}
 use Rattle.pattern.specs.Decode.{high-of}
 use Rattle.pattern.proofs.Tests.{if-true, if-false}
-use Rattle.pattern.proofs.Decimal.{one-digit, more-digits, most, enough}
-use Rattle.table.proofs.Sources.{high-given, count-open, count-exact, count-two, quote-here, plain-here}
+use Rattle.table.proofs.Sources.{count-open, count-exact, count-two, quote-here, plain-here}
 use Rattle.printer.proofs.Storing.{Partly, partly-as, partly-at, partly-byte, partly-room}
-
--- ---- numbers
-
-pub decimal-one : (n : ℕ) → n < 10 → decimal n ≡ (zero-byte + n) ∷ []
-unfolding decimal
-decimal-one n h = one-digit 3 n h
-
-pub decimal-more : (n : ℕ) → 10 ≤ n → n ≤ number-limit → decimal n ≡ decimal (n / 10) ++ (zero-byte + n % 10) ∷ []
-unfolding decimal most
-decimal-more n h k = more-digits 2 n h ∙ ap (λ (v : Bytes). v ++ (zero-byte + n % 10) ∷ []) (enough 2 3 (n / 10) (omega arith) (omega arith))
 
 -- ---- counts
 
@@ -45,10 +33,6 @@ module _ (low high : ℕ) where
       go : (b : Bool) → eqb high open-high ≡ b → length (print-low low) + 1 ≤ length (print-count low (high-of high))
       go true e = omega (arith, ap length (count-open low high (eqb-true _ _ e)), length-append (print-low low) (point-byte ∷ []))
       go false e = omega (arith, ap length (count-two low high (eqb-false _ _ e) n), length-append (print-low low ++ point-byte ∷ []) (decimal high), length-append (print-low low) (point-byte ∷ []))
-
-  pub high-small : (high ≡ open-high → ⊥) → Fits low (high-of high) → high ≤ number-limit
-  unfolding Small
-  high-small n (x, y, z) = rw (high-given low high n) at y
 
 -- ---- letters
 

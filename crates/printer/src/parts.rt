@@ -1,49 +1,25 @@
 // The parts of an atom in the shortest source, each written from a place on; the answer is the place after it.
 use pattern::repeat::Repeat;
+use stores::decimal::put_decimal;
 ghost use mathlib.Core.List.{[], _∷_, _++_};
 ghost use Prim.Native.Nat.{_+_, _≤_, _<_};
 ghost use lib.ListN.{length};
-ghost use Rattle.pattern.specs.Numbers.{number-limit, quote-byte};
+ghost use Rattle.pattern.specs.Numbers.{quote-byte};
 ghost use Rattle.pattern.specs.Codes.{all-codes};
 ghost use Rattle.pattern.specs.Within.{Fits};
 ghost use Rattle.pattern.specs.Decode.{high-of};
-ghost use Rattle.pattern.specs.Print.{decimal, print-low, print-count, print-set, double};
-ghost use Rattle.printer.specs.Digits.{digit-at};
+ghost use Rattle.pattern.specs.Print.{print-low, print-count, print-set, double};
 ghost use Rattle.pattern.specs.Stores.{Puts};
-
-// The digit of a number at a unit, left out where the number is less than the unit.
-fn digit(out: &mut [u8], n: usize, x: u16, unit: u16) -> usize
-    requires { ⌜ (0 < unit) × (n + length (digit-at x unit) ≤ length (now out)) ⌝ }
-    ensures { λ r. ⌜ Puts (now (out .entry)) n (digit-at x unit) (now (out .exit)) r ⌝ }
-{
-    if x < unit {
-        return n;
-    }
-    out[n] = b'0' + (x / unit % 10) as u8;
-    n + 1
-}
-
-// A number in decimal.
-fn number(out: &mut [u8], n: usize, x: u16) -> usize
-    requires { ⌜ (x ≤ number-limit) × (n + length (decimal x) ≤ length (now out)) ⌝ }
-    ensures { λ r. ⌜ Puts (now (out .entry)) n (decimal x) (now (out .exit)) r ⌝ }
-{
-    let hundreds = digit(out, n, x, 1000);
-    let tens = digit(out, hundreds, x, 100);
-    let ones = digit(out, tens, x, 10);
-    out[ones] = b'0' + (x % 10) as u8;
-    ones + 1
-}
 
 // The first number of a count, where 0 is left out.
 fn low_number(out: &mut [u8], n: usize, low: u16) -> usize
-    requires { ⌜ (low ≤ number-limit) × (n + length (print-low low) ≤ length (now out)) ⌝ }
+    requires { ⌜ n + length (print-low low) ≤ length (now out) ⌝ }
     ensures { λ r. ⌜ Puts (now (out .entry)) n (print-low low) (now (out .exit)) r ⌝ }
 {
     if low == 0 {
         return n;
     }
-    number(out, n, low)
+    put_decimal(out, n, low as u64)
 }
 
 // A repeat count.
@@ -52,14 +28,14 @@ pub fn count(out: &mut [u8], n: usize, low: u16, high: u16) -> usize
     ensures { λ r. ⌜ Puts (now (out .entry)) n (print-count low (high-of high)) (now (out .exit)) r ⌝ }
 {
     if low == high {
-        return number(out, n, low);
+        return put_decimal(out, n, low as u64);
     }
     let m = low_number(out, n, low);
     out[m] = b'.';
     if high == Repeat::OPEN {
         return m + 1;
     }
-    number(out, m + 1, high)
+    put_decimal(out, m + 1, high as u64)
 }
 
 // The letters of a set.

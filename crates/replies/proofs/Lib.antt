@@ -1,5 +1,3 @@
-pub mod Decimals
-pub mod Digits
 pub mod Firsts
 pub mod Parts
 pub mod Replies

@@ -6,7 +6,8 @@ use native.Mathlib.Omega.{arith}
 use lib.ListN.{length, getD, drop, length-drop}
 use Rattle.pattern.specs.Numbers.{comma-byte}
 use Rattle.pattern.specs.Bytes.{Bytes}
-use Rattle.replies.specs.Text.{decimal, numbers-in, listed}
+use Rattle.pattern.specs.Print.{decimal}
+use Rattle.replies.specs.Text.{numbers-in, listed}
 use Rattle.pattern.specs.Stores.{Puts}
 use Rattle.replies.proofs.Firsts.{drop-one}
 use Rattle.pattern.proofs.Stores.{puts-then}

@@ -9,11 +9,11 @@ use lib.ListN.{length, take, drop, replicate, length-append, length-drop}
 use lib.Seq.{take-all}
 use borrow.Author.Tests.{ne-eqb, lt-ltb, le-ltb}
 use Rattle.pattern.specs.Numbers.{zero-byte, TABLE, table-room, parts-room}
-use Rattle.pattern.specs.Bytes.{Bytes, bytes}
+use Rattle.pattern.specs.Bytes.{Bytes, zeroed, bytes}
 use Rattle.pattern.specs.Syntax.{pattern, Syntax, top-size}
 use Rattle.pattern.specs.Parts.{verdict}
 use Rattle.pattern.specs.Decode.{tree-of, decode}
-use Rattle.pattern.specs.Answers.{Answer, refusal, result, Output, compileOf, Matched, cleared, untried, exhausted, decided, ended, match-ending, matchOf}
+use Rattle.pattern.specs.Answers.{Answer, refusal, result, Output, compileOf, Matched, untried, exhausted, decided, ended, match-ending, matchOf}
 use Rattle.pattern.proofs.Longest.{verdict-length}
 use Rattle.pattern.proofs.Calls.{match-cases}
 use Rattle.table.specs.declared.Sizes.{Sizes}
@@ -21,8 +21,9 @@ use Rattle.table.specs.declared.Tested.the-variants.{Bad, Good}
 use Rattle.table.specs.Walk.{tested}
 use Rattle.atoms.proofs.Goods.{tested-good, tested-bad}
 use Rattle.pattern.proofs.Tests.{if-true, if-false}
+use Rattle.pattern.specs.Print.{decimal}
 use Rattle.replies.specs.Sizes.{line-limit, budget, tab-byte, space-byte, refused-letter, number-room, coded-room, refused-room}
-use Rattle.replies.specs.Text.{decimal, coded-text, refused-text, unmatched-text, numbers-in, matched-text, ending-text}
+use Rattle.replies.specs.Text.{coded-text, refused-text, unmatched-text, numbers-in, matched-text, ending-text}
 use Rattle.replies.specs.Reply.{first, cut-at, cut, Reply, ending-reply, label-reply, table-reply, source-reply, cut-reply, reply}
 use Rattle.pattern.specs.Stores.{Puts}
 use Rattle.replies.specs.Stores.{Within, Replied}
@@ -32,7 +33,7 @@ use Rattle.matcher.specs.Answered.{answer-of as numbers-of, outcome-of}
 use Rattle.compiler.specs.declared.Compiled as compiler
 use Rattle.compiler.specs.declared.Compiled.the-variants as outcome
 use Rattle.compiler.specs.Compiling.{answer-of}
-use Rattle.replies.proofs.Decimals.{decimal-short}
+use Rattle.pattern.proofs.Decimal.{decimal-short}
 use Rattle.replies.proofs.Ends.{parts-read}
 use Rattle.pattern.proofs.Rooms.{compile-fits, compile-some}
 
@@ -88,7 +89,7 @@ module _ (scratch parts : Bytes) (T : ℕ) where
   decided-texts used trials (some ends) l = record {
     refused-is = λ h. absurd (omega arith);
     no-is = λ h k. absurd (omega arith);
-    yes-is = λ h k. ap (λ es. texted (cleared used scratch) (matched-text es)) (parts-read ends T parts (l ends refl));
+    yes-is = λ h k. ap (λ es. texted (zeroed used scratch) (matched-text es)) (parts-read ends T parts (l ends refl));
   }
 
 -- the sizes that the test answers have the T of the table's tree

@@ -9,15 +9,15 @@ use lib.Dec.{eqb, ltb}
 use lib.ListN.{length, take, drop, replicate, length-replicate, take-append-drop, replicate-append-replicate}
 use borrow.Author.Tests.{ltb-false}
 use Rattle.pattern.specs.Numbers.{label-limit, LABEL, WORK, PARTS, table-room, parts-room}
-use Rattle.pattern.specs.Bytes.{Bytes, bytes, over}
+use Rattle.pattern.specs.Bytes.{Bytes, zeroed}
 use Rattle.pattern.specs.Syntax.{pattern, Syntax, top-size}
 use Rattle.pattern.specs.Scan.{refuse}
 use Rattle.pattern.specs.Decode.{decode}
-use Rattle.pattern.specs.Answers.{compileOf, work, cleared, lent-fault, Ending, untried, exhausted, decided, ended}
+use Rattle.pattern.specs.Answers.{compileOf, work, lent-fault, Ending, untried, exhausted, decided, ended}
 use Rattle.pattern.proofs.Calls.{match-cases}
 use Rattle.replies.specs.Sizes.{line-limit, budget}
 use Rattle.replies.specs.Reply.{cut, Reply, ending-reply, label-reply, table-reply, source-reply, cut-reply, reply}
-use Rattle.replies.specs.Stores.{Zero, zeroed}
+use Rattle.replies.specs.Stores.{Zero}
 
 -- one of two, by a test
 pub either-same : {A : Type 0} (f : A → Bytes) (b : Bool) (x y : A) {s : Bytes} → f x ≡ s → f y ≡ s → f (elim b [ true ↦ x | false ↦ y ]) ≡ s
@@ -49,10 +49,8 @@ take-blank zero n h = refl
 take-blank (suc k) zero h = absurd (omega arith)
 take-blank (suc k) (suc n) h = ap (λ v. 0 ∷ v) (take-blank k n (omega arith))
 
-over-zero : (k : ℕ) (s : Bytes) → k ≤ length s → Zero s → over (blank k) s ≡ s
-unfolding over
-over-zero k s h z =
-    ap (λ n. blank k ++ drop n s) (length-replicate {A = ℕ} k 0) ∙ ap (λ v. v ++ drop k s) (sym (take-blank k (length s) h) ∙ ap (take k) (sym z)) ∙ take-append-drop k s
+zeroed-zero : (k : ℕ) (s : Bytes) → k ≤ length s → Zero s → zeroed k s ≡ s
+zeroed-zero k s h z = ap (λ v. v ++ drop k s) (sym (take-blank k (length s) h) ∙ ap (take k) (sym z)) ∙ take-append-drop k s
 
 -- ---- scratch of zeros stays so: after a match and after a line
 
@@ -76,11 +74,11 @@ Used (decided used trials v) n = used ≤ n
 
 module _ (scratch : Bytes) (z : Zero scratch) where
   ended-same : (parts : Bytes) (e : Ending) → Used e (length scratch) → ended e scratch parts .scratch ≡ scratch
-  unfolding ended cleared Used
+  unfolding ended Used
   ended-same parts (untried number) h = refl
-  ended-same parts (exhausted used budget) h = over-zero used scratch h z
-  ended-same parts (decided used trials none) h = over-zero used scratch h z
-  ended-same parts (decided used trials (some ends)) h = over-zero used scratch h z
+  ended-same parts (exhausted used budget) h = zeroed-zero used scratch h z
+  ended-same parts (decided used trials none) h = zeroed-zero used scratch h z
+  ended-same parts (decided used trials (some ends)) h = zeroed-zero used scratch h z
 
   label-same : (table label : Bytes) → label-reply table label scratch .scratch ≡ scratch
   unfolding label-reply ending-reply Used

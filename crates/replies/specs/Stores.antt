@@ -1,15 +1,10 @@
--- Lent bytes after a text of limited length is stored in them, or zeros. Assumes nothing.
+-- Lent bytes after a text of limited length is stored in them, and bytes that are zero. Assumes nothing.
 use mathlib.Core.Path.{_≡_}
-use mathlib.Core.List.{_++_}
 use Prim.Native.Nat.{ℕ, _+_, _≤_}
-use lib.ListN.{length, drop, replicate}
+use lib.ListN.{length, replicate}
 use Rattle.pattern.specs.Bytes.{Bytes}
 use Rattle.pattern.specs.Stores.{Puts}
 use Rattle.replies.specs.Reply.{Reply}
-
--- lent bytes with zeros over the first n: "patient data stays in no buffer"
-abbrev pub zeroed : (n : ℕ) → Bytes → Bytes
-zeroed n lent = replicate n 0 ++ drop n lent
 
 -- every byte is zero
 abbrev pub Zero : Bytes → Type 0

@@ -4,13 +4,9 @@ use mathlib.Core.Option.{none, some}
 use Prim.Native.Nat.{ℕ, _+_, _*_}
 use Rattle.pattern.specs.Numbers.{comma-byte, BUDGET}
 use Rattle.pattern.specs.Bytes.{Bytes, bytes}
-use Rattle.pattern.specs.Print.{decimal-of}
+use Rattle.pattern.specs.Print.{decimal}
 use Rattle.pattern.specs.Answers.{Ending, untried, exhausted, decided}
 use Rattle.replies.specs.Sizes.{space-byte, refused-letter, unmatched-letter}
-
--- a number in decimal
-unfoldable pub decimal : ℕ → Bytes
-decimal n = decimal-of n n
 
 -- a letter, a space and a number
 unfoldable pub coded-text : (letter number : ℕ) → Bytes

@@ -17,6 +17,7 @@ use crate::sizes::TABLE_ROOM;
 use crate::text;
 use compiler::Compiled;
 use pattern::refusal;
+use stores::put_byte;
 use table::Sizes;
 use table::Tested;
 
@@ -52,7 +53,7 @@ fn put_match(
         return text::put_unmatched(a.number as u64, out, at);
     }
     if a.value == 0 {
-        return text::put_byte(b'0', out, at);
+        return put_byte(out, at, b'0');
     }
     text::put_matched(&parts[..2 * sizes.top], out, at)
 }
@@ -87,11 +88,11 @@ fn put_reply(line: &[u8], scratch: &mut [u8], out: &mut [u8], at: usize) -> usiz
     ensures { λ r. ⌜ Replied reply-room (reply (now (line .entry)) (now (scratch .entry))) (now (out .entry)) at (now (scratch .exit)) (now (out .exit)) r ⌝ }
 {
     if LINE_LIMIT < line.len() {
-        return text::put_byte(b'L', out, at);
+        return put_byte(out, at, b'L');
     }
     let tab = tab_at(line);
     if line.len() <= tab {
-        return text::put_byte(b'T', out, at);
+        return put_byte(out, at, b'T');
     }
     put_cut(&line[..tab], &line[tab + 1..], scratch, out, at)
 }
@@ -102,5 +103,5 @@ pub fn answer_line(line: &[u8], scratch: &mut [u8], out: &mut [u8], at: usize) -
     ensures { λ r. ⌜ Replied (reply-room + 1) (answer-to (now (line .entry)) (now (scratch .entry))) (now (out .entry)) at (now (scratch .exit)) (now (out .exit)) r ⌝ }
 {
     let end = put_reply(line, scratch, out, at);
-    text::put_byte(NEWLINE, out, end)
+    put_byte(out, end, NEWLINE)
 }

@@ -41,7 +41,7 @@ pub clean-spells : {s : Sort} (d : ℕ) (x : Syntax s) → Good d x → Clean x 
 unfolding Spells Cut Good Clean print
 clean-spells d (last a) g c = clean-spells d a g c
 clean-spells d (then a p) (g, k) (c, e) = (print a, print p, refl, clean-spells d a g c, clean-spells d p k e)
-clean-spells d (repeat low high b) (g, k) c = (print-count low high, print b, refl, count-printed low high g, clean-spells d b k c)
+clean-spells d (repeat low high b) (g, k) c = (print-count low high, print b, refl, count-printed low high, clean-spells d b k c)
 clean-spells d (codes set) g c = letters-printed set c g
 clean-spells d (literal value) g c = (quote-byte ∷ double value, refl, quoted-printed value [] (quote-byte ∷ []) start (plain-printable value c))
 clean-spells d (group bs) (g, k) c = (print bs, refl, clean-spells (suc d) bs k c)

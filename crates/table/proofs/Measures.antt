@@ -7,15 +7,14 @@ use native.Mathlib.Numerals.{add-one}
 use native.Mathlib.Omega.{arith}
 use lib.Dec.{T, leb, eqb, eqb→eq, leb→le}
 use lib.ListN.{length, getD, take, drop, length-append, drop-of-length-le}
-use lib.Seq.{drop-cons, getD-take, length-take-le}
+use lib.Seq.{drop-cons}
 use borrow.Author.Tests.{le-leb, lt-leb, eq-eqb, ne-eqb}
 use Rattle.pattern.specs.Numbers.{point-byte, quote-byte, open-high, atoms-place, header-size}
 use Rattle.pattern.specs.Bytes.{Bytes, between, same}
 use Rattle.pattern.specs.Codes.{all-codes}
-use Rattle.pattern.specs.Print.{decimal-of, decimal, print-low, print-count, print-set, double}
+use Rattle.pattern.specs.Print.{decimal, print-low, print-count, print-set, double}
 use Rattle.pattern.specs.Decode.{high-of}
 use Rattle.pattern.proofs.Tests.{and-both, all, all-at}
-use Rattle.pattern.proofs.Decimal.{one-digit, more-digits}
 use Rattle.table.specs.Headers.{pick, first-bytes, header-of, headed, read-header}
 use Rattle.table.specs.Checked.{plain}
 use Rattle.table.specs.Leaves.{text-of}
@@ -23,34 +22,6 @@ use Rattle.table.specs.declared.header.HeaderRead.{HeaderRead}
 use Rattle.table.specs.declared.header.HeaderRead.the-variants as head
 use Rattle.table.specs.declared.lengths.Text.the-variants as texts
 use Rattle.table.proofs.Sources.{count-open, count-two, quote-here, plain-here, double-end}
-
--- ---- numbers
-
-few : (f n : ℕ) → n < 10 → length (decimal-of f n) ≡ 1
-few f n h = ap length (one-digit f n h)
-
-more : (f n : ℕ) → 10 ≤ n → length (decimal-of (suc f) n) ≡ length (decimal-of f (n / 10)) + 1
-more f n h = ap length (more-digits f n h) ∙ length-append (decimal-of f (n / 10)) _
-
-last-digit : (n : ℕ) → length (decimal-of 0 n) ≡ 1
-unfolding decimal-of
-last-digit n = refl
-
-pub digits-1 : (n : ℕ) → n < 10 → 1 ≡ length (decimal n)
-unfolding decimal
-digits-1 n h = sym (few 3 n h)
-
-pub digits-2 : (n : ℕ) → 10 ≤ n → n < 100 → 2 ≡ length (decimal n)
-unfolding decimal
-digits-2 n h k = omega (arith, more 2 n h, few 2 (n / 10) (omega arith))
-
-pub digits-3 : (n : ℕ) → 100 ≤ n → n < 1000 → 3 ≡ length (decimal n)
-unfolding decimal
-digits-3 n h k = omega (arith, more 2 n (omega arith), more 1 (n / 10) (omega arith), few 1 (n / 10 / 10) (omega arith))
-
-pub digits-4 : (n : ℕ) → 1000 ≤ n → 4 ≡ length (decimal n)
-unfolding decimal
-digits-4 n h = omega (arith, more 2 n (omega arith), more 1 (n / 10) (omega arith), more 0 (n / 10 / 10) (omega arith), last-digit (n / 10 / 10 / 10))
 
 -- ---- counts
 
@@ -82,12 +53,6 @@ letters-at set h =
 
 -- ---- steps along lists
 
-same-step : (u v : Bytes) (i j : ℕ) → j ≡ i + 1 → i < length u → i < length v → same (drop i u) (drop i v) ≡ eqb (getD u i 0) (getD v i 0) && same (drop j u) (drop j v)
-unfolding same
-same-step u v i j e h k =
-    let n : suc i ≡ j = omega (arith, e) in
-    ap₂ same (drop-cons u i 0 h) (drop-cons v i 0 k) ∙ ap (λ m. eqb (getD u i 0) (getD v i 0) && same (drop m u) (drop m v)) n
-
 plain-step : (v : Bytes) (i j : ℕ) → j ≡ i + 1 → i < length v → plain (drop i v) ≡ (leb 32 (getD v i 0) && leb (getD v i 0) 126) && plain (drop j v)
 unfolding plain between
 plain-step v i j e h =
@@ -103,32 +68,6 @@ double-length (b ∷ v) = go (eqb b quote-byte) (double-length v)
     go : (t : Bool) → length (double v) ≤ 2 * length v → length {A = ℕ} (elim t [ true ↦ quote-byte ∷ quote-byte ∷ double v | false ↦ b ∷ double v ]) ≤ 2 * suc (length v)
     go true h = omega arith
     go false h = omega arith
-
--- ---- the mark, byte by byte
-
-whole : (k : ℕ) {m : ℕ} → m ≡ k → m ≤ k
-whole k e = omega arith
-
-module _ (t : Bytes) (i : ℕ) (long : atoms-place ≤ length t) where
-  abbrev Marked : ℕ → Type 0
-  Marked k = same (take atoms-place t) first-bytes ≡ same (drop k (take atoms-place t)) (drop k first-bytes)
-
-  mark-step : i < atoms-place → same (drop i (take atoms-place t)) (drop i first-bytes) ≡ eqb (getD t i 0) (getD first-bytes i 0) && same (drop (i + 1) (take atoms-place t)) (drop (i + 1) first-bytes)
-  mark-step h =
-      same-step (take atoms-place t) first-bytes i (i + 1) refl (omega (arith, length-take-le atoms-place t long)) h
-      ∙ ap (λ x. eqb x (getD first-bytes i 0) && same (drop (i + 1) (take atoms-place t)) (drop (i + 1) first-bytes)) (getD-take atoms-place t i 0 h)
-
-  pub mark-off : i < atoms-place → Marked i → (getD t i 0 ≡ getD first-bytes i 0 → ⊥) → false ≡ same (take atoms-place t) first-bytes
-  mark-off h e n = sym (e ∙ mark-step h ∙ ap (λ b. b && same (drop (i + 1) (take atoms-place t)) (drop (i + 1) first-bytes)) (ne-eqb _ _ n))
-
-  pub mark-on : i < atoms-place → Marked i → getD t i 0 ≡ getD first-bytes i 0 → Marked (i + 1)
-  mark-on h e n = e ∙ mark-step h ∙ ap (λ b. b && same (drop (i + 1) (take atoms-place t)) (drop (i + 1) first-bytes)) (eq-eqb _ _ n)
-
-  pub mark-end : i ≤ atoms-place → atoms-place ≤ i → Marked i → true ≡ same (take atoms-place t) first-bytes
-  unfolding same
-  mark-end h k e =
-      let n : i ≡ atoms-place = omega arith in
-      sym (e ∙ ap (λ j. same (drop j (take atoms-place t)) (drop j first-bytes)) n ∙ ap (λ l. same l []) (drop-of-length-le (take atoms-place t) (whole atoms-place (length-take-le atoms-place t long))))
 
 -- ---- a literal, byte by byte
 

@@ -35,7 +35,7 @@ module _ {s : Bytes} {A : ℕ} {at : Place} where
     ready-again m =
         record { few = r .few; small = r .small; atom = m .atom; pool = m .pool; source = omega (arith, m .source, r .source); shallow = r .shallow }
 
-    pub ready-inside : (c : ℕ) → c ≤ 9 → at .atom < A → d < depth-limit → Ready s A (bracket-on at c) (d + 1)
+    pub ready-inside : (c : ℕ) → c ≤ 11 → at .atom < A → d < depth-limit → Ready s A (bracket-on at c) (d + 1)
     ready-inside c e f g =
         record { few = r .few; small = r .small; atom = omega arith; pool = r .pool; source = omega (arith, r .source); shallow = omega arith }
 
@@ -55,10 +55,10 @@ module _ {s : Bytes} {A : ℕ} {at : Place} where
   moved-again m n =
       record { on = omega (arith, m .on, n .on); atom = n .atom; pool = n .pool; source = omega (arith, m .source, n .source) }
 
-  pub moved-group : (c : ℕ) {dest : Place} → c ≤ 9 → Moved s A (bracket-on at c) dest → Moved s A at (byte-on dest)
+  pub moved-group : (c : ℕ) {dest : Place} → c ≤ 11 → Moved s A (bracket-on at c) dest → Moved s A at (byte-on dest)
   moved-group c e n = record { on = omega (arith, n .on); atom = n .atom; pool = n .pool; source = omega (arith, n .source) }
 
-  pub moved-leaf : (c v w : ℕ) → c ≤ 9 → at .atom < A → record-size * A + at .pool + v ≤ length s → w ≤ 2 * v + 9 → Moved s A at (leaf-on at c v w)
+  pub moved-leaf : (c v w : ℕ) → c ≤ 11 → at .atom < A → record-size * A + at .pool + v ≤ length s → w ≤ 2 * v + 7 → Moved s A at (leaf-on at c v w)
   moved-leaf c v w e f g k = record { on = omega arith; atom = omega arith; pool = omega (arith, g); source = omega arith }
 
   pub past-again : {next : Place} (x : Passed) → Moved s A at next → Past s A (byte-on next) x → Past s A at x

@@ -32,7 +32,7 @@ pub record Counted (s : Bytes) (A : ℕ) (at : Place) (d : ℕ) (r : Record) (c 
   pub same : r ≡ record-of (its s A (at .atom))
   pub fits : ordered (r .low) (r .high) ≡ true
   pub count : c ≡ length (print-count (r .low) (high-of (r .high)))
-  pub short : c ≤ 9
+  pub short : c ≤ 11
 
 module _ {s : Bytes} {A : ℕ} {at : Place} {d : ℕ} {r : Record} {c : ℕ} (h : Counted s A at d r c) where
   module _ (k : r .kind ≡ 3 → ⊥) {x : Leaf} (l : LeafRead s A (at .pool) (leaf-read s A (r .kind) (r .a) (r .b) (at .pool)) x) where

@@ -25,7 +25,7 @@ leaf-of none = leaf.Bad
 
 -- a leaf's bytes keep within the pool, and are few in the source
 abbrev pub Short : Bytes → (A p : ℕ) → Leaf → Type 0
-Short s A p (leaf.Is v w) = (record-size * A + p + v ≤ length s) × (w ≤ 2 * v + 9)
+Short s A p (leaf.Is v w) = (record-size * A + p + v ≤ length s) × (w ≤ 2 * v + 7)
 Short s A p leaf.Bad = Unit {0}
 
 -- where a leaf may be read

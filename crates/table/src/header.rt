@@ -1,9 +1,10 @@
 // The header of a table.
+use pattern::limits;
 use pattern::limits::ATOMS_PLACE;
 use pattern::limits::HEADER_SIZE;
 use pattern::limits::LENGTH_PLACE;
-use pattern::limits::MARK;
 use pattern::limits::RECORD_SIZE;
+use stores::equal;
 ghost use mathlib.Core.Path.{_≡_};
 ghost use Prim.Native.Nat.{_≤_};
 ghost use lib.ListN.{length, take};
@@ -29,14 +30,8 @@ fn marked(table: &[u8]) -> bool
     requires { ⌜ atoms-place ≤ length (now table) ⌝ }
     ensures { λ r. ⌜ r ≡ same (take atoms-place (now (table .entry))) first-bytes ⌝ }
 {
-    let mut i = 0;
-    while i < ATOMS_PLACE {
-        if table[i] != MARK[i] {
-            return false;
-        }
-        i += 1;
-    }
-    true
+    let mark = limits::marked();
+    equal(table, 0, &mark, 0, ATOMS_PLACE)
 }
 
 // What the header says, where there are bytes enough for one.

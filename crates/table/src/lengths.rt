@@ -1,5 +1,6 @@
 // How many bytes the parts of an atom have in the shortest source.
 use pattern::repeat::Repeat;
+use stores::decimal::decimal_length;
 ghost use mathlib.Core.Path.{_≡_};
 ghost use Prim.Native.Nat.{_≤_, _<_};
 ghost use lib.ListN.{length};
@@ -20,29 +21,20 @@ pub enum Text {
 
 // The digits of a repeat number.
 fn digits(n: u16) -> usize
-    ensures { λ r. ⌜ (r ≡ length (decimal n)) × (r ≤ 4) ⌝ }
+    ensures { λ r. ⌜ (r ≡ length (decimal n)) × (r ≤ 5) ⌝ }
 {
-    if n < 10 {
-        return 1;
-    }
-    if n < 100 {
-        return 2;
-    }
-    if n < 1000 {
-        return 3;
-    }
-    4
+    decimal_length(n as u64)
 }
 
 fn low_length(low: u16) -> usize
-    ensures { λ r. ⌜ (r ≡ length (print-low low)) × (r ≤ 4) ⌝ }
+    ensures { λ r. ⌜ (r ≡ length (print-low low)) × (r ≤ 5) ⌝ }
 {
     if low == 0 { 0 } else { digits(low) }
 }
 
 // The bytes of a repeat count.
 pub fn count_length(low: u16, high: u16) -> usize
-    ensures { λ r. ⌜ (r ≡ length (print-count low (high-of high))) × (r ≤ 9) ⌝ }
+    ensures { λ r. ⌜ (r ≡ length (print-count low (high-of high))) × (r ≤ 11) ⌝ }
 {
     if high == Repeat::OPEN {
         return low_length(low) + 1;

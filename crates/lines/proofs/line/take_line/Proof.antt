@@ -8,7 +8,7 @@ use lib.Seq.{slice, drop-set-lt}
 use Rattle.replies.specs.Sizes.{held-limit}
 use Rattle.lines.specs.Output.{lines-in}
 use Rattle.lines.specs.Taking.{one-line}
-use Rattle.lines.proofs.Answering.{same-after}
+use Rattle.pattern.proofs.Stores.{same-after}
 use Rattle.lines.proofs.Lines.{taken-nothing, turn-newline, turn-room, turn-full}
 use Rattle.lines.proofs.line.take_line.Statement.{statement}
 use Rattle.lines.proofs.line.take_line.Tie as tie

@@ -3,6 +3,7 @@ use mathlib.Core.Path.{_∙_}
 use Prim.Native.Nat.{_-_}
 use native.Mathlib.Omega.{arith}
 use Rattle.pattern.proofs.RoundTrip.{some-atom}
+use Rattle.pattern.proofs.Stores.{puts-length}
 use denote.Ref.{now}
 use Rattle.atoms.specs.Atoms.{atoms, node, head}
 use Rattle.matcher.proofs.Groups.{work-few}
@@ -22,14 +23,17 @@ loop-holds c = parts-start _ _ _ _ _ (c .before .before .before .before .pre)
 record-at-requires : tie.Need-record-at-requires Inv-loop μ-loop
 record-at-requires c κs = record { good = c .before .before .before .before .before .pre .work .good; there = c .loop .inv .there }
 
-put-requires : tie.Need-put-requires Inv-loop μ-loop
-put-requires c κs =
+cast-put16 : tie.Need-cast-put16 Inv-loop μ-loop
+cast-put16 c = omega (arith, c .before .before .before .before .before .before .before .before .before .pre .work .short)
+
+put16-requires : tie.Need-put16-requires Inv-loop μ-loop
+put16-requires c κs =
     let turn = c .before .before .before .before in
     let start = turn .before .before .before .before .before in
-    (parts-room _ _ _ _ _ (start .pre) _ _ _ _ (turn .loop .inv), omega (arith, start .pre .work .short))
+    parts-room _ _ _ _ _ (start .pre) _ _ _ _ (turn .loop .inv)
 
 same-length : tie.Need-same-length Inv-loop μ-loop
-same-length c = c .before .before .put .kept .0 ∙ c .before .before .before .before .before .before .before .loop .inv .long
+same-length c = c .before .before .put16 .kept .0 ∙ puts-length (c .before .before .before .before .before .before .before .loop .inv .puts)
 
 returns : tie.Need-returns Inv-loop μ-loop
 returns c =
@@ -37,7 +41,7 @@ returns c =
     let after-record-at = after-if1 .before .before in
     let turn = after-record-at .before in
     let start = turn .before .before .before .before .before in
-    parts-end _ _ _ _ _ (start .pre) _ _ _ _ (turn .loop .inv) _ (after-record-at .record-at .ensures) (after-if1 .if1 .taken) _ (c .before .before .put .ensures)
+    parts-end _ _ _ _ _ (start .pre) _ _ _ _ (turn .loop .inv) _ (after-record-at .record-at .ensures) (after-if1 .if1 .taken) _ (c .before .before .put16 .ensures)
 
 next-atom-requires : tie.Need-next-atom-requires Inv-loop μ-loop
 next-atom-requires c κs = record { good = c .before .before .before .before .before .before .before .before .pre .work .good; there = c .before .before .before .loop .inv .there }
@@ -76,23 +80,25 @@ last-end-requires c κs =
       ),
     )
 
-put-requires-2 : tie.Need-put-requires-2 Inv-loop μ-loop
-put-requires-2 c κs =
+cast-put16-2 : tie.Need-cast-put16-2 Inv-loop μ-loop
+cast-put16-2 c =
     let after-if1 = c .before .before .before in
     let after-record-at = after-if1 .before .before in
     let turn = after-record-at .before in
     let start = turn .before .before .before .before .before in
     let p = start .pre in
-    let l = turn .loop in (
-      parts-room _ _ _ _ _ p _ _ _ _ (l .inv),
-      omega (arith, p .work .short, parts-in _ _ _ _ _ p _ _ _ _ (l .inv) _ (after-record-at .record-at .ensures) (after-if1 .if1 .left) _ (c .before .before .next-atom .ensures) _ (c .before .last-end .ensures)),
-    )
+    omega (arith, p .work .short, parts-in _ _ _ _ _ p _ _ _ _ (turn .loop .inv) _ (after-record-at .record-at .ensures) (after-if1 .if1 .left) _ (c .before .before .next-atom .ensures) _ (c .before .last-end .ensures))
+
+put16-requires-2 : tie.Need-put16-requires-2 Inv-loop μ-loop
+put16-requires-2 c κs =
+    let turn = c .before .before .before .before .before .before in
+    parts-room _ _ _ _ _ (turn .before .before .before .before .before .pre) _ _ _ _ (turn .loop .inv)
 
 add-at : tie.Need-add-at Inv-loop μ-loop
 add-at c =
     let turn = c .before .before .before .before .before .before .before .before .before in
     let start = turn .before .before .before .before .before in
-    omega (arith, parts-room _ _ _ _ _ (start .pre) _ _ _ _ (turn .loop .inv), turn .loop .inv .long)
+    omega (arith, parts-room _ _ _ _ _ (start .pre) _ _ _ _ (turn .loop .inv), puts-length (turn .loop .inv .puts))
 
 loop-less : tie.Need-loop-less Inv-loop μ-loop
 loop-less c =
@@ -112,9 +118,9 @@ loop-again c =
     let after-record-at = after-if1 .before .before in
     let turn = after-record-at .before in
     let start = turn .before .before .before .before .before in
-    parts-step _ _ _ _ _ (start .pre) _ _ _ _ (turn .loop .inv) _ (after-record-at .record-at .ensures) (after-if1 .if1 .left) _ (after-next-atom .next-atom .ensures) _ (after-last-end .last-end .ensures) _ (c .before .before .put2 .ensures)
+    parts-step _ _ _ _ _ (start .pre) _ _ _ _ (turn .loop .inv) _ (after-record-at .record-at .ensures) (after-if1 .if1 .left) _ (after-next-atom .next-atom .ensures) _ (after-last-end .last-end .ensures) _ (c .before .before .put162 .ensures)
 
 pub write-parts-spec : {M : Type 1} → statement M
 write-parts-spec =
     tie.close
-    (tie.spec Inv-loop μ-loop loop-holds record-at-requires put-requires same-length returns next-atom-requires mul-last-end mul-last-end-2 add-last-end last-end-requires put-requires-2 add-at loop-less loop-again)
+    (tie.spec Inv-loop μ-loop loop-holds record-at-requires cast-put16 put16-requires same-length returns next-atom-requires mul-last-end mul-last-end-2 add-last-end last-end-requires cast-put16-2 put16-requires-2 add-at loop-less loop-again)

@@ -22,8 +22,8 @@ in-set-requires c κs = search needs
 enum-known-content-2 : tie.Need-enum-known-content-2
 enum-known-content-2 c = search needs
 
-is-same-requires : tie.Need-is-same-requires
-is-same-requires c κs = let s = c .before .before .before .before .before in value-literal (now (s .args .table)) (now (s .args .label)) (s .args .i) (s .pre .0) _ _ (c .before .content2 .given .1) (s .pre .1)
+equal-requires : tie.Need-equal-requires
+equal-requires c κs = let s = c .before .before .before .before .before in value-literal (now (s .args .table)) (now (s .args .label)) (s .args .i) (s .pre .0) _ _ (c .before .content2 .given .1) (s .pre .1)
 
 returns : tie.Need-returns
 returns c = sym (value-empty _ _ _ (c .enum-told .given .1))
@@ -33,7 +33,7 @@ returns-2 c = c .in-set .ensures ∙ sym (value-codes _ _ _ (c .before .before .
 
 returns-3 : tie.Need-returns-3
 unfolding held-in
-returns-3 c = rw (c .before .before .content2 .given .1) (c .is-same .ensures)
+returns-3 c = rw (c .before .before .content2 .given .1) (c .equal .ensures)
 
 pub value-spec : {M : Type 1} → statement M
-value-spec = tie.close (tie.spec enum-told enum-known-content shared-slice-read-in-set in-set-requires enum-known-content-2 is-same-requires returns returns-2 returns-3)
+value-spec = tie.close (tie.spec enum-told enum-known-content shared-slice-read-in-set in-set-requires enum-known-content-2 equal-requires returns returns-2 returns-3)

@@ -11,16 +11,16 @@ use Rattle.printer.proofs.parts.low_number.Tie as tie
 returns : tie.Need-returns
 returns c = puts-as (puts-none (c .before .before .args .out .now) (c .before .before .args .n)) (sym (low-zero (c .before .before .args .low) (c .if1 .taken)))
 
-number-requires : tie.Need-number-requires
-number-requires c κs =
+put-decimal-requires : tie.Need-put-decimal-requires
+put-decimal-requires c κs =
     let start = c .before .before .before in
-    (start .pre .0, omega (arith, start .pre .1, ap length (low-other (start .args .low) (c .before .if1 .left))))
+    omega (arith, start .pre, ap length (low-other (start .args .low) (c .before .if1 .left)))
 
 same-length : tie.Need-same-length
 same-length c = search needs
 
 returns-2 : tie.Need-returns-2
-returns-2 c = puts-as (c .before .before .number .ensures) (sym (low-other (c .before .before .before .before .before .before .args .low) (c .before .before .before .before .if1 .left)))
+returns-2 c = puts-as (c .before .before .put-decimal .ensures) (sym (low-other (c .before .before .before .before .before .before .args .low) (c .before .before .before .before .if1 .left)))
 
 pub low-number-spec : {M : Type 1} → statement M
-low-number-spec = tie.close (tie.spec returns number-requires same-length returns-2)
+low-number-spec = tie.close (tie.spec returns put-decimal-requires same-length returns-2)

@@ -2,7 +2,7 @@
 use native.Mathlib.Omega.{arith}
 use Rattle.replies.specs.Text.{coded-text}
 use Rattle.pattern.proofs.Stores.{puts-then}
-use Rattle.replies.proofs.Decimals.{decimal-short}
+use Rattle.pattern.proofs.Decimal.{decimal-short}
 use borrow.Author.Needs.{needs}
 use Rattle.replies.proofs.text.put_coded.Statement.{statement}
 use Rattle.replies.proofs.text.put_coded.Tie as tie
@@ -13,8 +13,8 @@ put-byte-requires c κs = search needs
 put-byte-requires-2 : tie.Need-put-byte-requires-2
 put-byte-requires-2 c κs = search needs
 
-put-number-requires : tie.Need-put-number-requires
-put-number-requires c κs =
+put-decimal-requires : tie.Need-put-decimal-requires
+put-decimal-requires c κs =
     let after-put-byte2 = c .before .before .before in
     let after-put-byte = after-put-byte2 .before .before .before .before in
     let start = after-put-byte .before .before .before in
@@ -28,9 +28,9 @@ unfolding coded-text
 returns c =
     let after-put-byte2 = c .before .before .before .before .before .before in
     let after-put-byte = after-put-byte2 .before .before .before .before in
-    puts-then (puts-then (after-put-byte .put-byte .ensures) (after-put-byte2 .put-byte2 .ensures)) (c .before .before .put-number .ensures)
+    puts-then (puts-then (after-put-byte .put-byte .ensures) (after-put-byte2 .put-byte2 .ensures)) (c .before .before .put-decimal .ensures)
 
 pub put-coded-spec : {M : Type 1} → statement M
 put-coded-spec =
     tie.close
-    (tie.spec put-byte-requires put-byte-requires-2 put-number-requires same-length returns)
+    (tie.spec put-byte-requires put-byte-requires-2 put-decimal-requires same-length returns)

@@ -8,7 +8,7 @@ use Rattle.replies.specs.Sizes.{space-byte}
 use Rattle.replies.specs.Text.{numbers-in, listed, matched-text}
 use Rattle.pattern.specs.Stores.{Puts}
 use Rattle.pattern.proofs.Stores.{puts-then, puts-length, puts-none, puts-as}
-use Rattle.replies.proofs.Decimals.{decimal-short}
+use Rattle.pattern.proofs.Decimal.{decimal-short}
 use Rattle.replies.proofs.Parts.{listed-join, listed-none}
 use Rattle.replies.proofs.text.put_matched.Statement.{statement}
 use Rattle.replies.proofs.text.put_matched.Tie as tie

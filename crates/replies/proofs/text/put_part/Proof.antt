@@ -2,7 +2,7 @@
 use Prim.Native.Nat.{_+_, _*_}
 use native.Mathlib.Omega.{arith}
 use Rattle.pattern.proofs.Stores.{puts-then}
-use Rattle.replies.proofs.Decimals.{decimal-short}
+use Rattle.pattern.proofs.Decimal.{decimal-short}
 use borrow.Author.Needs.{needs}
 use Rattle.replies.proofs.text.put_part.Statement.{statement}
 use Rattle.replies.proofs.text.put_part.Tie as tie
@@ -10,14 +10,14 @@ use Rattle.replies.proofs.text.put_part.Tie as tie
 put-byte-requires : tie.Need-put-byte-requires
 put-byte-requires c κs = search needs
 
-mul-put-number : tie.Need-mul-put-number
-mul-put-number c = search needs
+mul-put-decimal : tie.Need-mul-put-decimal
+mul-put-decimal c = search needs
 
-add-put-number : tie.Need-add-put-number
-add-put-number c = search needs
+add-put-decimal : tie.Need-add-put-decimal
+add-put-decimal c = search needs
 
-put-number-requires : tie.Need-put-number-requires
-put-number-requires c κs =
+put-decimal-requires : tie.Need-put-decimal-requires
+put-decimal-requires c κs =
     let a = c .before .before .before .before .before .before .args in
     omega (arith, c .before .before .before .put-byte .ensures .next, decimal-short 4 (a .low + 256 * a .high) (omega arith))
 
@@ -25,15 +25,15 @@ same-length : tie.Need-same-length
 same-length c = search needs
 
 returns : tie.Need-returns
-returns c = puts-then (c .before .before .before .before .before .before .put-byte .ensures) (c .before .before .put-number .ensures)
+returns c = puts-then (c .before .before .before .before .before .before .put-byte .ensures) (c .before .before .put-decimal .ensures)
 
 pub put-part-spec : {M : Type 1} → statement M
 put-part-spec =
     tie.close
     (tie.spec
     put-byte-requires
-    mul-put-number
-    add-put-number
-    put-number-requires
+    mul-put-decimal
+    add-put-decimal
+    put-decimal-requires
     same-length
     returns)

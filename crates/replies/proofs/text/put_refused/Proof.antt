@@ -2,7 +2,7 @@
 use native.Mathlib.Omega.{arith}
 use Rattle.replies.specs.Text.{coded-text, refused-text}
 use Rattle.pattern.proofs.Stores.{puts-then}
-use Rattle.replies.proofs.Decimals.{decimal-short}
+use Rattle.pattern.proofs.Decimal.{decimal-short}
 use borrow.Author.Needs.{needs}
 use Rattle.replies.proofs.text.put_refused.Statement.{statement}
 use Rattle.replies.proofs.text.put_refused.Tie as tie
@@ -14,9 +14,9 @@ put-byte-requires : tie.Need-put-byte-requires
 unfolding coded-text
 put-byte-requires c κs = omega (arith, c .before .before .before .put-coded .ensures .next, decimal-short 19 (c .before .before .before .before .before .before .args .number) (omega arith))
 
-put-number-requires : tie.Need-put-number-requires
+put-decimal-requires : tie.Need-put-decimal-requires
 unfolding coded-text
-put-number-requires c κs =
+put-decimal-requires c κs =
     let after-put-byte = c .before .before .before in
     let after-put-coded = after-put-byte .before .before .before .before in
     let start = after-put-coded .before .before .before in
@@ -30,9 +30,9 @@ unfolding refused-text
 returns c =
     let after-put-byte = c .before .before .before .before .before .before in
     let after-put-coded = after-put-byte .before .before .before .before in
-    puts-then (after-put-coded .put-coded .ensures) (puts-then (after-put-byte .put-byte .ensures) (c .before .before .put-number .ensures))
+    puts-then (after-put-coded .put-coded .ensures) (puts-then (after-put-byte .put-byte .ensures) (c .before .before .put-decimal .ensures))
 
 pub put-refused-spec : {M : Type 1} → statement M
 put-refused-spec =
     tie.close
-    (tie.spec put-coded-requires put-byte-requires put-number-requires same-length returns)
+    (tie.spec put-coded-requires put-byte-requires put-decimal-requires same-length returns)

@@ -1,27 +1,27 @@
--- `planes::fill::is_same` meets its contract: from each turn on the two stretches are the same just when the whole ones are. Assumes nothing.
+-- `equal` meets its contract: from each turn on the two stretches are the same just when the whole ones are. Assumes nothing.
 use mathlib.Core.Path.{_≡_, sym, ap₂, _∙_}
 use Prim.Native.Nat.{ℕ, _+_, _-_, _≤_}
 use native.Mathlib.Omega.{arith}
 use lib.Seq.{slice}
 use denote.Ref.{now}
 use Rattle.pattern.specs.Bytes.{same}
-use Rattle.planes.proofs.Slices.{same-end, same-differ, same-more}
-use Rattle.planes.proofs.fill.is_same.Statement.{statement}
-use Rattle.planes.proofs.fill.is_same.Tie as tie
+use Rattle.stores.proofs.Same.{same-end, same-differ, same-more}
+use Rattle.stores.proofs.equal.Statement.{statement}
+use Rattle.stores.proofs.equal.Tie as tie
 
 abbrev Inv-loop : tie.InvT-loop
-Inv-loop label i table from len k₀ k =
-    (k ≤ len) × (same (slice i (i + len) label) (slice from (from + len) table) ≡ same (slice (i + k) (i + len) label) (slice (from + k) (from + len) table))
+Inv-loop a i b j n k₀ k =
+    (k ≤ n) × (same (slice i (i + n) a) (slice j (j + n) b) ≡ same (slice (i + k) (i + n) a) (slice (j + k) (j + n) b))
 
 abbrev μ-loop : tie.MeasureT-loop
-μ-loop label i table from len k₀ k = len - k
+μ-loop a i b j n k₀ k = n - k
 
 loop-holds : tie.Need-loop-holds Inv-loop μ-loop
 loop-holds c =
     let a = c .args in
     let x : a .i ≡ a .i + 0 = omega arith in
-    let y : a .from ≡ a .from + 0 = omega arith in
-    (omega arith, ap₂ (λ (u v : ℕ). same (slice u (a .i + a .len) (now (a .label))) (slice v (a .from + a .len) (now (a .table)))) x y)
+    let y : a .j ≡ a .j + 0 = omega arith in
+    (omega arith, ap₂ (λ (u v : ℕ). same (slice u (a .i + a .n) (now (a .a))) (slice v (a .j + a .n) (now (a .b)))) x y)
 
 add-if1 : tie.Need-add-if1 Inv-loop μ-loop
 add-if1 c = omega arith
@@ -59,6 +59,6 @@ returns-2 c =
     let l = c .before .loop in
     sym (l .inv .1 ∙ same-end _ _ _ _ _ _ (p .0) (p .1) (l .k) (omega arith) (omega arith))
 
-pub is-same-spec : {M : Type 1} → statement M
-is-same-spec =
+pub equal-spec : {M : Type 1} → statement M
+equal-spec =
     tie.close (tie.spec Inv-loop μ-loop loop-holds add-if1 shared-slice-read-if1 add-if1-2 shared-slice-read-if1-2 returns add-k loop-less loop-again returns-2)

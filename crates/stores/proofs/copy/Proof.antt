@@ -1,12 +1,12 @@
--- `copy::copy` meets its contract: the first i bytes are stored. What is left falls. Assumes nothing.
+-- `copy` meets its contract: the first i bytes are stored. What is left falls. Assumes nothing.
 use mathlib.Core.Path.{_≡_, sym, ap, _∙_}
 use Prim.Native.Nat.{_≤_, _-_, _+_}
 use native.Mathlib.Omega.{arith}
 use lib.ListN.{length, take, set, getD}
 use Rattle.pattern.specs.Stores.{stored}
 use Rattle.pattern.proofs.Stores.{length-stored, stored-none, copied}
-use Rattle.compiler.proofs.copy.copy.Statement.{statement}
-use Rattle.compiler.proofs.copy.copy.Tie as tie
+use Rattle.stores.proofs.copy.Statement.{statement}
+use Rattle.stores.proofs.copy.Tie as tie
 
 abbrev Inv-loop : tie.InvT-loop
 Inv-loop from n to₀ at i₀ to i = (i ≤ n) × (to ≡ stored to₀ at (take i from))

@@ -5,10 +5,10 @@ use native.Mathlib.Omega.{arith}
 use lib.ListN.{length, set}
 use Rattle.pattern.specs.Numbers.{zero-byte}
 use Rattle.pattern.specs.Bytes.{Bytes}
-use Rattle.replies.specs.Text.{decimal}
+use Rattle.pattern.specs.Print.{decimal}
 use Rattle.pattern.specs.Stores.{stored}
-use Rattle.pattern.proofs.Stores.{stored-last, stored-first, stored-none}
-use Rattle.replies.proofs.Decimals.{decimal-one, decimal-more, decimal-longer}
+use Rattle.pattern.proofs.Stores.{stored-last, stored-one}
+use Rattle.pattern.proofs.Decimal.{decimal-one, decimal-more, decimal-longer}
 
 module _ (out : Bytes) (at n : ℕ) where
   -- the last of several digits, at the end of the number less one
@@ -19,4 +19,4 @@ module _ (out : Bytes) (at n : ℕ) where
 
   -- the only digit
   pub only-digit : n < 10 → set out at (zero-byte + n) ≡ stored out at (decimal n)
-  only-digit h = sym (ap (stored out at) (decimal-one n h) ∙ stored-first out at _ _ ∙ stored-none _ _)
+  only-digit h = sym (ap (stored out at) (decimal-one n h) ∙ stored-one out at _)

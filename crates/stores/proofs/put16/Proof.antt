@@ -1,11 +1,11 @@
--- `copy::put16` meets its contract. Assumes nothing.
+-- `put16` meets its contract. Assumes nothing.
 use mathlib.Core.Path.{sym}
 use native.Mathlib.Omega.{arith}
 use lib.ListN.{length-set}
-use Rattle.compiler.proofs.Records.{stored-two}
+use Rattle.pattern.proofs.Stores.{stored-two}
 use borrow.Author.Needs.{needs}
-use Rattle.compiler.proofs.copy.put16.Statement.{statement}
-use Rattle.compiler.proofs.copy.put16.Tie as tie
+use Rattle.stores.proofs.put16.Statement.{statement}
+use Rattle.stores.proofs.put16.Tie as tie
 
 cast-to : tie.Need-cast-to
 cast-to c = search needs

@@ -1,12 +1,12 @@
--- `text::digits` meets its contract: n digits are counted besides those of what is left. What is left falls. Assumes nothing.
+-- `decimal_length` meets its contract: n digits are counted besides those of what is left. What is left falls. Assumes nothing.
 use mathlib.Core.Path.{_≡_, ap}
 use Prim.Native.Nat.{_≤_, _+_}
 use native.Mathlib.Omega.{arith}
 use lib.ListN.{length}
-use Rattle.replies.specs.Text.{decimal}
-use Rattle.replies.proofs.Decimals.{decimal-one, decimal-longer}
-use Rattle.replies.proofs.text.digits.Statement.{statement}
-use Rattle.replies.proofs.text.digits.Tie as tie
+use Rattle.pattern.specs.Print.{decimal}
+use Rattle.pattern.proofs.Decimal.{decimal-one, decimal-longer}
+use Rattle.stores.proofs.decimal.decimal_length.Statement.{statement}
+use Rattle.stores.proofs.decimal.decimal_length.Tie as tie
 
 abbrev Inv-loop : tie.InvT-loop
 Inv-loop x left₀ n₀ left n = (n + left ≤ x + 1) × (n + length (decimal left) ≡ length (decimal x) + 1)
@@ -29,5 +29,5 @@ loop-again c = (omega arith, omega (arith, decimal-longer (c .before .loop .left
 returns : tie.Need-returns Inv-loop μ-loop
 returns c = omega (arith, ap length (decimal-one (c .before .loop .left) (c .loop-test .left)))
 
-pub digits-spec : {M : Type 1} → statement M
-digits-spec = tie.close (tie.spec Inv-loop μ-loop loop-holds add-n loop-less loop-again returns)
+pub decimal-length-spec : {M : Type 1} → statement M
+decimal-length-spec = tie.close (tie.spec Inv-loop μ-loop loop-holds add-n loop-less loop-again returns)

@@ -1,0 +1,29 @@
+-- Numbers stored byte by byte. Assumes nothing.
+use mathlib.Core.Path.{_≡_, refl, ap, _∙_}
+use Prim.Native.Nat.{ℕ, zero, suc, _+_, _-_, _/_, _%_, _<_, _≤_}
+use native.Mathlib.Omega.{arith}
+use lib.ListN.{length, set}
+use Rattle.pattern.specs.Bytes.{Bytes}
+use Rattle.pattern.specs.Stores.{stored}
+use Rattle.pattern.proofs.Stores.{stored-none, stored-first}
+use Rattle.stores.specs.Little.{little}
+
+-- the bytes still to be stored, one of them stored
+pub store-next : (l : Bytes) (at j left : ℕ) → j < 8
+    → stored l (at + j) (little (8 - j) left) ≡ stored (set l (at + j) (left % 256)) (at + (j + 1)) (little (8 - (j + 1)) (left / 256))
+unfolding little
+store-next l at j left h =
+    let e : 8 - j ≡ suc (8 - (j + 1)) = omega arith in
+    let f : at + j + 1 ≡ at + (j + 1) = omega arith in
+    let rest : Bytes = little (8 - (j + 1)) (left / 256) in
+    ap (λ c. stored l (at + j) (little c left)) e ∙ stored-first l (at + j) (left % 256) rest ∙ ap (λ i. stored (set l (at + j) (left % 256)) i rest) f
+
+-- after the last
+pub store-end : (l : Bytes) (at j left : ℕ) → 8 ≤ j → stored l (at + j) (little (8 - j) left) ≡ l
+unfolding little
+store-end l at j left h = let e : 8 - j ≡ 0 = omega arith in ap (λ c. stored l (at + j) (little c left)) e ∙ stored-none l (at + j)
+
+pub length-little : (c x : ℕ) → length (little c x) ≡ c
+unfolding little
+length-little zero x = refl
+length-little (suc c) x = ap suc (length-little c (x / 256))

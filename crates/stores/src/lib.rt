@@ -1,0 +1,82 @@
+// Bytes and numbers of a fixed width in lent bytes: stored, copied, compared and zeroed.
+ghost use mathlib.Core.Path.{_≡_};
+ghost use mathlib.Core.List.{[], _∷_};
+ghost use Prim.Native.Nat.{_+_, _≤_};
+ghost use lib.ListN.{length, take};
+ghost use lib.Seq.{slice};
+ghost use Rattle.pattern.specs.Bytes.{same, word, zeroed};
+ghost use Rattle.pattern.specs.Stores.{stored, Puts};
+ghost use Rattle.stores.specs.Little.{little};
+
+pub mod decimal;
+
+// One byte; the answer is the place after it.
+pub fn put_byte(to: &mut [u8], at: usize, b: u8) -> usize
+    requires { ⌜ at + 1 ≤ length (now to) ⌝ }
+    ensures { λ r. ⌜ Puts (now (to .entry)) at (b ∷ []) (now (to .exit)) r ⌝ }
+{
+    to[at] = b;
+    at + 1
+}
+
+// A number in two bytes, the lower first.
+pub fn put16(to: &mut [u8], at: usize, x: u16)
+    requires { ⌜ at + 2 ≤ length (now to) ⌝ }
+    ensures { λ _. ⌜ now (to .exit) ≡ stored (now (to .entry)) at (word x []) ⌝ }
+{
+    to[at] = (x % 256) as u8;
+    to[at + 1] = (x / 256) as u8;
+}
+
+// A number in eight bytes, the lowest first.
+pub fn put64(to: &mut [u8], at: usize, x: u64)
+    requires { ⌜ at + 8 ≤ length (now to) ⌝ }
+    ensures { λ _. ⌜ now (to .exit) ≡ stored (now (to .entry)) at (little 8 x) ⌝ }
+{
+    let mut left = x;
+    let mut j: usize = 0;
+    while j < 8 {
+        to[at + j] = (left % 256) as u8;
+        left /= 256;
+        j += 1;
+    }
+}
+
+// The first n bytes of from.
+pub fn copy(from: &[u8], n: usize, to: &mut [u8], at: usize)
+    requires { ⌜ (n ≤ length (now from)) × (at + n ≤ length (now to)) ⌝ }
+    ensures { λ _. ⌜ now (to .exit) ≡ stored (now (to .entry)) at (take n (now (from .entry))) ⌝ }
+{
+    let mut i = 0;
+    while i < n {
+        to[at + i] = from[i];
+        i += 1;
+    }
+}
+
+// The n bytes of a from i on are those of b from j on.
+pub fn equal(a: &[u8], i: usize, b: &[u8], j: usize, n: usize) -> bool
+    requires { ⌜ i + n ≤ length (now a) ⌝ ∗ ⌜ j + n ≤ length (now b) ⌝ }
+    ensures { λ r. ⌜ r ≡ same (slice i (i + n) (now (a .entry))) (slice j (j + n) (now (b .entry))) ⌝ }
+{
+    let mut k = 0;
+    while k < n {
+        if a[i + k] != b[j + k] {
+            return false;
+        }
+        k += 1;
+    }
+    true
+}
+
+// Zeroes the first n bytes: patient data stays in no buffer.
+pub fn clear(lent: &mut [u8], n: usize)
+    requires { ⌜ n ≤ length (now lent) ⌝ }
+    ensures { λ _. ⌜ now (lent .exit) ≡ zeroed n (now (lent .entry)) ⌝ }
+{
+    let mut k = 0;
+    while k < n {
+        lent[k] = 0;
+        k += 1;
+    }
+}
