@@ -48,10 +48,6 @@ head-not s e = go (headed s) e
 abbrev start : Place
 start = place 0 0 0
 
--- the records and the pool, as the code takes them from the table
-abbrev body : Bytes → Header → Bytes
-body s h = take (length s - h .records) (drop (h .records) s)
-
 -- bytes whose header was read
 pub record HeadRead (s : Bytes) (h : Header) : Type 0 where
   pub bytes : (k : ℕ) → getD s k 0 < 256
@@ -61,7 +57,7 @@ pub record HeadRead (s : Bytes) (h : Header) : Type 0 where
 pub record BodyRead (s : Bytes) (h : Header) (x : Walked) : Type 0 where
   pub read-head : HeadRead s h
   pub few : h .atoms ≤ atom-limit
-  pub walks : PatternWalked (body s h) (h .atoms) start 0 x
+  pub walks : PatternWalked s (h .atoms) start 0 x
 
 module _ (s : Bytes) (bytes : (k : ℕ) → getD s k 0 < 256) where
   -- a table that is not read is not good
@@ -83,46 +79,36 @@ module _ {s : Bytes} {h : Header} (r : HeadRead s h) where
       let (t, q) = headed-so in
       unread s (r .bytes) (kept _ _ t ∙ dropped _ _ (lt-leb (header-of s .atoms) atom-limit (subst (λ (h : Header). atom-limit < h .atoms) q n)))
 
-  -- the records begin within the table
-  pub body-in : h .records ≤ length s
-  body-in = let (t, q) = headed-so in subst (λ (h : Header). h .records ≤ length s) (sym q) (opens s t .long)
-
-  body-is : drop (h .records) s ≡ body s h
-  body-is = sym (take-all (length s - h .records) (drop (h .records) s) (omega (arith, length-drop (h .records) s)))
-
   module _ (n : h .atoms ≤ atom-limit) where
-    pub ready-start : Ready (body s h) (h .atoms) start 0
+    pub ready-start : Ready s (h .atoms) start 0
     ready-start =
         let (t, q) = headed-so in
-        subst (λ (b : Bytes). Ready b (h .atoms) start 0) body-is (
         let o = opens s t in
         let few : header-of s .atoms ≤ atom-limit = subst (λ (h : Header). h .atoms ≤ atom-limit) q n in
-        subst (λ (h : Header). Ready (drop (h .records) s) (h .atoms) start 0) (sym q)
+        subst (λ (h : Header). Ready s (h .atoms) start 0) (sym q)
         (record {
           few = few;
-          small = omega (arith, o .whole, length-drop header-size s, few, r .bytes length-place, r .bytes (length-place + 1));
+          small = omega (arith, o .whole, few, r .bytes length-place, r .bytes (length-place + 1));
           atom = omega arith;
-          pool = omega (arith, o .whole, length-drop header-size s);
+          pool = omega (arith, o .whole);
           source = omega arith;
           shallow = omega arith;
-        }))
+        })
 
-    -- what is made of the tree of records b, by a header
-    abbrev ended : Header → Bytes → Option (Syntax pattern)
-    ended h b =
-        after (read-pattern b (h .atoms) (3 * h .atoms + 2) 0 0 0) (λ t. only-if (eqb (size t) (h .atoms)) (only-if (eqb (length (pool t)) (h .length)) (some t)))
+    -- what is made of the tree of the records, by a header
+    abbrev ended : Header → Option (Syntax pattern)
+    ended h =
+        after (read-pattern s (h .atoms) (3 * h .atoms + 2) 0 0 0) (λ t. only-if (eqb (size t) (h .atoms)) (only-if (eqb (length (pool t)) (h .length)) (some t)))
 
-    reading : read s ≡ ended h (body s h)
+    reading : read s ≡ ended h
     unfolding read
     reading =
         let (t, q) = headed-so in
         let m : header-of s .atoms ≤ atom-limit = subst (λ (h : Header). h .atoms ≤ atom-limit) q n in
-        kept _ _ t ∙ kept _ _ (le-leb (header-of s .atoms) atom-limit m)
-        ∙ ap (λ (h : Header). ended h (drop (h .records) s)) (sym q)
-        ∙ ap (λ b. ended h b) body-is
+        kept _ _ t ∙ kept _ _ (le-leb (header-of s .atoms) atom-limit m) ∙ ap ended (sym q)
 
 module _ {s : Bytes} {h : Header} {x : Walked} (r : BodyRead s h x) where
-  unread-body : ended (r .read-head) (r .few) h (body s h) ≡ none → verdict.Bad ≡ tested (decode s)
+  unread-body : ended (r .read-head) (r .few) h ≡ none → verdict.Bad ≡ tested (decode s)
   unread-body e = unread s (r .read-head .bytes) (reading (r .read-head) (r .few) ∙ e)
 
   enough : 3 * (h .atoms - 0) + 1 < 3 * h .atoms + 2
@@ -133,7 +119,7 @@ module _ {s : Bytes} {h : Header} {x : Walked} (r : BodyRead s h x) where
 
   module _ {to : Place} {k : ℕ} (e : x ≡ walked.To to k) where
     -- the tree that was walked
-    gone : (t : Syntax pattern) × (read-pattern (body s h) (h .atoms) (3 * h .atoms + 2) 0 0 0 ≡ some t) × (to .atom ≡ size t) × (to .pool ≡ length (pool t)) × (to .source ≡ length (print t)) × (k ≡ top-size t)
+    gone : (t : Syntax pattern) × (read-pattern s (h .atoms) (3 * h .atoms + 2) 0 0 0 ≡ some t) × (to .atom ≡ size t) × (to .pool ≡ length (pool t)) × (to .source ≡ length (print t)) × (k ≡ top-size t)
     gone =
         let (t, v, u, z) = walked-some start _ to (sym e ∙ r .walks .reads _ enough) in
         (t, v, ap (λ (p : Place). p .atom) u ∙ omega arith, ap (λ (p : Place). p .pool) u ∙ omega arith, ap (λ (p : Place). p .source) u ∙ omega arith, z)
@@ -150,7 +136,7 @@ module _ {s : Bytes} {h : Header} {x : Walked} (r : BodyRead s h x) where
           unread-body (going-on _ _ v ∙ kept _ _ (eq-eqb (size t) (h .atoms) (sym u1 ∙ all)) ∙ dropped _ _ (ne-eqb (length (pool t)) (h .length) (λ y. p (u2 ∙ y))))
 
       module _ (p : to .pool ≡ h .length) where
-        whole : (t : Syntax pattern) → read-pattern (body s h) (h .atoms) (3 * h .atoms + 2) 0 0 0 ≡ some t → to .atom ≡ size t → to .pool ≡ length (pool t)
+        whole : (t : Syntax pattern) → read-pattern s (h .atoms) (3 * h .atoms + 2) 0 0 0 ≡ some t → to .atom ≡ size t → to .pool ≡ length (pool t)
             → decode s ≡ only-if (leb (length (print t)) source-limit) (some t)
         unfolding walk
         whole t v u1 u2 =

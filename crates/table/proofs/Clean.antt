@@ -19,7 +19,7 @@ use Rattle.pattern.specs.Decode.{high-of}
 use Rattle.pattern.proofs.Tests.{passed}
 use Rattle.pattern.proofs.Printed.{count-printed, Printable, quoted-printed, letters-printed, letters-some, quoted-printable}
 use Rattle.table.specs.Checked.{plain, ordered}
-use Rattle.table.specs.Standing.{Clean}
+use Rattle.table.proofs.Standing.{Clean}
 use Rattle.table.proofs.Options.{and-true, true-and}
 
 pub true-T : (b : Bool) → b ≡ true → T b

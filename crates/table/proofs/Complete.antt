@@ -12,12 +12,12 @@ use Rattle.pattern.specs.Bytes.{Bytes}
 use Rattle.pattern.specs.Syntax.{pattern, atom, body, branches, Syntax, last, then, repeat, codes, literal, group, only, or, size}
 use Rattle.pattern.specs.Within.{Good}
 use Rattle.pattern.specs.Table.{pool, choices, kind-field, a-field, b-field, Rec, rec, records}
-use Rattle.pattern.specs.Decode.{rec-at, high-of}
+use Rattle.pattern.specs.Decode.{layout, its, high-of}
 use Rattle.pattern.proofs.Records.{Placed, head-there, tail-there, then-there, or-there}
 use Rattle.pattern.proofs.RoundTrip.{some-atom, some-pattern, some-choice, high-again}
 use Rattle.table.specs.Fields.{record-of}
-use Rattle.table.specs.Checked.{plain, ordered, a-set, after, only-if, choose, its, text, leaf, closed, read-pattern, read-atom, read-branches}
-use Rattle.table.specs.Standing.{Clean, bare, Set}
+use Rattle.table.specs.Checked.{plain, ordered, a-set, after, only-if, choose, text, leaf, closed, read-pattern, read-atom, read-branches}
+use Rattle.table.proofs.Standing.{Clean, bare, Set}
 use Rattle.table.specs.declared.Record.{Record}
 use Rattle.table.proofs.Options.{kept, first, second, going-on, true-and}
 use Rattle.table.proofs.Clean.{fits-ordered}
@@ -56,13 +56,11 @@ module _ (s : Bytes) (A : ℕ) where
       record { placed = tail-there (h .placed); good = h .good .1 .1; clean = h .clean; within = omega (arith, h .within); pooled = h .pooled }
 
   -- the record of an atom
-  pub its-there : (e low : ℕ) (high : Option ℕ) (b : Syntax body) (i p : ℕ) → Placed s (bare A) e (repeat low high b) i p → its s A i ≡ rec e low high b i p
+  pub its-there : (e low : ℕ) (high : Option ℕ) (b : Syntax body) (i p : ℕ) → Placed s (bare A) e (repeat low high b) i p → its s (layout s) i ≡ rec e low high b i p
   unfolding records
-  its-there e low high b i p h =
-      let n : record-size * i ≡ 0 + record-size * i = omega arith in
-      ap (rec-at s) n ∙ head-there h
+  its-there e low high b i p h = head-there h
 
-  pub its-ends : (e : ℕ) (a : Syntax atom) (i p : ℕ) → Placed s (bare A) e a i p → its s A i .ends ≡ e
+  pub its-ends : (e : ℕ) (a : Syntax atom) (i p : ℕ) → Placed s (bare A) e a i p → its s (layout s) i .ends ≡ e
   its-ends e (repeat low high b) i p h = ap (λ (r : Rec). r .ends) (its-there e low high b i p h)
 
   -- an atom, by its record
@@ -120,7 +118,7 @@ module _ (s : Bytes) (A : ℕ) where
       let (b, c) = set-then e a q i p d h in
       let z = its-ends 0 a i p (b .placed) in
       going-on _ _ (ih .atoms 0 a i p d b (omega (arith, n)))
-      ∙ second _ _ _ (ne-eqb (its s A i .ends) 1 (λ x. omega (arith, z, x)))
+      ∙ second _ _ _ (ne-eqb (its s (layout s) i .ends) 1 (λ x. omega (arith, z, x)))
       ∙ kept _ _ (eq-eqb _ _ z)
       ∙ going-on _ _ (ih .patterns e q _ _ d c (omega (arith, n, some-atom a)))
 

@@ -1,5 +1,6 @@
 pub mod Options
 pub mod Places
+pub mod Standing
 pub mod Clean
 pub mod Sound
 pub mod Complete

@@ -2,8 +2,9 @@
 use Prim.Native.Nat.{ℕ, _+_, _*_, _<_, _≤_}
 use native.Mathlib.Omega.{arith}
 use lib.ListN.{length}
-use Rattle.pattern.specs.Numbers.{depth-limit, record-size}
+use Rattle.pattern.specs.Numbers.{depth-limit, header-size, record-size}
 use Rattle.pattern.specs.Bytes.{Bytes}
+use Rattle.table.specs.Fields.{RecordIn}
 use Rattle.table.specs.Leaves.{LeafReady}
 use Rattle.table.specs.Walk.{place, Ready, Moved, Past}
 use Rattle.table.specs.declared.walk.Place.{Place}
@@ -44,8 +45,8 @@ module _ {s : Bytes} {A : ℕ} {at : Place} where
     short-source = omega (arith, r .source, r .atom, r .pool, r .few, r .small)
 
     -- a record is within the bytes
-    pub record-in : at .atom < A → record-size * at .atom + record-size ≤ length s
-    record-in h = omega (arith, r .pool)
+    pub record-in : at .atom < A → RecordIn s (at .atom)
+    record-in h = record { within = omega (arith, r .pool) }
 
   pub moved-then : {next dest : Place} → Moved s A at next → Moved s A next dest → Moved s A at dest
   moved-then m n =
@@ -58,7 +59,7 @@ module _ {s : Bytes} {A : ℕ} {at : Place} where
   pub moved-group : (c : ℕ) {dest : Place} → c ≤ 11 → Moved s A (bracket-on at c) dest → Moved s A at (byte-on dest)
   moved-group c e n = record { on = omega (arith, n .on); atom = n .atom; pool = n .pool; source = omega (arith, n .source) }
 
-  pub moved-leaf : (c v w : ℕ) → c ≤ 11 → at .atom < A → record-size * A + at .pool + v ≤ length s → w ≤ 2 * v + 7 → Moved s A at (leaf-on at c v w)
+  pub moved-leaf : (c v w : ℕ) → c ≤ 11 → at .atom < A → header-size + record-size * A + at .pool + v ≤ length s → w ≤ 2 * v + 7 → Moved s A at (leaf-on at c v w)
   moved-leaf c v w e f g k = record { on = omega arith; atom = omega arith; pool = omega (arith, g); source = omega arith }
 
   pub past-again : {next : Place} (x : Passed) → Moved s A at next → Past s A (byte-on next) x → Past s A at x

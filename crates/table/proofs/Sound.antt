@@ -11,14 +11,14 @@ use lib.Dec.{ltb}
 use borrow.Author.Tests.{eqb-true, leb-true, ltb-true}
 use lib.ListN.{length, getD, drop, length-append, length-take, length-drop, take-append-drop}
 use lib.Seq.{drop-drop}
-use Rattle.pattern.specs.Numbers.{depth-limit, set-limit, record-size}
+use Rattle.pattern.specs.Numbers.{depth-limit, set-limit, header-size, record-size}
 use Rattle.pattern.specs.Bytes.{Bytes}
 use Rattle.pattern.specs.Syntax.{Sort, pattern, atom, body, branches, Syntax, then, repeat, codes, literal, or, size}
 use Rattle.pattern.specs.Within.{Fits, Good}
 use Rattle.pattern.specs.Table.{pool, choices, kind-field, a-field, b-field, high-field, Rec, rec, records, flat}
-use Rattle.pattern.specs.Decode.{high-of}
-use Rattle.table.specs.Checked.{plain, a-set, after, only-if, its, text, leaf, closed, read-pattern, read-atom, read-branches}
-use Rattle.table.specs.Standing.{Clean}
+use Rattle.pattern.specs.Decode.{layout, its, high-of}
+use Rattle.table.specs.Checked.{plain, a-set, after, only-if, text, leaf, closed, read-pattern, read-atom, read-branches}
+use Rattle.table.proofs.Standing.{Clean}
 use Rattle.table.proofs.Options.{nothing, inside, after-some, only-some, choose-some, and-true}
 use Rattle.table.proofs.Places.{one-record, then-records, then-text}
 use Rattle.table.proofs.Clean.{high-back, ordered-fits}
@@ -26,16 +26,16 @@ use Rattle.table.proofs.Clean.{high-back, ordered-fits}
 -- bytes that have room for the records
 pub record Laid (s : Bytes) (A : ℕ) : Type 0 where
   pub bytes : (k : ℕ) → getD s k 0 < 256
-  pub records : record-size * A ≤ length s
+  pub records : header-size + record-size * A ≤ length s
 
 -- the tree's records stand from atom i on and its literals from p on in the pool, d groups being open
 pub record There (s : Bytes) (A : ℕ) {o : Sort} (e : ℕ) (t : Syntax o) (i p d : ℕ) : Type 0 where
-  pub recs : drop (record-size * i) s ≡ flat (records e t i p) (drop (record-size * (i + size t)) s)
-  pub text : drop (record-size * A + p) s ≡ pool t ++ drop (record-size * A + (p + length (pool t))) s
+  pub recs : drop (header-size + record-size * i) s ≡ flat (records e t i p) (drop (header-size + record-size * (i + size t)) s)
+  pub text : drop (header-size + record-size * A + p) s ≡ pool t ++ drop (header-size + record-size * A + (p + length (pool t))) s
   pub good : Good d t
   pub clean : Clean t
   pub within : i + size t ≤ A
-  pub pooled : record-size * A + (p + length (pool t)) ≤ length s
+  pub pooled : header-size + record-size * A + (p + length (pool t)) ≤ length s
 
 module _ (s : Bytes) (A : ℕ) (laid : Laid s A) where
   same-rec : (r : Rec) (k a b : ℕ) → r .kind ≡ k → r .a ≡ a → r .b ≡ b
@@ -44,18 +44,18 @@ module _ (s : Bytes) (A : ℕ) (laid : Laid s A) where
       λ j. record { kind = e j; ends = r .ends; low = r .low; high = sym (high-back (r .high)) j; a = f j; b = g j }
 
   -- an atom whose record is its body's
-  there-atom : (b : Syntax body) (i p d : ℕ) → i < A → Fits (its s A i .low) (high-of (its s A i .high))
-      → its s A i ≡ rec (its s A i .ends) (its s A i .low) (high-of (its s A i .high)) b i p
+  there-atom : (b : Syntax body) (i p d : ℕ) → i < A → Fits (its s (layout s) i .low) (high-of (its s (layout s) i .high))
+      → its s (layout s) i ≡ rec (its s (layout s) i .ends) (its s (layout s) i .low) (high-of (its s (layout s) i .high)) b i p
       → ((e : ℕ) → There s A e b (suc i) p d)
-      → There s A (its s A i .ends) (repeat (its s A i .low) (high-of (its s A i .high)) b) i p d
+      → There s A (its s (layout s) i .ends) (repeat (its s (layout s) i .low) (high-of (its s (layout s) i .high)) b) i p d
   unfolding records size pool Good Clean flat
   there-atom b i p d h o e f =
-      let g = f (its s A i .ends) in
+      let g = f (its s (layout s) i .ends) in
       let n : suc i + size b ≡ i + suc (size b) = omega arith in
       record {
-        recs = one-record s (laid .bytes) (record-size * i) (record-size * suc i) (omega arith) (omega (arith, laid .records))
-            ∙ ap (λ x. flat (its s A i ∷ []) x) (g .recs ∙ ap (λ k. flat (records (its s A i .ends) b (suc i) p) (drop (record-size * k) s)) n)
-            ∙ ap (λ x. flat (x ∷ records (its s A i .ends) b (suc i) p) (drop (record-size * (i + suc (size b))) s)) e;
+        recs = one-record s (laid .bytes) (header-size + record-size * i) (header-size + record-size * suc i) (omega arith) (omega (arith, laid .records))
+            ∙ ap (λ x. flat (its s (layout s) i ∷ []) x) (g .recs ∙ ap (λ k. flat (records (its s (layout s) i .ends) b (suc i) p) (drop (header-size + record-size * k) s)) n)
+            ∙ ap (λ x. flat (x ∷ records (its s (layout s) i .ends) b (suc i) p) (drop (header-size + record-size * (i + suc (size b))) s)) e;
         text = g .text;
         good = (o, g .good);
         clean = g .clean;
@@ -67,8 +67,8 @@ module _ (s : Bytes) (A : ℕ) (laid : Laid s A) where
   unfolding records size pool Good Clean
   there-then e a q i p d f g =
       record {
-        recs = then-records s (λ k. record-size * k) _ _ i (size a) (size q) (f .recs) (g .recs);
-        text = then-text s (record-size * A) p (pool a) (pool q) (f .text) (g .text);
+        recs = then-records s (λ k. header-size + record-size * k) _ _ i (size a) (size q) (f .recs) (g .recs);
+        text = then-text s (header-size + record-size * A) p (pool a) (pool q) (f .text) (g .text);
         good = (f .good, g .good);
         clean = (f .clean, g .clean);
         within = omega (arith, g .within);
@@ -79,8 +79,8 @@ module _ (s : Bytes) (A : ℕ) (laid : Laid s A) where
   unfolding records size pool Good Clean
   there-or e q bs i p d f g =
       record {
-        recs = then-records s (λ k. record-size * k) _ _ i (size q) (size bs) (f .recs) (g .recs);
-        text = then-text s (record-size * A) p (pool q) (pool bs) (f .text) (g .text);
+        recs = then-records s (λ k. header-size + record-size * k) _ _ i (size q) (size bs) (f .recs) (g .recs);
+        text = then-text s (header-size + record-size * A) p (pool q) (pool bs) (f .text) (g .text);
         good = (f .good, g .good);
         clean = (f .clean, g .clean);
         within = omega (arith, g .within);
@@ -88,35 +88,35 @@ module _ (s : Bytes) (A : ℕ) (laid : Laid s A) where
       }
 
   -- a leaf has no records of its own
-  nothing-there : (k : ℕ) → drop (record-size * k) s ≡ flat [] (drop (record-size * (k + 0)) s)
+  nothing-there : (k : ℕ) → drop (header-size + record-size * k) s ≡ flat [] (drop (header-size + record-size * (k + 0)) s)
   unfolding flat
-  nothing-there k = ap (λ x. drop (record-size * x) s) (sym (add-zero k))
+  nothing-there k = ap (λ x. drop (header-size + record-size * x) s) (sym (add-zero k))
 
-  there-codes : (set i p d : ℕ) → a-set set ≡ true → i ≤ A → record-size * A + p ≤ length s → (e : ℕ) → There s A e (codes set) i p d
+  there-codes : (set i p d : ℕ) → a-set set ≡ true → i ≤ A → header-size + record-size * A + p ≤ length s → (e : ℕ) → There s A e (codes set) i p d
   unfolding records size pool Good Clean a-set
   there-codes set i p d h w v e =
       let (x, y) = and-true (ltb 0 set) (ltb set set-limit) h in
       record {
         recs = nothing-there i;
-        text = ap (λ x. drop (record-size * A + x) s) (sym (add-zero p));
+        text = ap (λ x. drop (header-size + record-size * A + x) s) (sym (add-zero p));
         good = ltb-true _ _ y;
         clean = ltb-true _ _ x;
         within = omega arith;
         pooled = omega arith;
       }
 
-  length-text : (p n : ℕ) → record-size * A + p + n ≤ length s → length (text s A p n) ≡ n
-  length-text p n h = length-take n (drop (record-size * A + p) s) ∙ omega (arith, length-drop (record-size * A + p) s)
+  length-text : (p n : ℕ) → header-size + record-size * A + p + n ≤ length s → length (text s A p n) ≡ n
+  length-text p n h = length-take n (drop (header-size + record-size * A + p) s) ∙ omega (arith, length-drop (header-size + record-size * A + p) s)
 
-  there-literal : (i p n d : ℕ) → plain (text s A p n) ≡ true → i ≤ A → record-size * A + p + n ≤ length s → (e : ℕ) → There s A e (literal (text s A p n)) i p d
+  there-literal : (i p n d : ℕ) → plain (text s A p n) ≡ true → i ≤ A → header-size + record-size * A + p + n ≤ length s → (e : ℕ) → There s A e (literal (text s A p n)) i p d
   unfolding records size pool Good Clean
   there-literal i p n d h z v e =
       let m = length-text p n v in
-      let w : record-size * A + p + n ≡ record-size * A + (p + length (text s A p n)) = omega (arith, m) in
+      let w : header-size + record-size * A + p + n ≡ header-size + record-size * A + (p + length (text s A p n)) = omega (arith, m) in
       record {
         recs = nothing-there i;
-        text = sym (take-append-drop n (drop (record-size * A + p) s))
-            ∙ ap (λ x. text s A p n ++ x) (drop-drop n (record-size * A + p) s ∙ ap (λ x. drop x s) w);
+        text = sym (take-append-drop n (drop (header-size + record-size * A + p) s))
+            ∙ ap (λ x. text s A p n ++ x) (drop-drop n (header-size + record-size * A + p) s ∙ ap (λ x. drop x s) w);
         good = tt;
         clean = h;
         within = omega arith;
@@ -124,35 +124,35 @@ module _ (s : Bytes) (A : ℕ) (laid : Laid s A) where
       }
 
   pub record Sound (f : ℕ) : Type 0 where
-    pub patterns : (i p d : ℕ) (t : Syntax pattern) → record-size * A + p ≤ length s → read-pattern s A f i p d ≡ some t → (e : ℕ) → There s A e t i p d
-    pub atoms : (i p d : ℕ) (a : Syntax atom) → record-size * A + p ≤ length s → read-atom s A f i p d ≡ some a → There s A (its s A i .ends) a i p d
-    pub branches : (k i p d : ℕ) (bs : Syntax branches) → record-size * A + p ≤ length s → read-branches s A f k i p d ≡ some bs
+    pub patterns : (i p d : ℕ) (t : Syntax pattern) → header-size + record-size * A + p ≤ length s → read-pattern s A f i p d ≡ some t → (e : ℕ) → There s A e t i p d
+    pub atoms : (i p d : ℕ) (a : Syntax atom) → header-size + record-size * A + p ≤ length s → read-atom s A f i p d ≡ some a → There s A (its s (layout s) i .ends) a i p d
+    pub branches : (k i p d : ℕ) (bs : Syntax branches) → header-size + record-size * A + p ≤ length s → read-branches s A f k i p d ≡ some bs
         → (choices bs ≡ k) × ((e : ℕ) → There s A e bs i p d)
 
   -- a body, its record and where it stands
   abbrev Bodied : (b : Syntax body) (i p d : ℕ) → Type 0
   Bodied b i p d =
-      (its s A i ≡ rec (its s A i .ends) (its s A i .low) (high-of (its s A i .high)) b i p) × ((e : ℕ) → There s A e b (suc i) p d)
+      (its s (layout s) i ≡ rec (its s (layout s) i .ends) (its s (layout s) i .low) (high-of (its s (layout s) i .high)) b i p) × ((e : ℕ) → There s A e b (suc i) p d)
 
-  leaf-body : (i p d : ℕ) (b : Syntax body) → i < A → record-size * A + p ≤ length s → leaf s A (its s A i .kind) (its s A i .a) (its s A i .b) p ≡ some b → Bodied b i p d
+  leaf-body : (i p d : ℕ) (b : Syntax body) → i < A → header-size + record-size * A + p ≤ length s → leaf s A (its s (layout s) i .kind) (its s (layout s) i .a) (its s (layout s) i .b) p ≡ some b → Bodied b i p d
   unfolding leaf kind-field a-field b-field
   leaf-body i p d b h v e =
       ⊎-elim
       (λ (k, g). let (y, g1) = only-some _ _ g in
       let (z, g2) = only-some _ _ g1 in
       subst (λ (b : Syntax body). Bodied b i p d) (inside g2)
-      (same-rec (its s A i) _ _ _ (eqb-true _ _ k) refl (eqb-true _ _ z), there-codes _ (suc i) p d y h v))
+      (same-rec (its s (layout s) i) _ _ _ (eqb-true _ _ k) refl (eqb-true _ _ z), there-codes _ (suc i) p d y h v))
       (λ (k, g). let (y4, g1) = only-some _ _ g in
       let (y5, g2) = only-some _ _ g1 in
       let (y3, g3) = only-some _ _ g2 in
       let (z, g4) = only-some _ _ g3 in
       let q = leb-true _ _ y3 in
       subst (λ (b : Syntax body). Bodied b i p d) (inside g4)
-      (same-rec (its s A i) _ _ _ (eqb-true _ _ y4) (eqb-true _ _ y5) (sym (length-text p _ q)), there-literal (suc i) p _ d z h q))
+      (same-rec (its s (layout s) i) _ _ _ (eqb-true _ _ y4) (eqb-true _ _ y5) (sym (length-text p _ q)), there-literal (suc i) p _ d z h q))
       (choose-some _ _ _ e)
 
-  group-body : (f i p d : ℕ) (b : Syntax body) → Sound f → record-size * A + p ≤ length s → its s A i .kind ≡ 3
-      → only-if (ltb d depth-limit) (after (read-branches s A f (its s A i .a) (suc i) p (suc d)) (closed s A (its s A i .b) i)) ≡ some b
+  group-body : (f i p d : ℕ) (b : Syntax body) → Sound f → header-size + record-size * A + p ≤ length s → its s (layout s) i .kind ≡ 3
+      → only-if (ltb d depth-limit) (after (read-branches s A f (its s (layout s) i .a) (suc i) p (suc d)) (closed s A (its s (layout s) i .b) i)) ≡ some b
       → Bodied b i p d
   unfolding closed kind-field a-field b-field records size pool Good Clean
   group-body f i p d b ih v k e =
@@ -161,9 +161,9 @@ module _ (s : Bytes) (A : ℕ) (laid : Laid s A) where
       let (z, g2) = only-some _ _ g1 in
       let (n, st) = ih .branches _ _ _ _ bs v r in
       subst (λ (b : Syntax body). Bodied b i p d) (inside g2)
-      (same-rec (its s A i) _ _ _ k (sym n) (sym (eqb-true _ _ z)), λ e. let h = st e in record { recs = h .recs; text = h .text; good = (ltb-true _ _ y, h .good); clean = h .clean; within = h .within; pooled = h .pooled })
+      (same-rec (its s (layout s) i) _ _ _ k (sym n) (sym (eqb-true _ _ z)), λ e. let h = st e in record { recs = h .recs; text = h .text; good = (ltb-true _ _ y, h .good); clean = h .clean; within = h .within; pooled = h .pooled })
 
-  sound-atom : (f : ℕ) → Sound f → (i p d : ℕ) (a : Syntax atom) → record-size * A + p ≤ length s → read-atom s A (suc f) i p d ≡ some a → There s A (its s A i .ends) a i p d
+  sound-atom : (f : ℕ) → Sound f → (i p d : ℕ) (a : Syntax atom) → header-size + record-size * A + p ≤ length s → read-atom s A (suc f) i p d ≡ some a → There s A (its s (layout s) i .ends) a i p d
   unfolding read-pattern
   sound-atom f ih i p d a v e =
       let (h, g) = only-some _ _ e in
@@ -171,9 +171,9 @@ module _ (s : Bytes) (A : ℕ) (laid : Laid s A) where
       let (b, r, g2) = after-some _ _ g1 in
       let h2 = ltb-true _ _ h in
       let (m, st) : Bodied b i p d = ⊎-elim (λ (k, x). group-body f i p d b ih v (eqb-true _ _ k) x) (λ (k, x). leaf-body i p d b h2 v x) (choose-some _ _ _ r) in
-      subst (λ (a : Syntax atom). There s A (its s A i .ends) a i p d) (inside g2) (there-atom b i p d h2 (ordered-fits _ _ o) m st)
+      subst (λ (a : Syntax atom). There s A (its s (layout s) i .ends) a i p d) (inside g2) (there-atom b i p d h2 (ordered-fits _ _ o) m st)
 
-  sound-pattern : (f : ℕ) → Sound f → (i p d : ℕ) (t : Syntax pattern) → record-size * A + p ≤ length s → read-pattern s A (suc f) i p d ≡ some t → (e : ℕ) → There s A e t i p d
+  sound-pattern : (f : ℕ) → Sound f → (i p d : ℕ) (t : Syntax pattern) → header-size + record-size * A + p ≤ length s → read-pattern s A (suc f) i p d ≡ some t → (e : ℕ) → There s A e t i p d
   unfolding read-pattern records size pool Good Clean
   sound-pattern f ih i p d t v e n =
       let (a, r, g) = after-some _ _ e in
@@ -189,7 +189,7 @@ module _ (s : Bytes) (A : ℕ) (laid : Laid s A) where
       (there-then n a q i p d u (ih .patterns _ _ _ q (u .pooled) r2 n)))
       (choose-some _ _ _ g)
 
-  sound-branches : (f : ℕ) → Sound f → (k i p d : ℕ) (bs : Syntax branches) → record-size * A + p ≤ length s → read-branches s A (suc f) k i p d ≡ some bs
+  sound-branches : (f : ℕ) → Sound f → (k i p d : ℕ) (bs : Syntax branches) → header-size + record-size * A + p ≤ length s → read-branches s A (suc f) k i p d ≡ some bs
       → (choices bs ≡ k) × ((e : ℕ) → There s A e bs i p d)
   unfolding read-pattern choices records size pool Good Clean
   sound-branches f ih k i p d bs v e =

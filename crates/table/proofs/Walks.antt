@@ -7,9 +7,9 @@ use lib.ListN.{length}
 use Rattle.pattern.specs.Numbers.{depth-limit}
 use Rattle.pattern.specs.Bytes.{Bytes}
 use Rattle.pattern.specs.Print.{print-count}
-use Rattle.pattern.specs.Decode.{high-of}
+use Rattle.pattern.specs.Decode.{layout, its, high-of}
 use Rattle.table.specs.Fields.{record-of}
-use Rattle.table.specs.Checked.{ordered, its, leaf as leaf-read}
+use Rattle.table.specs.Checked.{ordered, leaf as leaf-read}
 use Rattle.table.specs.Leaves.{LeafRead, Short}
 use Rattle.table.specs.Walk.{Ready, Moved, AtomPassed, PatternWalked, GroupPassed}
 use Rattle.table.specs.declared.Record.{Record}
@@ -29,7 +29,7 @@ use Rattle.table.proofs.Steps.{pattern-none, pattern-last, pattern-othe
 pub record Counted (s : Bytes) (A : ℕ) (at : Place) (d : ℕ) (r : Record) (c : ℕ) : Type 0 where
   pub ready : Ready s A at d
   pub on : at .atom < A
-  pub same : r ≡ record-of (its s A (at .atom))
+  pub same : r ≡ record-of (its s (layout s) (at .atom))
   pub fits : ordered (r .low) (r .high) ≡ true
   pub count : c ≡ length (print-count (r .low) (high-of (r .high)))
   pub short : c ≤ 11
@@ -110,7 +110,7 @@ module _ {s : Bytes} {A d : ℕ} {at now : Place} {k : ℕ} (g : Going s A d at 
     pub going-moved : Moved s A now next
     going-moved = passed-to .past
 
-    module _ {b : ℕ} (q : b ≡ its s A (now .atom) .ends) where
+    module _ {b : ℕ} (q : b ≡ its s (layout s) (now .atom) .ends) where
       pub going-last : b ≡ 1 → PatternWalked s A at d (walked.To next (k + 1))
       unfolding further
       going-last z = g .rest (walked.To next 1) (record {

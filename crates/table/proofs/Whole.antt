@@ -21,11 +21,11 @@ use Rattle.pattern.proofs.Tests.{le-or-lt}
 use Rattle.pattern.proofs.Agree.{same-decides}
 use Rattle.pattern.proofs.Accepted.{accepted-exactly}
 use Rattle.pattern.proofs.Records.{length-flat, count-records, next-there}
-use Rattle.pattern.proofs.RoundTrip.{encode-length, good-exactly}
+use Rattle.pattern.proofs.RoundTrip.{encode-length, encode-placed, good-exactly}
 use Rattle.pattern.proofs.Calls.{print-accepted}
 use Rattle.table.specs.Headers.{first-bytes, header-of, headed}
 use Rattle.table.specs.Checked.{after, only-if, read-pattern, read, walk}
-use Rattle.table.specs.Standing.{Clean, Set}
+use Rattle.table.proofs.Standing.{Clean, Set}
 use Rattle.table.proofs.Options.{inside, after-some, only-some, kept, dropped, going-on, and-true, true-and}
 use Rattle.table.proofs.Places.{step, pair}
 use Rattle.table.proofs.Clean.{true-T, clean-spells, spells-clean}
@@ -54,9 +54,6 @@ pub record Whole (s : Bytes) (t : Syntax pattern) : Type 0 where
   pub clean : Clean t
 
 module _ (s : Bytes) (bytes : (k : ℕ) → getD s k 0 < 256) where
-  bytes-after : (k : ℕ) → getD (drop header-size s) k 0 < 256
-  bytes-after k = rw (getD-drop header-size s k 0) (bytes (header-size + k))
-
   open-table : Opens s → s ≡ header (header-of s .atoms) (header-of s .length) (drop header-size s)
   unfolding header
   open-table o =
@@ -67,24 +64,22 @@ module _ (s : Bytes) (bytes : (k : ℕ) → getD s k 0 < 256) where
   unfolding read encode
   read-whole t e =
       let A : ℕ = header-of s .atoms in
-      let b : Bytes = drop header-size s in
       let (h, g) = only-some _ _ e in
       let (n, g1) = only-some _ _ g in
       let (u, r, g2) = after-some _ _ g1 in
       let (c, g3) = only-some _ _ g2 in
       let (m, g4) = only-some _ _ g3 in
       let o = opens s h in
-      let lb = length-drop header-size s in
-      let laid : Laid b A = record { bytes = bytes-after; records = omega (arith, o .whole, lb) } in
-      let st = sound b A laid _ .patterns 0 0 0 u (omega (arith, o .whole, lb)) r 1 in
+      let laid : Laid s A = record { bytes = bytes; records = omega (arith, o .whole) } in
+      let st = sound s A laid _ .patterns 0 0 0 u (omega (arith, o .whole)) r 1 in
       let n2 : A ≤ atom-limit = leb-true _ _ n in
       let c2 : size u ≡ A = eqb-true _ _ c in
       let m2 : length (pool u) ≡ header-of s .length = eqb-true _ _ m in
-      let at-pool : record-size * (0 + size u) ≡ record-size * A + 0 = omega (arith, c2) in
-      let to-end : length b ≤ record-size * A + (0 + length (pool u)) = omega (arith, o .whole, m2, lb) in
-      let rest : drop (record-size * (0 + size u)) b ≡ pool u =
-      ap (λ k. drop k b) at-pool ∙ st .text ∙ ap (λ x. pool u ++ x) (drop-of-length-le b to-end) ∙ append-nil (pool u) in
-      let all : b ≡ flat (records 1 u 0 0) (pool u) = st .recs ∙ ap (flat (records 1 u 0 0)) rest in
+      let at-pool : header-size + record-size * (0 + size u) ≡ header-size + record-size * A + 0 = omega (arith, c2) in
+      let to-end : length s ≤ header-size + record-size * A + (0 + length (pool u)) = omega (arith, o .whole, m2) in
+      let rest : drop (header-size + record-size * (0 + size u)) s ≡ pool u =
+      ap (λ k. drop k s) at-pool ∙ st .text ∙ ap (λ x. pool u ++ x) (drop-of-length-le s to-end) ∙ append-nil (pool u) in
+      let all : drop header-size s ≡ flat (records 1 u 0 0) (pool u) = st .recs ∙ ap (flat (records 1 u 0 0)) rest in
       subst (Whole s) (inside g4)
       (record {
         same = sym (open-table o ∙ ap (header A (header-of s .length)) all ∙ ap (λ k. header k (header-of s .length) (flat (records 1 u 0 0) (pool u))) (sym c2) ∙ ap (λ k. header (size u) k (flat (records 1 u 0 0) (pool u))) (sym m2));
@@ -114,24 +109,10 @@ module _ (t : Syntax pattern) where
       (true-and _ _ (le-leb header-size (length (encode t)) (omega (arith, encode-length t))) marked-there)
       (eq-eqb (length (encode t)) (header-of (encode t) .pool + header-of (encode t) .length) (omega (arith, encode-length t, length-there, atoms-there)))
 
-  -- the records and the pool
-  abbrev pub contents : Bytes
-  contents = flat (records 1 t 0 0) (pool t)
-
-  pub contents-there : drop header-size (encode t) ≡ contents
+  set-encode : Limited t → Clean t → Set (encode t) (size t) 1 t 0 0 0
   unfolding encode header
-  contents-there = refl
-
-  pub set-encode : Limited t → Clean t → Set contents (size t) 1 t 0 0 0
   set-encode g c =
-      let n : record-size * size t + 0 ≡ 0 + record-size * length (records 1 t 0 0) = omega (arith, count-records 1 t 0 0) in
-      record {
-        placed = record { left = pool t; over = []; recs = refl; text = next-there contents 0 _ (records 1 t 0 0) (pool t) n refl ∙ sym (append-nil (pool t)) };
-        good = g .tree;
-        clean = c;
-        within = omega arith;
-        pooled = omega (arith, length-flat (records 1 t 0 0) (pool t), count-records 1 t 0 0);
-      }
+      record { placed = encode-placed t; good = g .tree; clean = c; within = omega arith; pooled = omega (arith, encode-length t) }
 
   pub read-encode : Limited t → Clean t → read (encode t) ≡ some t
   unfolding read
@@ -139,7 +120,7 @@ module _ (t : Syntax pattern) where
       let a = atoms-there in
       let f : 3 * size t + 1 < 3 * size t + 2 = omega arith in
       kept _ _ headed-encode ∙ kept _ _ (le-leb (header-of (encode t) .atoms) atom-limit (omega (arith, a, g .atoms)))
-      ∙ going-on _ _ (ap₂ (λ b A. read-pattern b A (3 * A + 2) 0 0 0) contents-there a ∙ found contents (size t) 1 t _ 0 0 0 (set-encode g c) f)
+      ∙ going-on _ _ (ap (λ A. read-pattern (encode t) A (3 * A + 2) 0 0 0) a ∙ found (encode t) (size t) 1 t _ 0 0 0 (set-encode g c) f)
       ∙ kept _ _ (eq-eqb _ _ (sym a))
       ∙ kept _ _ (eq-eqb _ _ (sym length-there))
 

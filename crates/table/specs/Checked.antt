@@ -5,12 +5,12 @@ use mathlib.Core.Option.{Option, none, some}
 use Prim.Native.Nat.{ℕ, zero, suc, _+_, _*_, pred}
 use lib.Dec.{leb, ltb, eqb}
 use lib.ListN.{length, take, drop}
-use Rattle.pattern.specs.Numbers.{source-limit, atom-limit, depth-limit, number-limit, set-limit, codes-kind, literal-kind, group-kind, record-size, open-high}
+use Rattle.pattern.specs.Numbers.{source-limit, atom-limit, depth-limit, number-limit, set-limit, codes-kind, literal-kind, group-kind, header-size, record-size, open-high}
 use Rattle.pattern.specs.Bytes.{Bytes, between}
 use Rattle.pattern.specs.Syntax.{pattern, atom, body, branches, Syntax, last, then, repeat, codes, literal, group, only, or, size}
 use Rattle.pattern.specs.Print.{print}
-use Rattle.pattern.specs.Table.{pool, Rec}
-use Rattle.pattern.specs.Decode.{rec-at, high-of}
+use Rattle.pattern.specs.Table.{pool}
+use Rattle.pattern.specs.Decode.{layout, its, high-of}
 use Rattle.table.specs.Headers.{header-of, headed}
 
 -- ---- tests one after the other
@@ -46,22 +46,18 @@ a-set set = ltb 0 set && ltb set set-limit
 abbrev pub codes-leaf : (a b : ℕ) → Option (Syntax body)
 codes-leaf a b = only-if (a-set a) (only-if (eqb b 0) (some (codes a)))
 
--- ---- the records and the pool, which follow each other, of A atoms
+-- ---- a table of A atoms
 
 module _ (s : Bytes) (A : ℕ) where
-  -- the record of atom i
-  abbrev pub its : ℕ → Rec
-  its i = rec-at s (record-size * i)
-
   -- n bytes of the pool from p on
   abbrev pub text : (p n : ℕ) → Bytes
-  text p n = take n (drop (record-size * A + p) s)
+  text p n = take n (drop (header-size + record-size * A + p) s)
 
   -- a literal, by the fields a and b of its record, with p bytes of the pool before it
   abbrev pub text-leaf : (a b p : ℕ) → Option (Syntax body)
   text-leaf a b p =
       only-if (eqb a p)
-      (only-if (leb (record-size * A + p + b) (length s))
+      (only-if (leb (header-size + record-size * A + p + b) (length s))
       (only-if (plain (text p b)) (some (literal (text p b)))))
 
   -- a leaf, by its kind
@@ -78,19 +74,19 @@ module _ (s : Bytes) (A : ℕ) where
     read-pattern zero i p d = none
     read-pattern (suc f) i p d =
         after (read-atom f i p d) λ a.
-        choose (eqb (its i .ends) 1) (some (last a))
-        (only-if (eqb (its i .ends) 0) (after (read-pattern f (i + size a) (p + length (pool a)) d) λ q. some (then a q)))
+        choose (eqb (its s (layout s) i .ends) 1) (some (last a))
+        (only-if (eqb (its s (layout s) i .ends) 0) (after (read-pattern f (i + size a) (p + length (pool a)) d) λ q. some (then a q)))
 
     pub read-atom : (f i p d : ℕ) → Option (Syntax atom)
     read-atom zero i p d = none
     read-atom (suc f) i p d =
         only-if (ltb i A)
-        (only-if (ordered (its i .low) (its i .high))
+        (only-if (ordered (its s (layout s) i .low) (its s (layout s) i .high))
         (after (
-        choose (eqb (its i .kind) group-kind)
-        (only-if (ltb d depth-limit) (after (read-branches f (its i .a) (suc i) p (suc d)) (closed (its i .b) i)))
-        (leaf (its i .kind) (its i .a) (its i .b) p)
-        ) λ b. some (repeat (its i .low) (high-of (its i .high)) b)))
+        choose (eqb (its s (layout s) i .kind) group-kind)
+        (only-if (ltb d depth-limit) (after (read-branches f (its s (layout s) i .a) (suc i) p (suc d)) (closed (its s (layout s) i .b) i)))
+        (leaf (its s (layout s) i .kind) (its s (layout s) i .a) (its s (layout s) i .b) p)
+        ) λ b. some (repeat (its s (layout s) i .low) (high-of (its s (layout s) i .high)) b)))
 
     pub read-branches : (f k i p d : ℕ) → Option (Syntax branches)
     read-branches zero k i p d = none
@@ -106,7 +102,7 @@ read s =
     let A : ℕ = header-of s .atoms in
     only-if (headed s)
     (only-if (leb A atom-limit)
-    (after (read-pattern (drop (header-of s .records) s) A (3 * A + 2) 0 0 0) λ t.
+    (after (read-pattern s A (3 * A + 2) 0 0 0) λ t.
     only-if (eqb (size t) A) (only-if (eqb (length (pool t)) (header-of s .length)) (some t))))
 
 -- and its source is short enough

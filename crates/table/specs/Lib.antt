@@ -1,6 +1,5 @@
 pub mod Fields
 pub mod Headers
 pub mod Checked
-pub mod Standing
 pub mod Leaves
 pub mod Walk

@@ -13,8 +13,7 @@ use walk::Walked;
 ghost use mathlib.Core.Path.{_≡_};
 ghost use Prim.Native.Nat.{_+_, _≤_, _<_};
 ghost use lib.ListN.{length};
-ghost use Rattle.pattern.specs.Numbers.{record-size};
-ghost use Rattle.pattern.specs.Decode.{field, rec-at, layout, its, decode};
+ghost use Rattle.pattern.specs.Decode.{field, layout, its, decode};
 ghost use Rattle.table.specs.Fields.{record-of, RecordIn};
 ghost use Rattle.table.specs.Walk.{tested};
 
@@ -54,11 +53,12 @@ fn word(table: &[u8], at: usize) -> u16
     wide(table[at]) + 256 * wide(table[at + 1])
 }
 
-// The record at a place.
-pub fn fields(table: &[u8], at: usize) -> Record
-    requires { ⌜ at + record-size ≤ length (now table) ⌝ }
-    ensures { λ r. ⌜ r ≡ record-of (rec-at (now (table .entry)) at) ⌝ }
+// The record of atom i.
+pub fn record_at(table: &[u8], i: usize) -> Record
+    requires { ⌜ RecordIn (now table) i ⌝ }
+    ensures { λ r. ⌜ r ≡ record-of (its (now (table .entry)) (layout (now (table .entry))) i) ⌝ }
 {
+    let at = HEADER_SIZE + RECORD_SIZE * i;
     Record {
         kind: table[at],
         ends: table[at + 1],
@@ -69,14 +69,6 @@ pub fn fields(table: &[u8], at: usize) -> Record
     }
 }
 
-// The record of atom i.
-pub fn record_at(table: &[u8], i: usize) -> Record
-    requires { ⌜ RecordIn (now table) i ⌝ }
-    ensures { λ r. ⌜ r ≡ record-of (its (now (table .entry)) (layout (now (table .entry))) i) ⌝ }
-{
-    fields(table, HEADER_SIZE + RECORD_SIZE * i)
-}
-
 // Whether bytes are a good table, and what of: one walk over the records.
 pub fn test(table: &[u8]) -> Tested
     ensures { λ r. ⌜ r ≡ tested (decode (now (table .entry))) ⌝ }
@@ -84,7 +76,6 @@ pub fn test(table: &[u8]) -> Tested
     match header::read_header(table) {
         HeaderRead::Is(h) => {
             let atoms = h.atoms;
-            let records = h.records;
             if ATOM_LIMIT < atoms {
                 return Tested::Bad;
             }
@@ -93,7 +84,7 @@ pub fn test(table: &[u8]) -> Tested
                 pool: 0,
                 source: 0,
             };
-            match walk::pattern(&table[records..], atoms, start, 0) {
+            match walk::pattern(table, atoms, start, 0) {
                 Walked::To(end, top) => {
                     if end.atom != atoms {
                         return Tested::Bad;

@@ -4,15 +4,16 @@ use super::lengths;
 use super::lengths::Text;
 use pattern::kind;
 use pattern::limits::DEPTH_LIMIT;
+use pattern::limits::HEADER_SIZE;
 use pattern::limits::NUMBER_LIMIT;
 use pattern::limits::RECORD_SIZE;
 use pattern::limits::SET_LIMIT;
 use pattern::repeat::Repeat;
 ghost use mathlib.Core.Path.{_≡_};
-ghost use Prim.Native.Nat.{_+_, _*_, _≤_, _<_};
-ghost use lib.ListN.{length};
-ghost use Rattle.pattern.specs.Numbers.{record-size};
-ghost use Rattle.table.specs.Checked.{ordered, a-set, codes-leaf, its, text-leaf, leaf};
+ghost use Prim.Native.Nat.{_<_};
+ghost use Rattle.pattern.specs.Decode.{layout, its};
+ghost use Rattle.table.specs.Fields.{RecordIn};
+ghost use Rattle.table.specs.Checked.{ordered, a-set, codes-leaf, text-leaf, leaf};
 ghost use Rattle.table.specs.Leaves.{LeafReady, LeafRead};
 ghost use Rattle.table.specs.Walk.{Ready, AtomPassed, PatternWalked, GroupPassed};
 
@@ -66,9 +67,9 @@ fn is_set(a: u16) -> bool
 }
 
 // The leaf of kind 1.
-fn codes_leaf(body: &[u8], atoms: usize, a: u16, b: u16, p: usize) -> Leaf
-    requires { ⌜ LeafReady (now body) atoms p ⌝ }
-    ensures { λ x. ⌜ LeafRead (now (body .entry)) atoms p (codes-leaf a b) x ⌝ }
+fn codes_leaf(table: &[u8], atoms: usize, a: u16, b: u16, p: usize) -> Leaf
+    requires { ⌜ LeafReady (now table) atoms p ⌝ }
+    ensures { λ x. ⌜ LeafRead (now (table .entry)) atoms p (codes-leaf a b) x ⌝ }
 {
     if is_set(a) {
         if b == 0 {
@@ -79,16 +80,16 @@ fn codes_leaf(body: &[u8], atoms: usize, a: u16, b: u16, p: usize) -> Leaf
 }
 
 // The leaf of kind 2.
-fn text_leaf(body: &[u8], atoms: usize, a: u16, b: u16, p: usize) -> Leaf
-    requires { ⌜ LeafReady (now body) atoms p ⌝ }
-    ensures { λ x. ⌜ LeafRead (now (body .entry)) atoms p (text-leaf (now (body .entry)) atoms a b p) x ⌝ }
+fn text_leaf(table: &[u8], atoms: usize, a: u16, b: u16, p: usize) -> Leaf
+    requires { ⌜ LeafReady (now table) atoms p ⌝ }
+    ensures { λ x. ⌜ LeafRead (now (table .entry)) atoms p (text-leaf (now (table .entry)) atoms a b p) x ⌝ }
 {
     if a as usize == p {
         let v = b as usize;
-        let from = RECORD_SIZE * atoms + p;
+        let from = HEADER_SIZE + RECORD_SIZE * atoms + p;
         let to = from + v;
-        if to <= body.len() {
-            match lengths::text_length(&body[from..to]) {
+        if to <= table.len() {
+            match lengths::text_length(&table[from..to]) {
                 Text::Length(n) => return Leaf::Is(v, n + 2),
                 Text::Bad => return Leaf::Bad,
             }
@@ -98,38 +99,38 @@ fn text_leaf(body: &[u8], atoms: usize, a: u16, b: u16, p: usize) -> Leaf
 }
 
 // The leaf that a record says, with p bytes of the pool before it.
-fn leaf_at(body: &[u8], atoms: usize, r: Record, p: usize) -> Leaf
-    requires { ⌜ LeafReady (now body) atoms p ⌝ }
-    ensures { λ x. ⌜ LeafRead (now (body .entry)) atoms p (leaf (now (body .entry)) atoms (r .kind) (r .a) (r .b) p) x ⌝ }
+fn leaf_at(table: &[u8], atoms: usize, r: Record, p: usize) -> Leaf
+    requires { ⌜ LeafReady (now table) atoms p ⌝ }
+    ensures { λ x. ⌜ LeafRead (now (table .entry)) atoms p (leaf (now (table .entry)) atoms (r .kind) (r .a) (r .b) p) x ⌝ }
 {
     if r.kind == kind::CODES {
-        return codes_leaf(body, atoms, r.a, r.b, p);
+        return codes_leaf(table, atoms, r.a, r.b, p);
     }
     if r.kind == kind::LITERAL {
-        return text_leaf(body, atoms, r.a, r.b, p);
+        return text_leaf(table, atoms, r.a, r.b, p);
     }
     Leaf::Bad
 }
 
 // Whether atom i ends its branch: the second byte of its record.
-fn ends_of(body: &[u8], i: usize) -> u8
-    requires { ⌜ (record-size * i + record-size ≤ length (now body)) × (i < 256) ⌝ }
-    ensures { λ r. ⌜ r ≡ its (now (body .entry)) 0 i .ends ⌝ }
+fn ends_of(table: &[u8], i: usize) -> u8
+    requires { ⌜ RecordIn (now table) i × (i < 256) ⌝ }
+    ensures { λ r. ⌜ r ≡ its (now (table .entry)) (layout (now (table .entry))) i .ends ⌝ }
 {
-    body[RECORD_SIZE * i + 1]
+    table[HEADER_SIZE + RECORD_SIZE * i + 1]
 }
 
 // A pattern from a place on, inside depth groups.
-pub fn pattern(body: &[u8], atoms: usize, at: Place, depth: usize) -> Walked
-    requires { ⌜ Ready (now body) atoms at depth ⌝ }
-    ensures { λ r. ⌜ PatternWalked (now (body .entry)) atoms at depth r ⌝ }
+pub fn pattern(table: &[u8], atoms: usize, at: Place, depth: usize) -> Walked
+    requires { ⌜ Ready (now table) atoms at depth ⌝ }
+    ensures { λ r. ⌜ PatternWalked (now (table .entry)) atoms at depth r ⌝ }
 {
     let mut from = at;
     let mut before: usize = 0;
     loop {
-        match atom(body, atoms, from, depth) {
+        match atom(table, atoms, from, depth) {
             Passed::To(next) => {
-                let ends = ends_of(body, from.atom);
+                let ends = ends_of(table, from.atom);
                 if ends == 1 {
                     return Walked::To(next, before + 1);
                 }
@@ -145,16 +146,16 @@ pub fn pattern(body: &[u8], atoms: usize, at: Place, depth: usize) -> Walked
 }
 
 // The atom at a place.
-fn atom(body: &[u8], atoms: usize, at: Place, depth: usize) -> Passed
-    requires { ⌜ Ready (now body) atoms at depth ⌝ }
-    ensures { λ r. ⌜ AtomPassed (now (body .entry)) atoms at depth r ⌝ }
+fn atom(table: &[u8], atoms: usize, at: Place, depth: usize) -> Passed
+    requires { ⌜ Ready (now table) atoms at depth ⌝ }
+    ensures { λ r. ⌜ AtomPassed (now (table .entry)) atoms at depth r ⌝ }
 {
     let i = at.atom;
     let p = at.pool;
     if atoms <= i {
         return Passed::Bad;
     }
-    let r = super::fields(body, RECORD_SIZE * i);
+    let r = super::record_at(table, i);
     if is_ordered(r.low, r.high) {
         let mut next = at;
         next.atom = i + 1;
@@ -162,7 +163,7 @@ fn atom(body: &[u8], atoms: usize, at: Place, depth: usize) -> Passed
         if r.kind == kind::GROUP {
             if depth < DEPTH_LIMIT {
                 next.source += 1;
-                match group(body, atoms, next, depth + 1, r.a as usize) {
+                match group(table, atoms, next, depth + 1, r.a as usize) {
                     Passed::To(end) => {
                         if end.atom == r.b as usize {
                             let mut after = end;
@@ -176,7 +177,7 @@ fn atom(body: &[u8], atoms: usize, at: Place, depth: usize) -> Passed
             }
             return Passed::Bad;
         }
-        match leaf_at(body, atoms, r, p) {
+        match leaf_at(table, atoms, r, p) {
             Leaf::Is(v, w) => {
                 next.pool = p + v;
                 next.source += w;
@@ -189,14 +190,14 @@ fn atom(body: &[u8], atoms: usize, at: Place, depth: usize) -> Passed
 }
 
 // k branches from a place on.
-fn group(body: &[u8], atoms: usize, at: Place, depth: usize, k: usize) -> Passed
-    requires { ⌜ Ready (now body) atoms at depth ⌝ }
-    ensures { λ r. ⌜ GroupPassed (now (body .entry)) atoms at depth k r ⌝ }
+fn group(table: &[u8], atoms: usize, at: Place, depth: usize, k: usize) -> Passed
+    requires { ⌜ Ready (now table) atoms at depth ⌝ }
+    ensures { λ r. ⌜ GroupPassed (now (table .entry)) atoms at depth k r ⌝ }
 {
     let mut from = at;
     let mut left = k;
     while 0 < left {
-        match pattern(body, atoms, from, depth) {
+        match pattern(table, atoms, from, depth) {
             Walked::To(next, _) => {
                 if left == 1 {
                     return Passed::To(next);

@@ -1,7 +1,7 @@
 -- `table::test` meets its contract: each answer is what the walk says of `decode`. Assumes nothing.
 use mathlib.Core.Path.{sym, _∙_}
 use borrow.Author.Needs.{needs}
-use Rattle.table.proofs.Checks.{HeadRead, BodyRead, ready-start, body-in, bad-head, bad-atoms, bad-walk, bad-count, bad-pool, bad-length, good-table}
+use Rattle.table.proofs.Checks.{HeadRead, BodyRead, ready-start, bad-head, bad-atoms, bad-walk, bad-count, bad-pool, bad-length, good-table}
 use Rattle.table.proofs.test.Statement.{statement}
 use Rattle.table.proofs.test.Tie as tie
 
@@ -9,32 +9,14 @@ use Rattle.table.proofs.test.Tie as tie
 head-read : (c : tie.After-known-told) → HeadRead (c .before .before .before .before .before .args .table .now) (c .before .h .given .0 .0)
 head-read c = record { bytes = λ k. c .before .before .before .before .shared-slice-known .given k .fits; head = sym (c .before .h .given .1) ∙ c .before .before .before .read-header .ensures }
 
-body-read : (c : tie.After-pattern) → BodyRead (c .before .before .before .before .before .before .before .before .args .table .now) (c .before .before .before .before .h .given .0 .0) (c .pattern .result)
-body-read c = record { read-head = head-read (c .before .before .before); few = c .before .before .if1 .left; walks = c .pattern .ensures }
-
-read-header-requires : tie.Need-read-header-requires
-read-header-requires c κs = search needs
-
-enum-known-h : tie.Need-enum-known-h
-enum-known-h c = search needs
+body-read : (c : tie.After-pattern) → BodyRead (c .before .before .before .before .before .before .before .args .table .now) (c .before .before .before .h .given .0 .0) (c .pattern .result)
+body-read c = record { read-head = head-read (c .before .before); few = c .before .if1 .left; walks = c .pattern .ensures }
 
 returns : tie.Need-returns
 returns c = bad-atoms (head-read (c .before)) (c .if1 .taken)
 
-sub-pattern : tie.Need-sub-pattern
-sub-pattern c = body-in (head-read (c .before))
-
-part-pattern-start : tie.Need-part-pattern-start
-part-pattern-start c = search (needs, body-in (head-read (c .before)))
-
-part-pattern-end : tie.Need-part-pattern-end
-part-pattern-end c = search needs
-
 pattern-requires : tie.Need-pattern-requires
-pattern-requires c κs = ready-start (head-read (c .before .before)) (c .before .if1 .left)
-
-enum-known-end : tie.Need-enum-known-end
-enum-known-end c = search needs
+pattern-requires c κs = ready-start (head-read (c .before)) (c .if1 .left)
 
 returns-2 : tie.Need-returns-2
 returns-2 c = bad-count (body-read (c .before .before .before .before .before)) (c .before .before .before .end .given .1) (c .if2 .taken)
@@ -53,12 +35,6 @@ returns-4 c =
     let there = after-end .before .before in
     bad-length (body-read there) (after-end .end .given .1) (after-if2 .if2 .left) (c .before .before .if3 .left) (c .if4 .taken)
 
-enum-told : tie.Need-enum-told
-enum-told c = search needs
-
-enum-told-2 : tie.Need-enum-told-2
-enum-told-2 c = search needs
-
 returns-5 : tie.Need-returns-5
 returns-5 c =
     let after-if2 = c .before .before .before .before .before in
@@ -76,19 +52,16 @@ pub test-spec : {M : Type 1} → statement M
 test-spec =
     tie.close
     (tie.spec
-    read-header-requires
-    enum-known-h
+    (λ c κs. search needs)
+    (search needs)
     returns
-    sub-pattern
-    part-pattern-start
-    part-pattern-end
     pattern-requires
-    enum-known-end
+    (search needs)
     returns-2
     returns-3
     returns-4
-    enum-told
-    enum-told-2
+    (search needs)
+    (search needs)
     returns-5
     returns-6
     returns-7)

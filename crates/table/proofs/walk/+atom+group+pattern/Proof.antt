@@ -19,7 +19,7 @@ use Rattle.table.proofs.walk.+atom+group+pattern.Lts-group as group-lts
 use Rattle.table.proofs.walk.pattern.Reads as pattern
 use Rattle.table.proofs.walk.pattern.Kinds as pattern-kinds
 use Rattle.table.proofs.walk.+atom+group+pattern.Lts-pattern as pattern-lts
-use Rattle.table.proofs.fields.Reads as fields-reads
+use Rattle.table.proofs.record_at.Reads as record-at-reads
 use Rattle.table.proofs.lengths.count_length.Reads as count-length-reads
 use Rattle.table.proofs.walk.ends_of.Reads as ends-of-reads
 use Rattle.table.proofs.walk.is_ordered.Reads as is-ordered-reads
@@ -55,7 +55,7 @@ abbrev pattern-below : ℕ → In 1 pattern-kinds.ps
 pattern-below t = and 1 pattern-kinds.ps (falls 1 pattern-kinds.ps _<_ μ-pattern t) pattern.Pre
 
 abbrev atom-claims : ℕ → atom-lts.Claims
-atom-claims t = (fields-reads.Asked, fields-reads.Learnt, is-ordered-reads.Asked, is-ordered-reads.Learnt, count-length-reads.Asked, count-length-reads.Learnt, group-below t, group.Post, leaf-at-reads.Asked, leaf-at-reads.Learnt)
+atom-claims t = (record-at-reads.Asked, record-at-reads.Learnt, is-ordered-reads.Asked, is-ordered-reads.Learnt, count-length-reads.Asked, count-length-reads.Learnt, group-below t, group.Post, leaf-at-reads.Asked, leaf-at-reads.Learnt)
 
 abbrev group-claims : ℕ → group-lts.Claims
 group-claims t = (pattern-below t, pattern.Post)
@@ -65,15 +65,15 @@ pattern-claims t = (atom-below t, atom.Post, ends-of-reads.Asked, ends-of-reads.
 
 -- what is known where the length of a count was found
 atom-counted : (t : ℕ) (c : atom-lts.After-count-length (atom-claims t) (atom-at t) atom.Post)
-    → Counted (c .before .before .before .before .before .before .args .body .now) (c .before .before .before .before .before .before .args .atoms) (c .before .before .before .before .before .before .args .at) (c .before .before .before .before .before .before .args .depth) (c .before .before .before .fields .result) (c .count-length .result)
+    → Counted (c .before .before .before .before .before .before .args .table .now) (c .before .before .before .before .before .before .args .atoms) (c .before .before .before .before .before .before .args .at) (c .before .before .before .before .before .before .args .depth) (c .before .before .before .record-at .result) (c .count-length .result)
 atom-counted t c =
-    let after-fields = c .before .before .before in
-    let after-if1 = after-fields .before in
+    let after-record-at = c .before .before .before in
+    let after-if1 = after-record-at .before in
     let start = after-if1 .before .before in
     record {
       ready = start .pre .1;
       on = after-if1 .if1 .left;
-      same = after-fields .fields .ensures;
+      same = after-record-at .record-at .ensures;
       fits = sym (c .before .before .is-ordered .ensures) ∙ c .before .if2 .taken;
       count = c .count-length .ensures .0;
       short = c .count-length .ensures .1;
@@ -82,11 +82,8 @@ atom-counted t c =
 atom-returns : (t : ℕ) → atom-lts.Need-returns (atom-claims t) (atom-at t) atom.Post
 atom-returns t c = record { past = tt; reads = atom-over _ _ _ _ (c .if1 .taken) }
 
-atom-mul-fields : (t : ℕ) → atom-lts.Need-mul-fields (atom-claims t) (atom-at t) atom.Post
-atom-mul-fields t c = omega arith
-
-atom-fields-requires : (t : ℕ) → atom-lts.Need-fields-requires (atom-claims t) (atom-at t) atom.Post
-atom-fields-requires t c κs = record-in (c .before .before .pre .1) (c .if1 .left)
+atom-record-at-requires : (t : ℕ) → atom-lts.Need-record-at-requires (atom-claims t) (atom-at t) atom.Post
+atom-record-at-requires t c κs = record-in (c .before .before .pre .1) (c .if1 .left)
 
 atom-is-ordered-requires : (t : ℕ) → atom-lts.Need-is-ordered-requires (atom-claims t) (atom-at t) atom.Post
 atom-is-ordered-requires t c κs = search needs
@@ -194,7 +191,7 @@ atom-returns-7 : (t : ℕ) → atom-lts.Need-returns-7 (atom-claims t) (atom-at 
 atom-returns-7 t c = leaf-bad (atom-counted t (c .before .before .before .before .before .before)) (c .before .before .before .if3 .left) (c .before .before .leaf-at .ensures) (c .enum-told2 .given .1)
 
 atom-returns-8 : (t : ℕ) → atom-lts.Need-returns-8 (atom-claims t) (atom-at t) atom.Post
-atom-returns-8 t c = record { past = tt; reads = atom-unordered _ _ _ _ _ (c .before .before .fields .ensures) (c .before .before .before .if1 .left) (sym (c .before .is-ordered .ensures) ∙ c .if2 .left) }
+atom-returns-8 t c = record { past = tt; reads = atom-unordered _ _ _ _ _ (c .before .before .record-at .ensures) (c .before .before .before .if1 .left) (sym (c .before .is-ordered .ensures) ∙ c .if2 .left) }
 
 abbrev group-Inv-loop : group-lts.InvT-loop
 group-Inv-loop body atoms depth k from₀ left₀ from left = Branching body atoms depth left₀ from₀ from left
@@ -313,8 +310,7 @@ pattern-returns-3 t c = going-bad (c .before .before .before .loop .inv) (c .bef
 pub +atom+group+pattern-spec : {M : Type 1} → statement M
 +atom+group+pattern-spec = close μ-atom μ-group μ-pattern (λ t. atom-lts.spec (atom-claims t) (atom-at t) atom.Post
     (atom-returns t)
-    (atom-mul-fields t)
-    (atom-fields-requires t)
+    (atom-record-at-requires t)
     (atom-is-ordered-requires t)
     (atom-add-next t)
     (atom-count-length-requires t)

@@ -3,7 +3,7 @@ use mathlib.Core.Path.{_≡_}
 use mathlib.Core.Bool.{true}
 use Prim.Native.Nat.{ℕ, _+_, _*_, _≤_, _<_}
 use lib.ListN.{length}
-use Rattle.pattern.specs.Numbers.{record-size}
+use Rattle.pattern.specs.Numbers.{header-size, record-size}
 use Rattle.pattern.specs.Bytes.{Bytes}
 use Rattle.pattern.specs.Syntax.{Sort, Syntax, last, then, repeat, codes, literal, group, only, or, size}
 use Rattle.pattern.specs.Within.{Good}
@@ -23,9 +23,9 @@ Clean (group bs) = Clean bs
 Clean (only p) = Clean p
 Clean (or p bs) = Clean p × Clean bs
 
--- where the records of A atoms and the pool stand in bytes that begin with the records
+-- how a table of A atoms is laid out
 abbrev pub bare : ℕ → Layout
-bare A = record { records = 0; pool = record-size * A }
+bare A = record { records = header-size; pool = header-size + record-size * A }
 
 -- the tree stands at atom i with p bytes of the pool before it, inside d groups, and ends within the records and the bytes; e is for an atom alone
 pub record Set (s : Bytes) (A : ℕ) {o : Sort} (e : ℕ) (t : Syntax o) (i p d : ℕ) : Type 0 where
@@ -33,4 +33,4 @@ pub record Set (s : Bytes) (A : ℕ) {o : Sort} (e : ℕ) (t : Syntax o) (i p d 
   pub good : Good d t
   pub clean : Clean t
   pub within : i + size t ≤ A
-  pub pooled : record-size * A + p + length (pool t) ≤ length s
+  pub pooled : header-size + record-size * A + p + length (pool t) ≤ length s

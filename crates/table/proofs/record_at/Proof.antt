@@ -1,0 +1,34 @@
+-- `record_at` meets its contract: each field is read where the record has it. Assumes nothing.
+use Prim.Native.Nat.{_+_, _*_}
+use lib.ListN.{getD}
+use borrow.Author.Needs.{needs}
+use Rattle.pattern.specs.Numbers.{header-size, record-size}
+use Rattle.table.proofs.record_at.Statement.{statement}
+use Rattle.table.proofs.record_at.Tie as tie
+
+returns : tie.Need-returns
+returns c =
+    let after-word = c .before .before .before in
+    let start = after-word .before .before .before .before in
+    let s = start .args .table .now in
+    let at = header-size + record-size * start .args .i in
+    λ j. record { kind = getD s at 0; ends = getD s (at + 1) 0; low = after-word .word .ensures j; high = c .before .before .word2 .ensures j; a = c .before .word3 .ensures j; b = c .word4 .ensures j }
+
+pub record-at-spec : {M : Type 1} → statement M
+record-at-spec =
+    tie.close
+    (tie.spec
+    (search needs)
+    (search needs)
+    (search needs)
+    (search needs)
+    (search needs)
+    (search needs)
+    (λ c κs. search needs)
+    (search needs)
+    (λ c κs. search needs)
+    (search needs)
+    (λ c κs. search needs)
+    (search needs)
+    (λ c κs. search needs)
+    returns)
