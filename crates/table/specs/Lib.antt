@@ -4,3 +4,4 @@ pub mod Checked
 pub mod Standing
 pub mod Leaves
 pub mod Walk
+pub mod Write

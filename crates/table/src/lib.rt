@@ -2,6 +2,7 @@
 mod lengths;
 pub mod opening;
 mod walk;
+pub mod write;
 
 use opening::Opened;
 use pattern::limits::ATOM_LIMIT;
