@@ -18,7 +18,7 @@ use Rattle.compiler.specs.declared.reader.State.{State}
 use Rattle.compiler.specs.declared.reader.Parsed.the-variants as parsed
 use Rattle.scanner.specs.Places.{flag}
 use Rattle.pattern.specs.Stores.{stored}
-use Rattle.compiler.specs.Records.{rec-of}
+use Rattle.table.specs.Write.{rec-of}
 use Rattle.scanner.specs.Bodies.{CodesRead, LiteralIs, LiteralRead}
 use Rattle.compiler.specs.Readers.{Settled, LeafRead, CodedRead, WordedRead}
 

@@ -31,7 +31,7 @@ use Rattle.compiler.specs.declared.reader.Grouped.the-variants as groupe
 use Rattle.scanner.specs.Places.{flag, ByteIs, KindIs, LetterIs, ClassRead, SeparatorRead}
 use Rattle.scanner.specs.Scans.{scanned}
 use Rattle.pattern.specs.Stores.{stored}
-use Rattle.compiler.specs.Records.{rec-of}
+use Rattle.table.specs.Write.{rec-of}
 use Rattle.scanner.specs.Bodies.{Inside, in-codes, in-literal}
 use Rattle.scanner.specs.Counts.{CountIs, CountRefused, CountRead}
 use Rattle.compiler.specs.Readers.{Ready, Settled, tail, LeafRead, CodedRead, WordedRead, Refused, AtomIs, AtomRead, PatternIs, PatternRead, GroupIs, GroupRefused, GroupRead}

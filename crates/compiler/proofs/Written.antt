@@ -14,7 +14,7 @@ use Rattle.pattern.specs.Repeats.{repeat-of}
 use Rattle.pattern.specs.declared.repeat.Repeat.{Repeat}
 use Rattle.pattern.proofs.Records.{flat-append, length-flat, count-records}
 use Rattle.pattern.specs.Stores.{stored}
-use Rattle.compiler.specs.Records.{rec-of}
+use Rattle.table.specs.Write.{rec-of}
 use Rattle.compiler.specs.Readers.{Wrote}
 use Rattle.pattern.proofs.Stores.{stored-then, stored-before}
 

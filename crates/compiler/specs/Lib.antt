@@ -1,3 +1,2 @@
-pub mod Records
 pub mod Readers
 pub mod Compiling

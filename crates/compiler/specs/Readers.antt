@@ -21,7 +21,7 @@ use Rattle.compiler.specs.declared.reader.Grouped.the-variants as groupe
 use Rattle.scanner.specs.Places.{flag, Kind-not}
 use Rattle.scanner.specs.Scans.{scanned}
 use Rattle.pattern.specs.Stores.{stored}
-use Rattle.compiler.specs.Records.{rec-of}
+use Rattle.table.specs.Write.{rec-of}
 use Rattle.scanner.specs.Bodies.{Inside, in-codes, in-literal, Refuses}
 
 -- where a reader may start, in d groups

@@ -3,17 +3,17 @@ ghost use mathlib.Core.Path.{_≡_};
 ghost use Rattle.pattern.specs.Answers.{compileOf};
 ghost use Rattle.compiler.specs.Compiling.{answer-of};
 
-mod copy;
-mod emit;
 mod reader;
 
-use crate::emit::emit;
 use crate::reader::Parsed;
 use crate::reader::State;
 use crate::reader::read_pattern;
 use pattern::limits;
 use pattern::refusal;
 use scanner::cursor::Cursor;
+use table::write::RECORDS_ROOM;
+use table::write::Written;
+use table::write::write_table;
 
 // The length of the table, or a refusal and its position.
 pub enum Compiled {
@@ -28,7 +28,7 @@ pub fn compile(source: &[u8], table: &mut [u8]) -> Compiled
     if limits::SOURCE_LIMIT < source.len() {
         return Compiled::Refused(refusal::LONG, limits::SOURCE_LIMIT);
     }
-    let mut recs = [0u8; limits::RECORD_SIZE * limits::ATOM_LIMIT];
+    let mut recs = [0u8; RECORDS_ROOM];
     let mut pool = [0u8; limits::SOURCE_LIMIT];
     let st = State {
         at: Cursor { at: 0 },
@@ -42,7 +42,10 @@ pub fn compile(source: &[u8], table: &mut [u8]) -> Compiled
             if at < source.len() {
                 Compiled::Refused(refusal::FORM, at)
             } else {
-                emit(at, end.atoms, end.pool, &recs, &pool, table)
+                match write_table(end.atoms, end.pool, &recs, &pool, table) {
+                    Written::Length(n) => Compiled::Table(n),
+                    Written::Room => Compiled::Refused(refusal::ROOM, at),
+                }
             }
         }
         Parsed::Fault(no, pos) => Compiled::Refused(no, pos),

@@ -3,7 +3,6 @@ ghost use Prim.Native.Nat.{_-_, _≤_};
 ghost use lib.ListN.{length};
 ghost use Rattle.scanner.specs.Places.{LetterIs};
 ghost use Rattle.compiler.specs.Readers.{Ready, Room, LeafReady, CodedRead, WordedRead, PatternRead, AtomRead, GroupRead};
-use crate::copy::put_record;
 use pattern::kind;
 use pattern::limits;
 use pattern::refusal;
@@ -18,6 +17,7 @@ use scanner::cursor::Class;
 use scanner::cursor::Cursor;
 use scanner::cursor::Separator;
 use scanner::cursor::last;
+use table::write::put_record;
 
 // How far a reader has come: the place in the source, the atoms so far, and the length of the pool.
 pub struct State {

@@ -12,3 +12,4 @@ pub mod Steps
 pub mod Walks
 pub mod Moves
 pub mod Checks
+pub mod Writing

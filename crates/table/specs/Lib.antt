@@ -3,3 +3,4 @@ pub mod Headers
 pub mod Checked
 pub mod Leaves
 pub mod Walk
+pub mod Write

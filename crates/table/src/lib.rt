@@ -2,6 +2,7 @@
 pub mod header;
 mod lengths;
 mod walk;
+pub mod write;
 
 use header::HeaderRead;
 use pattern::limits::ATOM_LIMIT;

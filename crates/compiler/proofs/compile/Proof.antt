@@ -1,7 +1,7 @@
 -- `compile` meets its contract: the reader's answer is the scan's. Assumes nothing.
 use native.Mathlib.Omega.{arith}
 use Rattle.compiler.proofs.Readers.{pattern-is}
-use Rattle.compiler.proofs.Emits.{compile-long, compile-fault, compile-form, compile-table}
+use Rattle.compiler.proofs.Answers.{compile-long, compile-fault, compile-form, compile-table}
 use borrow.Author.Needs.{needs}
 use Rattle.compiler.proofs.compile.Statement.{statement}
 use Rattle.compiler.proofs.compile.Tie as tie
@@ -21,17 +21,23 @@ read-pattern-requires c κs = search needs
 enum-known-end : tie.Need-enum-known-end
 enum-known-end c = search needs
 
-slice-aggregate-emit : tie.Need-slice-aggregate-emit
-slice-aggregate-emit c = search needs
+slice-aggregate-write-table : tie.Need-slice-aggregate-write-table
+slice-aggregate-write-table c = search needs
 
-slice-aggregate-emit-2 : tie.Need-slice-aggregate-emit-2
-slice-aggregate-emit-2 c = search needs
+slice-aggregate-write-table-2 : tie.Need-slice-aggregate-write-table-2
+slice-aggregate-write-table-2 c = search needs
 
-emit-requires : tie.Need-emit-requires
-emit-requires c κs =
+write-table-requires : tie.Need-write-table-requires
+write-table-requires c κs =
     let after-end = c .before .before .before .before .before .before in
     let after-read-pattern = after-end .before .before .before .before in
     let m = (pattern-is _ _ _ _ _ _ _ _ _ (after-end .end .given .1) (after-read-pattern .read-pattern .ensures)) .moved in search (needs, m)
+
+enum-known-n : tie.Need-enum-known-n
+enum-known-n c = search needs
+
+enum-told : tie.Need-enum-told
+enum-told c = search needs
 
 enum-known-no : tie.Need-enum-known-no
 enum-known-no c = search needs
@@ -48,14 +54,28 @@ same-length c = search needs
 
 returns-3 : tie.Need-returns-3
 returns-3 c =
-    let after-if2 = c .before .before .before .before .before .before in
+    let after-n = c .before in
+    let after-write-table = after-n .before .before .before .before in
+    let after-if2 = after-write-table .before .before .before .before in
     let after-end = after-if2 .before .before .before in
     let after-read-pattern = after-end .before .before .before .before in
     let after-if1 = after-read-pattern .before .before .before in
-    compile-table _ _ (omega (arith, after-if1 .if1 .left)) _ _ _ _ _ (pattern-is _ _ _ _ _ _ _ _ _ (after-end .end .given .1) (after-read-pattern .read-pattern .ensures)) (omega arith) (omega arith) (omega (arith, after-if2 .if2 .left)) _ (c .before .before .emit .ensures)
+    compile-table _ _ (omega (arith, after-if1 .if1 .left)) _ _ _ _ _ (pattern-is _ _ _ _ _ _ _ _ _ (after-end .end .given .1) (after-read-pattern .read-pattern .ensures)) (omega arith) (omega arith) (omega (arith, after-if2 .if2 .left)) (after-write-table .write-table .ensures) _ (after-n .n .given .1)
+
+same-length-2 : tie.Need-same-length-2
+same-length-2 c = search needs
 
 returns-4 : tie.Need-returns-4
-returns-4 c = compile-fault _ _ (omega (arith, c .before .before .before .before .before .before .before .before .if1 .left)) _ _ _ _ _ _ _ (c .before .no .given .1) (c .before .before .before .before .before .read-pattern .ensures)
+returns-4 c =
+    let after-write-table = c .before .before .before .before in
+    let after-if2 = after-write-table .before .before .before .before in
+    let after-end = after-if2 .before .before .before in
+    let after-read-pattern = after-end .before .before .before .before in
+    let after-if1 = after-read-pattern .before .before .before in
+    compile-table _ _ (omega (arith, after-if1 .if1 .left)) _ _ _ _ _ (pattern-is _ _ _ _ _ _ _ _ _ (after-end .end .given .1) (after-read-pattern .read-pattern .ensures)) (omega arith) (omega arith) (omega (arith, after-if2 .if2 .left)) (after-write-table .write-table .ensures) _ (c .enum-told .given .1)
+
+returns-5 : tie.Need-returns-5
+returns-5 c = compile-fault _ _ (omega (arith, c .before .before .before .before .before .before .before .before .if1 .left)) _ _ _ _ _ _ _ (c .before .no .given .1) (c .before .before .before .before .before .read-pattern .ensures)
 
 pub compile-spec : {M : Type 1} → statement M
 compile-spec =
@@ -66,11 +86,15 @@ compile-spec =
     slice-aggregate-read-pattern-2
     read-pattern-requires
     enum-known-end
-    slice-aggregate-emit
-    slice-aggregate-emit-2
-    emit-requires
+    slice-aggregate-write-table
+    slice-aggregate-write-table-2
+    write-table-requires
+    enum-known-n
+    enum-told
     enum-known-no
     returns-2
     same-length
     returns-3
-    returns-4)
+    same-length-2
+    returns-4
+    returns-5)

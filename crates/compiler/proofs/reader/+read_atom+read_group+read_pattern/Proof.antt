@@ -20,7 +20,7 @@ use Rattle.compiler.proofs.reader.+read_atom+read_group+read_pattern.Lt
 use Rattle.compiler.proofs.reader.read_pattern.Reads as read-pattern
 use Rattle.compiler.proofs.reader.read_pattern.Kinds as read-pattern-kinds
 use Rattle.compiler.proofs.reader.+read_atom+read_group+read_pattern.Lts-read_pattern as read-pattern-lts
-use Rattle.compiler.proofs.copy.put_record.Reads as put-record-reads
+use Rattle.table.proofs.write.put_record.Reads as put-record-reads
 use Rattle.scanner.proofs.count.count.Reads as count-reads
 use Rattle.scanner.proofs.cursor.Cursor.class.Reads as class-reads
 use Rattle.scanner.proofs.cursor.last.Reads as last-reads

@@ -1,11 +1,11 @@
--- `copy::put_record` meets its contract: the six stores one after the other. Assumes nothing.
+-- `write::put_record` meets its contract: the six stores one after the other. Assumes nothing.
 use mathlib.Core.Path.{_∙_}
 use native.Mathlib.Omega.{arith}
 use lib.ListN.{length-set}
-use Rattle.compiler.proofs.Records.{record-puts}
+use Rattle.table.proofs.Writing.{record-puts}
 use borrow.Author.Needs.{needs}
-use Rattle.compiler.proofs.copy.put_record.Statement.{statement}
-use Rattle.compiler.proofs.copy.put_record.Tie as tie
+use Rattle.table.proofs.write.put_record.Statement.{statement}
+use Rattle.table.proofs.write.put_record.Tie as tie
 
 mul-at : tie.Need-mul-at
 mul-at c = search needs

@@ -1,11 +1,11 @@
--- `emit::emit` meets its contract: header, records and text stored one after the other. Assumes nothing.
+-- `write::write_table` meets its contract: header, records and text stored one after the other. Assumes nothing.
 use mathlib.Core.Path.{_∙_}
 use native.Mathlib.Omega.{arith}
 use lib.ListN.{length-set}
-use Rattle.compiler.proofs.Emits.{no-room, emits-table}
+use Rattle.table.proofs.Writing.{no-room, writes-table}
 use borrow.Author.Needs.{needs}
-use Rattle.compiler.proofs.emit.emit.Statement.{statement}
-use Rattle.compiler.proofs.emit.emit.Tie as tie
+use Rattle.table.proofs.write.write_table.Statement.{statement}
+use Rattle.table.proofs.write.write_table.Tie as tie
 
 mul-from : tie.Need-mul-from
 mul-from c = search needs
@@ -17,7 +17,7 @@ add-total : tie.Need-add-total
 add-total c = search needs
 
 returns : tie.Need-returns
-returns c = no-room _ _ _ _ _ _ (c .before .before .before .before .pre) (c .if1 .taken)
+returns c = record { puts = λ position. no-room position _ _ _ _ _ (c .before .before .before .before .pre) (c .if1 .taken) }
 
 marked-requires : tie.Need-marked-requires
 marked-requires c κs = search needs
@@ -75,10 +75,10 @@ returns-2 c =
     let after-marked = after-copy .before .before .before in
     let after-if1 = after-marked .before in
     let start = after-if1 .before .before .before .before in
-    emits-table _ _ _ _ _ _ (start .pre) _ _ _ _ _ (after-if1 .if1 .left) (after-marked .marked .ensures) (after-copy .copy .ensures) (after-put16 .put16 .ensures) (after-copy2 .copy2 .ensures) (c .before .before .copy3 .ensures)
+    record { puts = λ position. writes-table position _ _ _ _ _ (start .pre) _ _ _ _ _ (after-if1 .if1 .left) (after-marked .marked .ensures) (after-copy .copy .ensures) (after-put16 .put16 .ensures) (after-copy2 .copy2 .ensures) (c .before .before .copy3 .ensures) }
 
-pub emit-spec : {M : Type 1} → statement M
-emit-spec =
+pub write-table-spec : {M : Type 1} → statement M
+write-table-spec =
     tie.close
     (tie.spec
     mul-from

@@ -1,0 +1,63 @@
+-- The stores of a record and of a table. Assumes nothing.
+use mathlib.Core.Path.{_≡_, refl, sym, ap, ap₂, _∙_}
+use mathlib.Core.List.{[], _∷_, _++_, append-assoc}
+use Prim.Native.Nat.{ℕ, _+_, _*_, _<_, _≤_}
+use native.Mathlib.Omega.{arith}
+use lib.ListN.{length, take, set, length-append}
+use lib.Seq.{length-take-le}
+use Rattle.pattern.specs.Numbers.{header-size, record-size, mark, version}
+use Rattle.pattern.specs.Bytes.{Bytes, word}
+use Rattle.pattern.specs.Stores.{stored, Puts}
+use Rattle.pattern.specs.Table.{Rec, flat, header}
+use Rattle.pattern.specs.Answers.{put}
+use Rattle.pattern.proofs.Calls.{put-fits, put-short}
+use Rattle.pattern.proofs.Stores.{stored-two, stored-then, stored-over, puts-then, puts-more}
+use Rattle.table.specs.Write.{WriteTablePre, table-of, output-of}
+use Rattle.table.specs.declared.write.Written.the-variants.{Length, Room}
+
+-- the ten stores of a record
+pub record-puts : (l l₁ l₂ l₃ l₄ : Bytes) (at : ℕ) (r : Rec)
+    → l₁ ≡ stored (set (set l at (r .kind)) (at + 1) (r .ends)) (at + 2) (word (r .low) []) → l₂ ≡ stored l₁ (at + 4) (word (r .high) [])
+    → l₃ ≡ stored l₂ (at + 6) (word (r .a) []) → l₄ ≡ stored l₃ (at + 8) (word (r .b) []) → l₄ ≡ stored l at (flat (r ∷ []) [])
+unfolding flat
+record-puts l l₁ l₂ l₃ l₄ at r e₁ e₂ e₃ e₄ =
+    let h : Bytes = r .kind ∷ r .ends ∷ [] in
+    let x : Bytes = word (r .low) [] in
+    let y : Bytes = word (r .high) [] in
+    let z : Bytes = word (r .a) [] in
+    let t₁ : l₁ ≡ stored l at (h ++ x) = e₁ ∙ ap (λ (m : Bytes). stored m (at + 2) x) (sym (stored-two l at (r .kind) (r .ends))) ∙ stored-then l at (at + 2) h x refl in
+    let t₂ : l₂ ≡ stored l at (h ++ x ++ y) = e₂ ∙ ap (λ (m : Bytes). stored m (at + 4) y) t₁ ∙ stored-then l at (at + 4) (h ++ x) y refl in
+    let t₃ : l₃ ≡ stored l at (h ++ x ++ y ++ z) = e₃ ∙ ap (λ (m : Bytes). stored m (at + 6) z) t₂ ∙ stored-then l at (at + 6) (h ++ x ++ y) z refl in
+    e₄ ∙ ap (λ (m : Bytes). stored m (at + 8) (word (r .b) [])) t₃ ∙ stored-then l at (at + 8) (h ++ x ++ y ++ z) (word (r .b) []) refl
+
+-- ---- the table
+
+module _ (position n m : ℕ) (recs text table : Bytes) (pre : WriteTablePre n m recs text) where
+  table-size : length (table-of n m recs text) ≡ header-size + record-size * n + m
+  unfolding table-of header
+  table-size =
+      omega (arith, length-append (take (record-size * n) recs) (take m text), length-take-le (record-size * n) recs (pre .recs-there), length-take-le m text (pre .text-there))
+
+  pub no-room : length table < header-size + record-size * n + m → output-of position Room table ≡ put position (table-of n m recs text) table
+  no-room h = sym (put-short position (table-of n m recs text) table (omega (arith, table-size)))
+
+  -- the stores one after the other
+  pub writes-table : (mark′ t₁ t₂ t₃ t₄ : Bytes) → header-size + record-size * n + m ≤ length table → mark′ ≡ mark ++ word version [] → t₁ ≡ stored table 0 (take 5 mark′)
+      → t₂ ≡ stored (set t₁ 5 n) 6 (word m []) → t₃ ≡ stored t₂ header-size (take (record-size * n) recs) → t₄ ≡ stored t₃ (header-size + record-size * n) (take m text)
+      → output-of position (Length (header-size + record-size * n + m)) t₄ ≡ put position (table-of n m recs text) table
+  writes-table mark′ t₁ t₂ t₃ t₄ h e e₁ e₂ e₃ e₄ =
+      let r : Bytes = take (record-size * n) recs in
+      let v : Bytes = take m text in
+      let a : Puts table 0 (mark ++ word version []) t₁ 5 = record { bytes = e₁ ∙ rw e; next = refl } in
+      let b : Puts table 0 eight t₂ header-size = puts-then (puts-more a n) (record { bytes = e₂; next = refl }) in
+      let c : Puts table 0 (eight ++ r) t₃ (header-size + record-size * n) = puts-then b (record { bytes = e₃; next = ap (λ k. header-size + k) (sym (length-take-le (record-size * n) recs (pre .recs-there))) }) in
+      let d : Puts table 0 ((eight ++ r) ++ v) t₄ (header-size + record-size * n + m) = puts-then c (record { bytes = e₄; next = ap (λ k. header-size + record-size * n + k) (sym (length-take-le m text (pre .text-there))) }) in
+      let z = table-size in
+      ap₂ (λ k l. output-of position (Length k) l) (sym z) (d .bytes ∙ ap (stored table 0) (append-assoc eight r v ∙ whole) ∙ stored-over table (table-of n m recs text) (omega arith))
+      ∙ sym (put-fits position (table-of n m recs text) table (omega arith))
+    where
+      eight : Bytes
+      eight = ((mark ++ word version []) ++ n ∷ []) ++ word m []
+
+      whole : eight ++ (take (record-size * n) recs ++ take m text) ≡ table-of n m recs text
+      whole = unfold table-of header in refl

@@ -1,0 +1,63 @@
+// Writing a table: the record of each atom into a buffer, then header, records and pool into lent bytes.
+use pattern::limits;
+use pattern::repeat::Repeat;
+use stores::copy;
+use stores::put16;
+ghost use mathlib.Core.Path.{_≡_};
+ghost use mathlib.Core.List.{[], _∷_};
+ghost use Prim.Native.Nat.{_+_, _*_, _≤_};
+ghost use lib.ListN.{length};
+ghost use Rattle.pattern.specs.Numbers.{record-size};
+ghost use Rattle.pattern.specs.Stores.{stored};
+ghost use Rattle.pattern.specs.Table.{flat};
+ghost use Rattle.table.specs.Write.{rec-of, WriteTablePre, WriteTablePost};
+
+// The records of every pattern fit.
+pub const RECORDS_ROOM: usize = limits::RECORD_SIZE * limits::ATOM_LIMIT;
+
+// Every table fits.
+pub const TABLE_ROOM: usize = limits::HEADER_SIZE + RECORDS_ROOM + limits::SOURCE_LIMIT;
+
+// The length of the table, or that the lent bytes are too short.
+pub enum Written {
+    Length(usize),
+    Room,
+}
+
+// The record of atom i, in a buffer of records.
+pub fn put_record(recs: &mut [u8], i: usize, kind: u8, last: u8, rep: Repeat, a: u16, b: u16)
+    requires { ⌜ record-size * i + record-size ≤ length (now recs) ⌝ }
+    ensures { λ _. ⌜ now (recs .exit) ≡ stored (now (recs .entry)) (record-size * i) (flat (rec-of kind last rep a b ∷ []) []) ⌝ }
+{
+    let at = limits::RECORD_SIZE * i;
+    recs[at] = kind;
+    recs[at + 1] = last;
+    put16(recs, at + 2, rep.low);
+    put16(recs, at + 4, rep.high);
+    put16(recs, at + 6, a);
+    put16(recs, at + 8, b);
+}
+
+// The table of the first atoms of these records and the first text bytes of this pool; too little room writes nothing.
+pub fn write_table(atoms: usize, text: usize, recs: &[u8], pool: &[u8], table: &mut [u8]) -> Written
+    requires { ⌜ WriteTablePre atoms text (now recs) (now pool) ⌝ }
+    ensures { λ r. ⌜ WriteTablePost atoms text (now (recs .entry)) (now (pool .entry)) (now (table .entry)) r (now (table .exit)) ⌝ }
+{
+    let from = limits::HEADER_SIZE + limits::RECORD_SIZE * atoms;
+    let total = from + text;
+    if table.len() < total {
+        return Written::Room;
+    }
+    let mark = limits::marked();
+    copy(&mark, limits::ATOMS_PLACE, table, 0);
+    table[limits::ATOMS_PLACE] = atoms as u8;
+    put16(table, limits::LENGTH_PLACE, text as u16);
+    copy(
+        recs,
+        limits::RECORD_SIZE * atoms,
+        table,
+        limits::HEADER_SIZE,
+    );
+    copy(pool, text, table, from);
+    Written::Length(total)
+}
