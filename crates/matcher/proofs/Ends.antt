@@ -1,13 +1,13 @@
 -- The parts, in plain values: the search for a last end, and the loop over the top-level atoms. Assumes nothing.
 use mathlib.Core.Path.{_≡_, refl, sym, ap, _∙_}
 use mathlib.Core.Bool.{Bool, true, false, cond}
-use mathlib.Core.List.{[], _∷_, _++_, append-assoc, append-nil}
+use mathlib.Core.List.{[], _∷_, _++_, append-assoc}
 use Prim.Native.Nat.{ℕ, zero, suc, _+_, _*_, _-_, _/_, _%_, _≤_, _<_}
 use native.Mathlib.Omega.{arith}
 use lib.ListN.{length, getD, set, drop, length-append, length-set}
 use lib.Seq.{drop-cons, set-at}
 use Rattle.pattern.specs.Bytes.{Bytes, word, over}
-use Rattle.pattern.specs.Syntax.{pattern, atom, Syntax, last, then, size, top-size, nodes}
+use Rattle.pattern.specs.Syntax.{pattern, atom, Syntax, last, then, size, top-size}
 use Rattle.pattern.specs.Decision.{trial, decide}
 use Rattle.pattern.specs.Parts.{longest, end, parts}
 use Rattle.pattern.specs.Decode.{tree-of}

@@ -10,10 +10,10 @@ use crate::sizes::LINE_LIMIT;
 use crate::sizes::NEWLINE;
 use crate::sizes::PARTS_ROOM;
 use crate::sizes::TAB;
-use crate::sizes::TABLE_ROOM;
 use crate::sizes::UNSET;
 use crate::text;
 use compiler::Compiled;
+use table::TABLE_ROOM;
 
 // Where the first tab stands, the length if there is none.
 fn tab_at(line: &[u8]) -> usize

@@ -20,11 +20,7 @@ pub const NEWLINE: u8 = b'\n';
 
 pub const SPACE: u8 = b' ';
 
-// Every table fits, and the parts of every table.
-pub const TABLE_ROOM: usize = limits::HEADER_SIZE
-    + limits::RECORD_SIZE * limits::ATOM_LIMIT
-    + limits::SOURCE_LIMIT;
-
+// The parts of every table fit.
 pub const PARTS_ROOM: usize = 2 * limits::ATOM_LIMIT;
 
 // A reply fits, its newline too: the longest is a yes with a comma and three digits for each part.

@@ -17,6 +17,9 @@ ghost use Rattle.pattern.specs.Decode.{field, layout, its, decode};
 ghost use Rattle.table.specs.Fields.{record-of, RecordIn};
 ghost use Rattle.table.specs.Walk.{tested};
 
+// Every table fits: a pool is no longer than its source.
+pub const TABLE_ROOM: usize = HEADER_SIZE + RECORD_SIZE * ATOM_LIMIT + SOURCE_LIMIT;
+
 // What a record says.
 pub struct Record {
     pub kind: u8,
