@@ -2,10 +2,10 @@
 use mathlib.Core.Path.{_≡_, refl, sym, ap, ap₂, subst, _∙_}
 use mathlib.Core.List.{List, [], _∷_, _++_, append-nil}
 use mathlib.Core.Option.{Option}
-use Prim.Native.Nat.{ℕ, zero, suc, _+_, _*_, _-_, _≤_, _<_}
+use Prim.Native.Nat.{ℕ, zero, suc, _+_, _-_, _≤_, _<_}
 use native.Mathlib.Omega.{arith}
 use lib.ListN.{length, getD, take, drop, length-append, length-drop}
-use lib.Seq.{slice, getD-drop, take-append-seam}
+use lib.Seq.{getD-drop, take-append-seam}
 use Rattle.pattern.specs.Bytes.{Bytes}
 use Rattle.pattern.specs.Syntax.{pattern, atom, body, branches, Syntax, last, then, repeat, codes, literal, group, only, or, size, nodes}
 use Rattle.pattern.specs.Table.{pool, choices, kind-field, a-field, b-field, rec, records}
@@ -16,10 +16,10 @@ use Rattle.pattern.proofs.Records.{Placed, head-there, then-there}
 use Rattle.pattern.proofs.RoundTrip.{some-pattern, encode-length, high-again}
 use Rattle.pattern.proofs.Nodes.{At, at-atom, at-last, at-next, at-branch, Held, held}
 use Rattle.pattern.proofs.Calls.{decoded-encode}
-use Rattle.table.specs.declared.Record.{Record}
+use Rattle.table.specs.declared.record.Record.{Record}
 use Rattle.table.specs.Fields.{record-of, RecordIn}
 use Rattle.atoms.specs.Atoms.{atoms, node, branches-from, head, inside, AtomIn}
-use Rattle.atoms.specs.Records.{LiteralIn, LiteralAt, GroupIn, FollowedIn, RecordOf}
+use Rattle.atoms.specs.Records.{LiteralAt, GroupIn, FollowedIn, RecordOf}
 use Rattle.atoms.proofs.Goods.{count-fits}
 
 -- the first node of a pattern is the pattern

@@ -9,7 +9,7 @@ use Rattle.pattern.specs.Bytes.{Bytes}
 use Rattle.pattern.specs.Syntax.{last, then, repeat, codes, literal, group, size}
 use Rattle.pattern.specs.Within.{Fits}
 use Rattle.pattern.specs.Decode.{high-of}
-use Rattle.table.specs.declared.Record.{Record}
+use Rattle.table.specs.declared.record.Record.{Record}
 use Rattle.atoms.specs.Atoms.{atoms, node, branches-from, head, inside, AtomIn}
 
 -- atom x is a literal

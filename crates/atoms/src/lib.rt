@@ -5,7 +5,8 @@ ghost use Rattle.pattern.specs.Syntax.{size};
 ghost use Rattle.atoms.specs.Atoms.{node, head, AtomIn};
 ghost use Rattle.atoms.specs.Records.{RecordOf, LiteralIn, LiteralAt};
 use pattern::kind;
-use table::Record;
+use table::record;
+use table::record::Record;
 
 // Where the value of a literal lies in the table, and its length.
 pub struct Span {
@@ -18,7 +19,7 @@ pub fn record_at(table: &[u8], x: usize) -> Record
     requires { ⌜ AtomIn (now table) x ⌝ }
     ensures { λ r. ⌜ RecordOf (now (table .entry)) x r ⌝ }
 {
-    table::record_at(table, x)
+    record::record_at(table, x)
 }
 
 // The value of the literal x; an empty one lies anywhere.
@@ -26,7 +27,7 @@ pub fn literal_at(table: &[u8], x: usize) -> Span
     requires { ⌜ LiteralIn (now table) x ⌝ }
     ensures { λ r. ⌜ LiteralAt (now (table .entry)) x (r .from) (r .len) ⌝ }
 {
-    let r = table::record_at(table, x);
+    let r = record::record_at(table, x);
     let len = r.b as usize;
     if len == 0 {
         return Span { from: 0, len };

@@ -6,7 +6,7 @@ use Prim.Native.Nat.{ℕ, zero, suc, _+_, _*_, _-_, _≤_, _<_}
 use native.Mathlib.Omega.{arith}
 use lib.ListN.{length}
 use Rattle.pattern.specs.Bytes.{Bytes, word, over}
-use Rattle.pattern.specs.Syntax.{pattern, atom, Syntax, last, then, size, top-size, nodes}
+use Rattle.pattern.specs.Syntax.{pattern, atom, Syntax, last, then, size, top-size}
 use Rattle.pattern.specs.Decision.{trial, decide}
 use Rattle.pattern.specs.Parts.{longest, end, parts}
 use Rattle.pattern.specs.Decode.{tree-of}
@@ -15,7 +15,7 @@ use Rattle.pattern.specs.Stores.{stored, Puts}
 use Rattle.pattern.proofs.Stores.{stored-over, puts-none, puts-then, puts-length}
 use Rattle.pattern.proofs.RoundTrip.{some-pattern}
 use Rattle.pattern.proofs.Longest.{longest-le}
-use Rattle.table.specs.declared.Record.{Record}
+use Rattle.table.specs.declared.record.Record.{Record}
 use Rattle.atoms.specs.Records.{RecordOf}
 use Rattle.planes.specs.Cells.{Plane, Readable, on}
 use Rattle.atoms.specs.Atoms.{atoms, node, head}

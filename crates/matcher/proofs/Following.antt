@@ -15,7 +15,7 @@ use Rattle.pattern.specs.Trials.{joins, repeats, own, total, trials}
 use Rattle.pattern.specs.Decode.{blank, tree-of}
 use Rattle.pattern.proofs.Bound.{nodes-size}
 use Rattle.pattern.proofs.RoundTrip.{some-atom}
-use Rattle.table.specs.declared.Record.{Record}
+use Rattle.table.specs.declared.record.Record.{Record}
 use Rattle.atoms.specs.Records.{RecordOf}
 use Rattle.planes.specs.declared.join.Tally.{Tally}
 use Rattle.planes.specs.Cells.{InRoom, Plane, Kept, on}

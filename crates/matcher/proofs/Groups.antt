@@ -14,7 +14,7 @@ use Rattle.pattern.specs.Bytes.{Bytes, same}
 use Rattle.pattern.specs.Syntax.{pattern, body, branches, Syntax, group, only, or, size}
 use Rattle.pattern.specs.Decision.{Rel, decide}
 use Rattle.pattern.proofs.RoundTrip.{some-pattern}
-use Rattle.table.specs.declared.Record.{Record}
+use Rattle.table.specs.declared.record.Record.{Record}
 use Rattle.atoms.specs.Records.{LiteralAt, RecordOf}
 use Rattle.atoms.proofs.Views.{branches-last, branches-more, branches-some}
 use Rattle.planes.specs.declared.fill.Content.{Content}

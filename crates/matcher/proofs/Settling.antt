@@ -13,7 +13,7 @@ use Rattle.pattern.specs.Syntax.{atom, body, Syntax, repeat}
 use Rattle.pattern.specs.Decision.{Rel, made, most, repeated, decide}
 use Rattle.pattern.specs.Trials.{sum, joins, repeats}
 use Rattle.pattern.specs.Decode.{high-of}
-use Rattle.table.specs.declared.Record.{Record}
+use Rattle.table.specs.declared.record.Record.{Record}
 use Rattle.atoms.specs.Records.{RecordOf}
 use Rattle.planes.specs.declared.join.Tally.{Tally}
 use Rattle.planes.specs.declared.fill.Content.the-variants.{Empty}

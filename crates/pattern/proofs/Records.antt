@@ -61,7 +61,7 @@ module _ (s : Bytes) where
   pub next-there : (at next : ℕ) (xs : List Rec) (x : Bytes) → next ≡ at + record-size * length xs → drop at s ≡ flat xs x → drop next s ≡ x
   next-there at next xs x n e = ap (λ k. drop k s) n ∙ sym (drop-drop (record-size * length xs) at s) ∙ ap (drop (record-size * length xs)) e ∙ drop-flat xs x
 
-  after-there : (at next : ℕ) (v x : Bytes) → next ≡ at + length v → drop at s ≡ v ++ x → drop next s ≡ x
+  pub after-there : (at next : ℕ) (v x : Bytes) → next ≡ at + length v → drop at s ≡ v ++ x → drop next s ≡ x
   after-there at next v x n e = ap (λ k. drop k s) n ∙ sym (drop-drop (length v) at s) ∙ ap (drop (length v)) e ∙ drop-append-seam v x
 
 -- in a table of this layout these records begin at index i, and this text at p in the pool

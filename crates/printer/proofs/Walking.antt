@@ -15,13 +15,13 @@ use Rattle.pattern.specs.Stores.{Puts}
 use Rattle.pattern.proofs.RoundTrip.{some-atom, some-pattern}
 use Rattle.pattern.proofs.Stores.{puts-byte, puts-then, puts-more, puts-length, puts-room, puts-as}
 use Rattle.pattern.proofs.Stretch.{slice-take}
-use Rattle.table.specs.declared.Record.{Record}
-use Rattle.atoms.specs.Atoms.{GoodTable, atoms, node, branches-from, head, inside}
+use Rattle.table.specs.declared.record.Record.{Record}
+use Rattle.atoms.specs.Atoms.{atoms, node, branches-from, head, inside}
 use Rattle.atoms.specs.Records.{LiteralAt, GroupIn, RecordOf}
 use Rattle.atoms.proofs.Views.{branch-last, branch-then, branches-last, branches-more, branches-some}
 use Rattle.printer.specs.Walk.{WritePatternPre, WriteAtomPre, WriteGroupPre, WritePost}
 use Rattle.printer.specs.declared.walk.Next.{Next}
-use Rattle.printer.proofs.Storing.{Partly, partly-start, partly-as, partly-then, partly-end, partly-length, partly-room}
+use Rattle.printer.proofs.Storing.{Partly, partly-start, partly-as, partly-then, partly-end, partly-room}
 
 -- ---- what is printed
 

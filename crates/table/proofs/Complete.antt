@@ -7,7 +7,7 @@ use lib.Dec.{ltb, eqb}
 use borrow.Author.Tests.{lt-ltb, le-leb, eq-eqb, ne-eqb}
 use lib.ListN.{length, take, length-append}
 use lib.Seq.{take-append-seam}
-use Rattle.pattern.specs.Numbers.{depth-limit, set-limit, record-size}
+use Rattle.pattern.specs.Numbers.{depth-limit, set-limit}
 use Rattle.pattern.specs.Bytes.{Bytes}
 use Rattle.pattern.specs.Syntax.{pattern, atom, body, branches, Syntax, last, then, repeat, codes, literal, group, only, or, size}
 use Rattle.pattern.specs.Within.{Good}
@@ -17,21 +17,21 @@ use Rattle.pattern.proofs.Records.{Placed, head-there, tail-there, then-there, 
 use Rattle.pattern.proofs.RoundTrip.{some-atom, some-pattern, some-choice, high-again}
 use Rattle.table.specs.Fields.{record-of}
 use Rattle.table.specs.Checked.{plain, ordered, a-set, after, only-if, choose, text, leaf, closed, read-pattern, read-atom, read-branches}
-use Rattle.table.proofs.Standing.{Clean, bare, Set}
-use Rattle.table.specs.declared.Record.{Record}
+use Rattle.table.proofs.Standing.{Clean, laid-out, Set}
+use Rattle.table.specs.declared.record.Record.{Record}
 use Rattle.table.proofs.Options.{kept, first, second, going-on, true-and}
 use Rattle.table.proofs.Clean.{fits-ordered}
 
 module _ (s : Bytes) (A : ℕ) where
-  pub set-last : {e : ℕ} {a : Syntax atom} {i p d : ℕ} → Set s A e (last a) i p d → Set s A 1 a i p d
+  set-last : {e : ℕ} {a : Syntax atom} {i p d : ℕ} → Set s A e (last a) i p d → Set s A 1 a i p d
   unfolding records size pool Good Clean
   set-last h = record { placed = h .placed; good = h .good; clean = h .clean; within = h .within; pooled = h .pooled }
 
-  pub set-only : {e : ℕ} {q : Syntax pattern} {i p d : ℕ} → Set s A e (only q) i p d → Set s A e q i p d
+  set-only : {e : ℕ} {q : Syntax pattern} {i p d : ℕ} → Set s A e (only q) i p d → Set s A e q i p d
   unfolding records size pool Good Clean
   set-only h = record { placed = h .placed; good = h .good; clean = h .clean; within = h .within; pooled = h .pooled }
 
-  pub set-then : (e : ℕ) (a : Syntax atom) (q : Syntax pattern) (i p d : ℕ) → Set s A e (then a q) i p d → Set s A 0 a i p d × Set s A e q (i + size a) (p + length (pool a)) d
+  set-then : (e : ℕ) (a : Syntax atom) (q : Syntax pattern) (i p d : ℕ) → Set s A e (then a q) i p d → Set s A 0 a i p d × Set s A e q (i + size a) (p + length (pool a)) d
   unfolding size pool Good Clean
   set-then e a q i p d h =
       let (x, y) = then-there e a q (h .placed) in
@@ -40,7 +40,7 @@ module _ (s : Bytes) (A : ℕ) where
         record { placed = y; good = h .good .1; clean = h .clean .1; within = omega (arith, h .within); pooled = omega (arith, h .pooled) },
       )
 
-  pub set-or : (e : ℕ) (q : Syntax pattern) (bs : Syntax branches) (i p d : ℕ) → Set s A e (or q bs) i p d → Set s A e q i p d × Set s A e bs (i + size q) (p + length (pool q)) d
+  set-or : (e : ℕ) (q : Syntax pattern) (bs : Syntax branches) (i p d : ℕ) → Set s A e (or q bs) i p d → Set s A e q i p d × Set s A e bs (i + size q) (p + length (pool q)) d
   unfolding size pool Good Clean
   set-or e q bs i p d h =
       let (x, y) = or-there e q bs (h .placed) in
@@ -50,17 +50,17 @@ module _ (s : Bytes) (A : ℕ) where
       )
 
   -- the branches of a group
-  pub set-group : (e low : ℕ) (high : Option ℕ) (bs : Syntax branches) (i p d : ℕ) → Set s A e (repeat low high (group bs)) i p d → Set s A e bs (suc i) p (suc d)
+  set-group : (e low : ℕ) (high : Option ℕ) (bs : Syntax branches) (i p d : ℕ) → Set s A e (repeat low high (group bs)) i p d → Set s A e bs (suc i) p (suc d)
   unfolding records size pool Good Clean
   set-group e low high bs i p d h =
       record { placed = tail-there (h .placed); good = h .good .1 .1; clean = h .clean; within = omega (arith, h .within); pooled = h .pooled }
 
   -- the record of an atom
-  pub its-there : (e low : ℕ) (high : Option ℕ) (b : Syntax body) (i p : ℕ) → Placed s (bare A) e (repeat low high b) i p → its s (layout s) i ≡ rec e low high b i p
+  its-there : (e low : ℕ) (high : Option ℕ) (b : Syntax body) (i p : ℕ) → Placed s (laid-out A) e (repeat low high b) i p → its s (layout s) i ≡ rec e low high b i p
   unfolding records
   its-there e low high b i p h = head-there h
 
-  pub its-ends : (e : ℕ) (a : Syntax atom) (i p : ℕ) → Placed s (bare A) e a i p → its s (layout s) i .ends ≡ e
+  its-ends : (e : ℕ) (a : Syntax atom) (i p : ℕ) → Placed s (laid-out A) e a i p → its s (layout s) i .ends ≡ e
   its-ends e (repeat low high b) i p h = ap (λ (r : Rec). r .ends) (its-there e low high b i p h)
 
   -- an atom, by its record

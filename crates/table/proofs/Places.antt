@@ -1,16 +1,14 @@
 -- The bytes of records and of the pool, from a place of a table on. Assumes nothing.
 use mathlib.Core.Path.{_≡_, refl, sym, ap, ap₂, _∙_}
-use mathlib.Core.List.{List, [], _∷_, _++_, append-assoc}
+use mathlib.Core.List.{[], _∷_}
 use Prim.Native.Nat.{ℕ, suc, _+_, _*_, _/_, _%_, _<_, _≤_}
-use native.Mathlib.Nat.{add-assoc}
 use native.Mathlib.Omega.{arith}
-use lib.ListN.{length, getD, drop, length-append}
+use lib.ListN.{length, getD, drop}
 use lib.Seq.{drop-cons}
 use Rattle.pattern.specs.Numbers.{record-size}
 use Rattle.pattern.specs.Bytes.{Bytes, word}
-use Rattle.pattern.specs.Table.{Rec, flat}
+use Rattle.pattern.specs.Table.{flat}
 use Rattle.pattern.specs.Decode.{field, rec-at}
-use Rattle.pattern.proofs.Records.{flat-append}
 
 module _ (s : Bytes) where
   pub step : (j k : ℕ) {ys : Bytes} → k ≡ suc j → j < length s → drop k s ≡ ys → drop j s ≡ getD s j 0 ∷ ys
@@ -36,16 +34,3 @@ module _ (s : Bytes) where
         (pair (j + 4) (j + 6) (omega arith) (omega arith)
         (pair (j + 6) (j + 8) (omega arith) (omega arith)
         (pair (j + 8) k (omega arith) (omega arith) refl)))))
-
-  -- two runs of records, one after the other, at the places of their first atoms
-  pub then-records : (F : ℕ → ℕ) (xs ys : List Rec) (i m n : ℕ) → drop (F i) s ≡ flat xs (drop (F (i + m)) s) → drop (F (i + m)) s ≡ flat ys (drop (F (i + m + n)) s)
-      → drop (F i) s ≡ flat (xs ++ ys) (drop (F (i + (m + n))) s)
-  then-records F xs ys i m n e g =
-      e ∙ ap (flat xs) (g ∙ ap (λ k. flat ys (drop (F k) s)) (add-assoc i m n)) ∙ sym (flat-append xs ys _)
-
-  -- two runs of the pool, one after the other
-  pub then-text : (o p : ℕ) (v w : Bytes) → drop (o + p) s ≡ v ++ drop (o + (p + length v)) s → drop (o + (p + length v)) s ≡ w ++ drop (o + (p + length v + length w)) s
-      → drop (o + p) s ≡ v ++ w ++ drop (o + (p + length (v ++ w))) s
-  then-text o p v w e g =
-      let n : p + length v + length w ≡ p + length (v ++ w) = omega (arith, length-append v w) in
-      e ∙ ap (λ x. v ++ x) (g ∙ ap (λ k. w ++ drop (o + k) s) n) ∙ sym (append-assoc v w _)

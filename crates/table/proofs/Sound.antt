@@ -3,39 +3,29 @@ use mathlib.Core.Path.{_≡_, refl, sym, ap, subst, _∙_}
 use mathlib.Core.Logic.{⊎-elim}
 use mathlib.Core.Bool.{true}
 use mathlib.Core.Option.{some}
-use mathlib.Core.List.{[], _∷_, _++_}
+use mathlib.Core.List.{[], _∷_}
 use Prim.Native.Nat.{ℕ, zero, suc, _+_, _*_, _<_, _≤_, pred}
-use native.Mathlib.Nat.{add-zero}
 use native.Mathlib.Omega.{arith}
 use lib.Dec.{ltb}
 use borrow.Author.Tests.{eqb-true, leb-true, ltb-true}
 use lib.ListN.{length, getD, drop, length-append, length-take, length-drop, take-append-drop}
-use lib.Seq.{drop-drop}
 use Rattle.pattern.specs.Numbers.{depth-limit, set-limit, header-size, record-size}
 use Rattle.pattern.specs.Bytes.{Bytes}
-use Rattle.pattern.specs.Syntax.{Sort, pattern, atom, body, branches, Syntax, then, repeat, codes, literal, or, size}
+use Rattle.pattern.specs.Syntax.{pattern, atom, body, branches, Syntax, then, repeat, codes, literal, or, size}
 use Rattle.pattern.specs.Within.{Fits, Good}
 use Rattle.pattern.specs.Table.{pool, choices, kind-field, a-field, b-field, high-field, Rec, rec, records, flat}
 use Rattle.pattern.specs.Decode.{layout, its, high-of}
 use Rattle.table.specs.Checked.{plain, a-set, after, only-if, text, leaf, closed, read-pattern, read-atom, read-branches}
-use Rattle.table.proofs.Standing.{Clean}
+use Rattle.table.proofs.Standing.{Clean, Set, both-placed}
 use Rattle.table.proofs.Options.{nothing, inside, after-some, only-some, choose-some, and-true}
-use Rattle.table.proofs.Places.{one-record, then-records, then-text}
+use Rattle.pattern.proofs.Records.{count-records}
+use Rattle.table.proofs.Places.{one-record}
 use Rattle.table.proofs.Clean.{high-back, ordered-fits}
 
 -- bytes that have room for the records
 pub record Laid (s : Bytes) (A : ℕ) : Type 0 where
   pub bytes : (k : ℕ) → getD s k 0 < 256
   pub records : header-size + record-size * A ≤ length s
-
--- the tree's records stand from atom i on and its literals from p on in the pool, d groups being open
-pub record There (s : Bytes) (A : ℕ) {o : Sort} (e : ℕ) (t : Syntax o) (i p d : ℕ) : Type 0 where
-  pub recs : drop (header-size + record-size * i) s ≡ flat (records e t i p) (drop (header-size + record-size * (i + size t)) s)
-  pub text : drop (header-size + record-size * A + p) s ≡ pool t ++ drop (header-size + record-size * A + (p + length (pool t))) s
-  pub good : Good d t
-  pub clean : Clean t
-  pub within : i + size t ≤ A
-  pub pooled : header-size + record-size * A + (p + length (pool t)) ≤ length s
 
 module _ (s : Bytes) (A : ℕ) (laid : Laid s A) where
   same-rec : (r : Rec) (k a b : ℕ) → r .kind ≡ k → r .a ≡ a → r .b ≡ b
@@ -44,61 +34,55 @@ module _ (s : Bytes) (A : ℕ) (laid : Laid s A) where
       λ j. record { kind = e j; ends = r .ends; low = r .low; high = sym (high-back (r .high)) j; a = f j; b = g j }
 
   -- an atom whose record is its body's
-  there-atom : (b : Syntax body) (i p d : ℕ) → i < A → Fits (its s (layout s) i .low) (high-of (its s (layout s) i .high))
+  set-atom : (b : Syntax body) (i p d : ℕ) → i < A → Fits (its s (layout s) i .low) (high-of (its s (layout s) i .high))
       → its s (layout s) i ≡ rec (its s (layout s) i .ends) (its s (layout s) i .low) (high-of (its s (layout s) i .high)) b i p
-      → ((e : ℕ) → There s A e b (suc i) p d)
-      → There s A (its s (layout s) i .ends) (repeat (its s (layout s) i .low) (high-of (its s (layout s) i .high)) b) i p d
+      → ((e : ℕ) → Set s A e b (suc i) p d)
+      → Set s A (its s (layout s) i .ends) (repeat (its s (layout s) i .low) (high-of (its s (layout s) i .high)) b) i p d
   unfolding records size pool Good Clean flat
-  there-atom b i p d h o e f =
+  set-atom b i p d h o e f =
       let g = f (its s (layout s) i .ends) in
-      let n : suc i + size b ≡ i + suc (size b) = omega arith in
       record {
-        recs = one-record s (laid .bytes) (header-size + record-size * i) (header-size + record-size * suc i) (omega arith) (omega (arith, laid .records))
-            ∙ ap (λ x. flat (its s (layout s) i ∷ []) x) (g .recs ∙ ap (λ k. flat (records (its s (layout s) i .ends) b (suc i) p) (drop (header-size + record-size * k) s)) n)
-            ∙ ap (λ x. flat (x ∷ records (its s (layout s) i .ends) b (suc i) p) (drop (header-size + record-size * (i + suc (size b))) s)) e;
-        text = g .text;
+        placed = record {
+          left = g .placed .left;
+          over = g .placed .over;
+          recs = one-record s (laid .bytes) (header-size + record-size * i) (header-size + record-size * suc i) (omega arith) (omega (arith, laid .records))
+              ∙ ap (λ x. flat (its s (layout s) i ∷ []) x) (g .placed .recs) ∙ ap (λ x. flat (x ∷ records (its s (layout s) i .ends) b (suc i) p) (g .placed .left)) e;
+          text = g .placed .text;
+        };
         good = (o, g .good);
         clean = g .clean;
         within = omega (arith, g .within);
         pooled = g .pooled;
       }
 
-  there-then : (e : ℕ) (a : Syntax atom) (q : Syntax pattern) (i p d : ℕ) → There s A 0 a i p d → There s A e q (i + size a) (p + length (pool a)) d → There s A e (then a q) i p d
+  set-both : (e : ℕ) (a : Syntax atom) (q : Syntax pattern) (i p d : ℕ) → Set s A 0 a i p d → Set s A e q (i + size a) (p + length (pool a)) d → Set s A e (then a q) i p d
   unfolding records size pool Good Clean
-  there-then e a q i p d f g =
+  set-both e a q i p d f g =
       record {
-        recs = then-records s (λ k. header-size + record-size * k) _ _ i (size a) (size q) (f .recs) (g .recs);
-        text = then-text s (header-size + record-size * A) p (pool a) (pool q) (f .text) (g .text);
+        placed = both-placed _ _ _ _ (size a) (count-records 0 a i p) (f .placed) (g .placed);
         good = (f .good, g .good);
         clean = (f .clean, g .clean);
         within = omega (arith, g .within);
         pooled = omega (arith, g .pooled, length-append (pool a) (pool q));
       }
 
-  there-or : (e : ℕ) (q : Syntax pattern) (bs : Syntax branches) (i p d : ℕ) → There s A e q i p d → There s A e bs (i + size q) (p + length (pool q)) d → There s A e (or q bs) i p d
+  set-branches : (e : ℕ) (q : Syntax pattern) (bs : Syntax branches) (i p d : ℕ) → Set s A e q i p d → Set s A e bs (i + size q) (p + length (pool q)) d → Set s A e (or q bs) i p d
   unfolding records size pool Good Clean
-  there-or e q bs i p d f g =
+  set-branches e q bs i p d f g =
       record {
-        recs = then-records s (λ k. header-size + record-size * k) _ _ i (size q) (size bs) (f .recs) (g .recs);
-        text = then-text s (header-size + record-size * A) p (pool q) (pool bs) (f .text) (g .text);
+        placed = both-placed _ _ _ _ (size q) (count-records e q i p) (f .placed) (g .placed);
         good = (f .good, g .good);
         clean = (f .clean, g .clean);
         within = omega (arith, g .within);
         pooled = omega (arith, g .pooled, length-append (pool q) (pool bs));
       }
 
-  -- a leaf has no records of its own
-  nothing-there : (k : ℕ) → drop (header-size + record-size * k) s ≡ flat [] (drop (header-size + record-size * (k + 0)) s)
-  unfolding flat
-  nothing-there k = ap (λ x. drop (header-size + record-size * x) s) (sym (add-zero k))
-
-  there-codes : (set i p d : ℕ) → a-set set ≡ true → i ≤ A → header-size + record-size * A + p ≤ length s → (e : ℕ) → There s A e (codes set) i p d
-  unfolding records size pool Good Clean a-set
-  there-codes set i p d h w v e =
+  set-codes : (set i p d : ℕ) → a-set set ≡ true → i ≤ A → header-size + record-size * A + p ≤ length s → (e : ℕ) → Set s A e (codes set) i p d
+  unfolding records size pool flat Good Clean a-set
+  set-codes set i p d h w v e =
       let (x, y) = and-true (ltb 0 set) (ltb set set-limit) h in
       record {
-        recs = nothing-there i;
-        text = ap (λ x. drop (header-size + record-size * A + x) s) (sym (add-zero p));
+        placed = record { left = drop (header-size + record-size * i) s; over = drop (header-size + record-size * A + p) s; recs = refl; text = refl };
         good = ltb-true _ _ y;
         clean = ltb-true _ _ x;
         within = omega arith;
@@ -108,15 +92,13 @@ module _ (s : Bytes) (A : ℕ) (laid : Laid s A) where
   length-text : (p n : ℕ) → header-size + record-size * A + p + n ≤ length s → length (text s A p n) ≡ n
   length-text p n h = length-take n (drop (header-size + record-size * A + p) s) ∙ omega (arith, length-drop (header-size + record-size * A + p) s)
 
-  there-literal : (i p n d : ℕ) → plain (text s A p n) ≡ true → i ≤ A → header-size + record-size * A + p + n ≤ length s → (e : ℕ) → There s A e (literal (text s A p n)) i p d
-  unfolding records size pool Good Clean
-  there-literal i p n d h z v e =
+  set-literal : (i p n d : ℕ) → plain (text s A p n) ≡ true → i ≤ A → header-size + record-size * A + p + n ≤ length s → (e : ℕ) → Set s A e (literal (text s A p n)) i p d
+  unfolding records size pool flat Good Clean
+  set-literal i p n d h z v e =
       let m = length-text p n v in
-      let w : header-size + record-size * A + p + n ≡ header-size + record-size * A + (p + length (text s A p n)) = omega (arith, m) in
+      let rest = drop (header-size + record-size * A + p) s in
       record {
-        recs = nothing-there i;
-        text = sym (take-append-drop n (drop (header-size + record-size * A + p) s))
-            ∙ ap (λ x. text s A p n ++ x) (drop-drop n (header-size + record-size * A + p) s ∙ ap (λ x. drop x s) w);
+        placed = record { left = drop (header-size + record-size * i) s; over = drop n rest; recs = refl; text = sym (take-append-drop n rest) };
         good = tt;
         clean = h;
         within = omega arith;
@@ -124,15 +106,15 @@ module _ (s : Bytes) (A : ℕ) (laid : Laid s A) where
       }
 
   pub record Sound (f : ℕ) : Type 0 where
-    pub patterns : (i p d : ℕ) (t : Syntax pattern) → header-size + record-size * A + p ≤ length s → read-pattern s A f i p d ≡ some t → (e : ℕ) → There s A e t i p d
-    pub atoms : (i p d : ℕ) (a : Syntax atom) → header-size + record-size * A + p ≤ length s → read-atom s A f i p d ≡ some a → There s A (its s (layout s) i .ends) a i p d
+    pub patterns : (i p d : ℕ) (t : Syntax pattern) → header-size + record-size * A + p ≤ length s → read-pattern s A f i p d ≡ some t → (e : ℕ) → Set s A e t i p d
+    pub atoms : (i p d : ℕ) (a : Syntax atom) → header-size + record-size * A + p ≤ length s → read-atom s A f i p d ≡ some a → Set s A (its s (layout s) i .ends) a i p d
     pub branches : (k i p d : ℕ) (bs : Syntax branches) → header-size + record-size * A + p ≤ length s → read-branches s A f k i p d ≡ some bs
-        → (choices bs ≡ k) × ((e : ℕ) → There s A e bs i p d)
+        → (choices bs ≡ k) × ((e : ℕ) → Set s A e bs i p d)
 
   -- a body, its record and where it stands
   abbrev Bodied : (b : Syntax body) (i p d : ℕ) → Type 0
   Bodied b i p d =
-      (its s (layout s) i ≡ rec (its s (layout s) i .ends) (its s (layout s) i .low) (high-of (its s (layout s) i .high)) b i p) × ((e : ℕ) → There s A e b (suc i) p d)
+      (its s (layout s) i ≡ rec (its s (layout s) i .ends) (its s (layout s) i .low) (high-of (its s (layout s) i .high)) b i p) × ((e : ℕ) → Set s A e b (suc i) p d)
 
   leaf-body : (i p d : ℕ) (b : Syntax body) → i < A → header-size + record-size * A + p ≤ length s → leaf s A (its s (layout s) i .kind) (its s (layout s) i .a) (its s (layout s) i .b) p ≡ some b → Bodied b i p d
   unfolding leaf kind-field a-field b-field
@@ -141,14 +123,14 @@ module _ (s : Bytes) (A : ℕ) (laid : Laid s A) where
       (λ (k, g). let (y, g1) = only-some _ _ g in
       let (z, g2) = only-some _ _ g1 in
       subst (λ (b : Syntax body). Bodied b i p d) (inside g2)
-      (same-rec (its s (layout s) i) _ _ _ (eqb-true _ _ k) refl (eqb-true _ _ z), there-codes _ (suc i) p d y h v))
+      (same-rec (its s (layout s) i) _ _ _ (eqb-true _ _ k) refl (eqb-true _ _ z), set-codes _ (suc i) p d y h v))
       (λ (k, g). let (y4, g1) = only-some _ _ g in
       let (y5, g2) = only-some _ _ g1 in
       let (y3, g3) = only-some _ _ g2 in
       let (z, g4) = only-some _ _ g3 in
       let q = leb-true _ _ y3 in
       subst (λ (b : Syntax body). Bodied b i p d) (inside g4)
-      (same-rec (its s (layout s) i) _ _ _ (eqb-true _ _ y4) (eqb-true _ _ y5) (sym (length-text p _ q)), there-literal (suc i) p _ d z h q))
+      (same-rec (its s (layout s) i) _ _ _ (eqb-true _ _ y4) (eqb-true _ _ y5) (sym (length-text p _ q)), set-literal (suc i) p _ d z h q))
       (choose-some _ _ _ e)
 
   group-body : (f i p d : ℕ) (b : Syntax body) → Sound f → header-size + record-size * A + p ≤ length s → its s (layout s) i .kind ≡ 3
@@ -161,9 +143,9 @@ module _ (s : Bytes) (A : ℕ) (laid : Laid s A) where
       let (z, g2) = only-some _ _ g1 in
       let (n, st) = ih .branches _ _ _ _ bs v r in
       subst (λ (b : Syntax body). Bodied b i p d) (inside g2)
-      (same-rec (its s (layout s) i) _ _ _ k (sym n) (sym (eqb-true _ _ z)), λ e. let h = st e in record { recs = h .recs; text = h .text; good = (ltb-true _ _ y, h .good); clean = h .clean; within = h .within; pooled = h .pooled })
+      (same-rec (its s (layout s) i) _ _ _ k (sym n) (sym (eqb-true _ _ z)), λ e. let h = st e in record { placed = h .placed; good = (ltb-true _ _ y, h .good); clean = h .clean; within = h .within; pooled = h .pooled })
 
-  sound-atom : (f : ℕ) → Sound f → (i p d : ℕ) (a : Syntax atom) → header-size + record-size * A + p ≤ length s → read-atom s A (suc f) i p d ≡ some a → There s A (its s (layout s) i .ends) a i p d
+  sound-atom : (f : ℕ) → Sound f → (i p d : ℕ) (a : Syntax atom) → header-size + record-size * A + p ≤ length s → read-atom s A (suc f) i p d ≡ some a → Set s A (its s (layout s) i .ends) a i p d
   unfolding read-pattern
   sound-atom f ih i p d a v e =
       let (h, g) = only-some _ _ e in
@@ -171,39 +153,39 @@ module _ (s : Bytes) (A : ℕ) (laid : Laid s A) where
       let (b, r, g2) = after-some _ _ g1 in
       let h2 = ltb-true _ _ h in
       let (m, st) : Bodied b i p d = ⊎-elim (λ (k, x). group-body f i p d b ih v (eqb-true _ _ k) x) (λ (k, x). leaf-body i p d b h2 v x) (choose-some _ _ _ r) in
-      subst (λ (a : Syntax atom). There s A (its s (layout s) i .ends) a i p d) (inside g2) (there-atom b i p d h2 (ordered-fits _ _ o) m st)
+      subst (λ (a : Syntax atom). Set s A (its s (layout s) i .ends) a i p d) (inside g2) (set-atom b i p d h2 (ordered-fits _ _ o) m st)
 
-  sound-pattern : (f : ℕ) → Sound f → (i p d : ℕ) (t : Syntax pattern) → header-size + record-size * A + p ≤ length s → read-pattern s A (suc f) i p d ≡ some t → (e : ℕ) → There s A e t i p d
+  sound-pattern : (f : ℕ) → Sound f → (i p d : ℕ) (t : Syntax pattern) → header-size + record-size * A + p ≤ length s → read-pattern s A (suc f) i p d ≡ some t → (e : ℕ) → Set s A e t i p d
   unfolding read-pattern records size pool Good Clean
   sound-pattern f ih i p d t v e n =
       let (a, r, g) = after-some _ _ e in
       let st = ih .atoms i p d a v r in
       ⊎-elim
-      (λ (k, x). let u = subst (λ (m : ℕ). There s A m a i p d) (eqb-true _ _ k) st in
-      subst (λ (t : Syntax pattern). There s A n t i p d) (inside x)
-      (record { recs = u .recs; text = u .text; good = u .good; clean = u .clean; within = u .within; pooled = u .pooled }))
+      (λ (k, x). let u = subst (λ (m : ℕ). Set s A m a i p d) (eqb-true _ _ k) st in
+      subst (λ (t : Syntax pattern). Set s A n t i p d) (inside x)
+      (record { placed = u .placed; good = u .good; clean = u .clean; within = u .within; pooled = u .pooled }))
       (λ (k, x). let (z, g1) = only-some _ _ x in
       let (q, r2, g2) = after-some _ _ g1 in
-      let u = subst (λ (m : ℕ). There s A m a i p d) (eqb-true _ _ z) st in
-      subst (λ (t : Syntax pattern). There s A n t i p d) (inside g2)
-      (there-then n a q i p d u (ih .patterns _ _ _ q (u .pooled) r2 n)))
+      let u = subst (λ (m : ℕ). Set s A m a i p d) (eqb-true _ _ z) st in
+      subst (λ (t : Syntax pattern). Set s A n t i p d) (inside g2)
+      (set-both n a q i p d u (ih .patterns _ _ _ q (omega (arith, u .pooled)) r2 n)))
       (choose-some _ _ _ g)
 
   sound-branches : (f : ℕ) → Sound f → (k i p d : ℕ) (bs : Syntax branches) → header-size + record-size * A + p ≤ length s → read-branches s A (suc f) k i p d ≡ some bs
-      → (choices bs ≡ k) × ((e : ℕ) → There s A e bs i p d)
+      → (choices bs ≡ k) × ((e : ℕ) → Set s A e bs i p d)
   unfolding read-pattern choices records size pool Good Clean
   sound-branches f ih k i p d bs v e =
       let (h, g) = only-some _ _ e in
       let (q, r, g1) = after-some _ _ g in
       let st = ih .patterns i p d q v r in
       ⊎-elim
-      (λ (c, x). subst (λ (bs : Syntax branches). (choices bs ≡ k) × ((e : ℕ) → There s A e bs i p d)) (inside x)
-      (sym (eqb-true _ _ c), λ n. let u = st n in record { recs = u .recs; text = u .text; good = u .good; clean = u .clean; within = u .within; pooled = u .pooled }))
+      (λ (c, x). subst (λ (bs : Syntax branches). (choices bs ≡ k) × ((e : ℕ) → Set s A e bs i p d)) (inside x)
+      (sym (eqb-true _ _ c), λ n. let u = st n in record { placed = u .placed; good = u .good; clean = u .clean; within = u .within; pooled = u .pooled }))
       (λ (c, x). let (cs, r2, g2) = after-some _ _ x in
-      let (m, su) = ih .branches (pred k) _ _ _ cs (st 0 .pooled) r2 in
+      let (m, su) = ih .branches (pred k) _ _ _ cs (omega (arith, st 0 .pooled)) r2 in
       let h2 = ltb-true 0 k h in
-      subst (λ (bs : Syntax branches). (choices bs ≡ k) × ((e : ℕ) → There s A e bs i p d)) (inside g2)
-      (omega (arith, m, h2), λ n. there-or n q cs i p d (st n) (su n)))
+      subst (λ (bs : Syntax branches). (choices bs ≡ k) × ((e : ℕ) → Set s A e bs i p d)) (inside g2)
+      (omega (arith, m, h2), λ n. set-branches n q cs i p d (st n) (su n)))
       (choose-some _ _ _ g1)
 
   pub sound : (f : ℕ) → Sound f

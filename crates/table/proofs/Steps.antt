@@ -19,7 +19,7 @@ use Rattle.table.specs.Fields.{record-of}
 use Rattle.table.specs.Checked.{ordered, after, only-if, choose, leaf as leaf-read, closed, read-pattern, read-atom, read-branches}
 use Rattle.table.specs.Leaves.{leaf-of}
 use Rattle.table.specs.Walk.{place, beyond, passed-by, walked-by, reach}
-use Rattle.table.specs.declared.Record.{Record}
+use Rattle.table.specs.declared.record.Record.{Record}
 use Rattle.table.specs.declared.walk.Leaf.the-variants as leaf
 use Rattle.table.specs.declared.walk.Place.{Place}
 use Rattle.table.specs.declared.walk.Passed.{Passed}

@@ -12,7 +12,7 @@ use Rattle.table.specs.Fields.{record-of}
 use Rattle.table.specs.Checked.{ordered, leaf as leaf-read}
 use Rattle.table.specs.Leaves.{LeafRead, Short}
 use Rattle.table.specs.Walk.{Ready, Moved, AtomPassed, PatternWalked, GroupPassed}
-use Rattle.table.specs.declared.Record.{Record}
+use Rattle.table.specs.declared.record.Record.{Record}
 use Rattle.table.specs.declared.walk.Leaf.{Leaf}
 use Rattle.table.specs.declared.walk.Leaf.the-variants as leaf
 use Rattle.table.specs.declared.walk.Place.{Place}

@@ -1,5 +1,5 @@
 -- The checked walk with the test of the source's length reads bytes as `decode` does. Assumes nothing.
-use mathlib.Core.Path.{_≡_, refl, sym, ap, ap₂, subst, _∙_}
+use mathlib.Core.Path.{_≡_, refl, sym, ap, subst, _∙_}
 use mathlib.Core.Logic.{⊎-elim}
 use mathlib.Core.Bool.{true, _&&_}
 use mathlib.Core.Option.{Option, none, some, Option·none-ne-some}
@@ -8,8 +8,7 @@ use Prim.Native.Nat.{ℕ, _+_, _*_, _<_, _≤_}
 use native.Mathlib.Omega.{arith}
 use lib.Dec.{leb}
 use borrow.Author.Tests.{eqb-true, leb-true, le-leb, lt-leb, eq-eqb}
-use lib.ListN.{length, getD, take, drop, take-append-drop, drop-of-length-le, length-drop}
-use lib.Seq.{getD-drop}
+use lib.ListN.{length, getD, take, drop, take-append-drop, drop-of-length-le}
 use Rattle.pattern.specs.Numbers.{source-limit, atom-limit, atoms-place, length-place, header-size, record-size}
 use Rattle.pattern.specs.Bytes.{Bytes, same}
 use Rattle.pattern.specs.Syntax.{pattern, Syntax, size}
@@ -20,7 +19,7 @@ use Rattle.pattern.specs.Decode.{decode}
 use Rattle.pattern.proofs.Tests.{le-or-lt}
 use Rattle.pattern.proofs.Agree.{same-decides}
 use Rattle.pattern.proofs.Accepted.{accepted-exactly}
-use Rattle.pattern.proofs.Records.{length-flat, count-records, next-there}
+use Rattle.pattern.proofs.Records.{count-records, next-there, after-there}
 use Rattle.pattern.proofs.RoundTrip.{encode-length, encode-placed, good-exactly}
 use Rattle.pattern.proofs.Calls.{print-accepted}
 use Rattle.table.specs.Headers.{first-bytes, header-of, headed}
@@ -75,11 +74,11 @@ module _ (s : Bytes) (bytes : (k : ℕ) → getD s k 0 < 256) where
       let n2 : A ≤ atom-limit = leb-true _ _ n in
       let c2 : size u ≡ A = eqb-true _ _ c in
       let m2 : length (pool u) ≡ header-of s .length = eqb-true _ _ m in
-      let at-pool : header-size + record-size * (0 + size u) ≡ header-size + record-size * A + 0 = omega (arith, c2) in
-      let to-end : length s ≤ header-size + record-size * A + (0 + length (pool u)) = omega (arith, o .whole, m2) in
-      let rest : drop (header-size + record-size * (0 + size u)) s ≡ pool u =
-      ap (λ k. drop k s) at-pool ∙ st .text ∙ ap (λ x. pool u ++ x) (drop-of-length-le s to-end) ∙ append-nil (pool u) in
-      let all : drop header-size s ≡ flat (records 1 u 0 0) (pool u) = st .recs ∙ ap (flat (records 1 u 0 0)) rest in
+      let at-pool : header-size + record-size * A + 0 ≡ header-size + record-size * 0 + record-size * length (records 1 u 0 0) = omega (arith, c2, count-records 1 u 0 0) in
+      let to-end : length s ≤ header-size + record-size * A + 0 + length (pool u) = omega (arith, o .whole, m2) in
+      let over : st .placed .over ≡ [] = sym (after-there s _ _ (pool u) _ refl (st .placed .text)) ∙ drop-of-length-le s to-end in
+      let rest : st .placed .left ≡ pool u = sym (next-there s _ _ (records 1 u 0 0) _ at-pool (st .placed .recs)) ∙ st .placed .text ∙ ap (λ x. pool u ++ x) over ∙ append-nil (pool u) in
+      let all : drop header-size s ≡ flat (records 1 u 0 0) (pool u) = st .placed .recs ∙ ap (flat (records 1 u 0 0)) rest in
       subst (Whole s) (inside g4)
       (record {
         same = sym (open-table o ∙ ap (header A (header-of s .length)) all ∙ ap (λ k. header k (header-of s .length) (flat (records 1 u 0 0) (pool u))) (sym c2) ∙ ap (λ k. header (size u) k (flat (records 1 u 0 0) (pool u))) (sym m2));
@@ -114,7 +113,7 @@ module _ (t : Syntax pattern) where
   set-encode g c =
       record { placed = encode-placed t; good = g .tree; clean = c; within = omega arith; pooled = omega (arith, encode-length t) }
 
-  pub read-encode : Limited t → Clean t → read (encode t) ≡ some t
+  read-encode : Limited t → Clean t → read (encode t) ≡ some t
   unfolding read
   read-encode g c =
       let a = atoms-there in

@@ -5,7 +5,7 @@ use Rattle.pattern.specs.Numbers.{record-size}
 use Rattle.pattern.specs.Bytes.{Bytes}
 use Rattle.pattern.specs.Table.{Rec}
 use Rattle.pattern.specs.Decode.{layout}
-use Rattle.table.specs.declared.Record.{Record}
+use Rattle.table.specs.declared.record.Record.{Record}
 
 abbrev pub record-of : Rec → Record
 record-of r = record { kind = r .kind; ends = r .ends; low = r .low; high = r .high; a = r .a; b = r .b }

@@ -1,9 +1,10 @@
 // The header of a table.
-use pattern::limits;
-use pattern::limits::ATOMS_PLACE;
-use pattern::limits::HEADER_SIZE;
-use pattern::limits::LENGTH_PLACE;
-use pattern::limits::RECORD_SIZE;
+use crate::layout;
+use crate::layout::ATOMS_PLACE;
+use crate::layout::HEADER_SIZE;
+use crate::layout::LENGTH_PLACE;
+use crate::layout::RECORD_SIZE;
+use crate::record;
 use stores::equal;
 ghost use mathlib.Core.Path.{_≡_};
 ghost use Prim.Native.Nat.{_≤_};
@@ -30,7 +31,7 @@ fn marked(table: &[u8]) -> bool
     requires { ⌜ atoms-place ≤ length (now table) ⌝ }
     ensures { λ r. ⌜ r ≡ same (take atoms-place (now (table .entry))) first-bytes ⌝ }
 {
-    let mark = limits::marked();
+    let mark = layout::first_bytes();
     equal(table, 0, &mark, 0, ATOMS_PLACE)
 }
 
@@ -39,8 +40,8 @@ pub fn header_at(table: &[u8]) -> Header
     requires { ⌜ header-size ≤ length (now table) ⌝ }
     ensures { λ r. ⌜ r ≡ header-of (now (table .entry)) ⌝ }
 {
-    let atoms = super::wide(table[ATOMS_PLACE]) as usize;
-    let length = super::word(table, LENGTH_PLACE) as usize;
+    let atoms = record::wide(table[ATOMS_PLACE]) as usize;
+    let length = record::word(table, LENGTH_PLACE) as usize;
     Header {
         atoms,
         length,

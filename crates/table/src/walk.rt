@@ -1,12 +1,13 @@
 // The walk over a table's records: leaves, and a cycle of three functions for patterns, atoms and groups.
-use super::Record;
 use super::lengths;
 use super::lengths::Text;
+use crate::layout::HEADER_SIZE;
+use crate::layout::RECORD_SIZE;
+use crate::record::Record;
+use crate::record::record_at;
 use pattern::kind;
 use pattern::limits::DEPTH_LIMIT;
-use pattern::limits::HEADER_SIZE;
 use pattern::limits::NUMBER_LIMIT;
-use pattern::limits::RECORD_SIZE;
 use pattern::limits::SET_LIMIT;
 use pattern::repeat::Repeat;
 ghost use mathlib.Core.Path.{_≡_};
@@ -155,7 +156,7 @@ fn atom(table: &[u8], atoms: usize, at: Place, depth: usize) -> Passed
     if atoms <= i {
         return Passed::Bad;
     }
-    let r = super::record_at(table, i);
+    let r = record_at(table, i);
     if is_ordered(r.low, r.high) {
         let mut next = at;
         next.atom = i + 1;

@@ -1,4 +1,5 @@
 // Writing a table: the record of each atom into a buffer, then header, records and pool into lent bytes.
+use crate::layout;
 use pattern::limits;
 use pattern::repeat::Repeat;
 use stores::copy;
@@ -13,10 +14,10 @@ ghost use Rattle.pattern.specs.Table.{flat};
 ghost use Rattle.table.specs.Write.{rec-of, WriteTablePre, WriteTablePost};
 
 // The records of every pattern fit.
-pub const RECORDS_ROOM: usize = limits::RECORD_SIZE * limits::ATOM_LIMIT;
+pub const RECORDS_ROOM: usize = layout::RECORD_SIZE * limits::ATOM_LIMIT;
 
 // Every table fits.
-pub const TABLE_ROOM: usize = limits::HEADER_SIZE + RECORDS_ROOM + limits::SOURCE_LIMIT;
+pub const TABLE_ROOM: usize = layout::HEADER_SIZE + RECORDS_ROOM + limits::SOURCE_LIMIT;
 
 // The length of the table, or that the lent bytes are too short.
 pub enum Written {
@@ -29,7 +30,7 @@ pub fn put_record(recs: &mut [u8], i: usize, kind: u8, last: u8, rep: Repeat, a:
     requires { ⌜ record-size * i + record-size ≤ length (now recs) ⌝ }
     ensures { λ _. ⌜ now (recs .exit) ≡ stored (now (recs .entry)) (record-size * i) (flat (rec-of kind last rep a b ∷ []) []) ⌝ }
 {
-    let at = limits::RECORD_SIZE * i;
+    let at = layout::RECORD_SIZE * i;
     recs[at] = kind;
     recs[at + 1] = last;
     put16(recs, at + 2, rep.low);
@@ -43,20 +44,20 @@ pub fn write_table(atoms: usize, text: usize, recs: &[u8], pool: &[u8], table: &
     requires { ⌜ WriteTablePre atoms text (now recs) (now pool) ⌝ }
     ensures { λ r. ⌜ WriteTablePost atoms text (now (recs .entry)) (now (pool .entry)) (now (table .entry)) r (now (table .exit)) ⌝ }
 {
-    let from = limits::HEADER_SIZE + limits::RECORD_SIZE * atoms;
+    let from = layout::HEADER_SIZE + layout::RECORD_SIZE * atoms;
     let total = from + text;
     if table.len() < total {
         return Written::Room;
     }
-    let mark = limits::marked();
-    copy(&mark, limits::ATOMS_PLACE, table, 0);
-    table[limits::ATOMS_PLACE] = atoms as u8;
-    put16(table, limits::LENGTH_PLACE, text as u16);
+    let mark = layout::first_bytes();
+    copy(&mark, layout::ATOMS_PLACE, table, 0);
+    table[layout::ATOMS_PLACE] = atoms as u8;
+    put16(table, layout::LENGTH_PLACE, text as u16);
     copy(
         recs,
-        limits::RECORD_SIZE * atoms,
+        layout::RECORD_SIZE * atoms,
         table,
-        limits::HEADER_SIZE,
+        layout::HEADER_SIZE,
     );
     copy(pool, text, table, from);
     Written::Length(total)

@@ -19,7 +19,7 @@ use Rattle.table.proofs.walk.+atom+group+pattern.Lts-group as group-lts
 use Rattle.table.proofs.walk.pattern.Reads as pattern
 use Rattle.table.proofs.walk.pattern.Kinds as pattern-kinds
 use Rattle.table.proofs.walk.+atom+group+pattern.Lts-pattern as pattern-lts
-use Rattle.table.proofs.record_at.Reads as record-at-reads
+use Rattle.table.proofs.record.record_at.Reads as record-at-reads
 use Rattle.table.proofs.lengths.count_length.Reads as count-length-reads
 use Rattle.table.proofs.walk.ends_of.Reads as ends-of-reads
 use Rattle.table.proofs.walk.is_ordered.Reads as is-ordered-reads

@@ -19,8 +19,8 @@ add-total c = search needs
 returns : tie.Need-returns
 returns c = record { puts = λ position. no-room position _ _ _ _ _ (c .before .before .before .before .pre) (c .if1 .taken) }
 
-marked-requires : tie.Need-marked-requires
-marked-requires c κs = search needs
+first-bytes-requires : tie.Need-first-bytes-requires
+first-bytes-requires c κs = search needs
 
 slice-aggregate-copy : tie.Need-slice-aggregate-copy
 slice-aggregate-copy c = search needs
@@ -75,7 +75,7 @@ returns-2 c =
     let after-marked = after-copy .before .before .before in
     let after-if1 = after-marked .before in
     let start = after-if1 .before .before .before .before in
-    record { puts = λ position. writes-table position _ _ _ _ _ (start .pre) _ _ _ _ _ (after-if1 .if1 .left) (after-marked .marked .ensures) (after-copy .copy .ensures) (after-put16 .put16 .ensures) (after-copy2 .copy2 .ensures) (c .before .before .copy3 .ensures) }
+    record { puts = λ position. writes-table position _ _ _ _ _ (start .pre) _ _ _ _ _ (after-if1 .if1 .left) (after-marked .first-bytes .ensures) (after-copy .copy .ensures) (after-put16 .put16 .ensures) (after-copy2 .copy2 .ensures) (c .before .before .copy3 .ensures) }
 
 pub write-table-spec : {M : Type 1} → statement M
 write-table-spec =
@@ -85,7 +85,7 @@ write-table-spec =
     add-from
     add-total
     returns
-    marked-requires
+    first-bytes-requires
     slice-aggregate-copy
     copy-requires
     cast-table

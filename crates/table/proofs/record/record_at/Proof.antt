@@ -1,10 +1,10 @@
--- `record_at` meets its contract: each field is read where the record has it. Assumes nothing.
+-- `record::record_at` meets its contract: each field is read where the record has it. Assumes nothing.
 use Prim.Native.Nat.{_+_, _*_}
 use lib.ListN.{getD}
 use borrow.Author.Needs.{needs}
 use Rattle.pattern.specs.Numbers.{header-size, record-size}
-use Rattle.table.proofs.record_at.Statement.{statement}
-use Rattle.table.proofs.record_at.Tie as tie
+use Rattle.table.proofs.record.record_at.Statement.{statement}
+use Rattle.table.proofs.record.record_at.Tie as tie
 
 returns : tie.Need-returns
 returns c =
