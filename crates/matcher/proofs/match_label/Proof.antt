@@ -9,12 +9,6 @@ use Rattle.matcher.proofs.match_label.Tie as tie
 test-requires : tie.Need-test-requires
 test-requires c κs = tt
 
-enum-told : tie.Need-enum-told
-enum-told c = search needs
-
-enum-known-s : tie.Need-enum-known-s
-enum-known-s c = search needs
-
 returns : tie.Need-returns
 returns c = long-label _ _ (sym (c .before .before .s .given .1) ∙ c .before .before .before .before .test .ensures) _ _ _ _ (c .if1 .taken)
 
@@ -24,14 +18,8 @@ mul-if2 c = omega (arith, few-atoms _ _ (sym (c .before .before .s .given .1) �
 add-if2 : tie.Need-add-if2
 add-if2 c = omega (arith, few-atoms _ _ (sym (c .before .before .s .given .1) ∙ c .before .before .before .before .test .ensures))
 
-add-if2-2 : tie.Need-add-if2-2
-add-if2-2 c = omega arith
-
 mul-if2-2 : tie.Need-mul-if2-2
 mul-if2-2 c = omega (arith, rows-few _ _ (sym (c .before .before .s .given .1) ∙ c .before .before .before .before .test .ensures) _ (c .if1 .left))
-
-add-if2-3 : tie.Need-add-if2-3
-add-if2-3 c = omega arith
 
 mul-if2-3 : tie.Need-mul-if2-3
 mul-if2-3 c = omega (arith, bytes-few _ _ (sym (c .before .before .s .given .1) ∙ c .before .before .before .before .test .ensures) _ (c .if1 .left))
@@ -75,4 +63,4 @@ returns-5 c =
 pub match-label-spec : {M : Type 1} → statement M
 match-label-spec =
     tie.close
-    (tie.spec test-requires enum-told enum-known-s returns mul-if2 add-if2 add-if2-2 mul-if2-2 add-if2-3 mul-if2-3 returns-2 mul-if3 returns-3 run-requires returns-4 same-length same-length-2 returns-5)
+    (tie.spec test-requires (search needs) (search needs) returns mul-if2 add-if2 (λ c. omega arith) mul-if2-2 (λ c. omega arith) mul-if2-3 returns-2 mul-if3 returns-3 run-requires returns-4 same-length same-length-2 returns-5)
