@@ -56,13 +56,7 @@ module _ (table : Bytes) where
 
   -- the first node is the tree
   pub node-first : node table 0 ≡ tree-of table
-  unfolding node
-  node-first = ap (λ (l : List (Syntax pattern)). getD l 0 (last blank)) (sym (append-nil (nodes (tree-of table)))) ∙ first-node (tree-of table) []
-
--- whether the atom ends its branch, and where its followers are
-data Follow (table : Bytes) (x ends : ℕ) (a : Syntax atom) : Type 0 where
-  ended : ends ≡ 1 → node table x ≡ last a → Follow table x ends a
-  goes : (q : Syntax pattern) → ends ≡ 0 → node table x ≡ then a q → node table (x + size a) ≡ q → x + size a < atoms table → Follow table x ends a
+  node-first = at-node (record { rest = []; from = sym (append-nil (nodes (tree-of table))) })
 
 record View (table : Bytes) (x : ℕ) : Type 0 where
   pub low : ℕ
@@ -75,7 +69,8 @@ record View (table : Bytes) (x : ℕ) : Type 0 where
   pub fields : its table (layout table) x ≡ rec ends low high bodied x text
   pub words : drop (layout table .pool + text) table ≡ pool bodied ++ over
   pub inner : At (nodes (tree-of table)) (x + 1) bodied
-  pub follow : Follow table x ends (repeat low high bodied)
+  pub is-last : ends ≡ 1 → node table x ≡ last (head (node table x))
+  pub is-followed : (ends ≡ 1 → ⊥) → FollowedIn table x
 
 -- an atom's nodes are its body's
 at-body : {xs : List (Syntax pattern)} {x low : ℕ} {high : Option ℕ} {b : Syntax body} → At xs x (repeat low high b) → At xs x b
@@ -96,11 +91,13 @@ module _ (table : Bytes) (x : ℕ) (ok : AtomIn table x) where
     fields = head-there s;
     words = s .text;
     inner = at-body (at-last h);
-    follow = ended refl (at-node table h);
+    is-last = λ e. at-node table h ∙ ap last (sym (ap head (at-node table h)));
+    is-followed = λ n. absurd (n refl);
   }
-  view-of e text (then (repeat low high b) q) h s =
+  view-of ends text (then (repeat low high b) q) h s =
       let a : Syntax atom = repeat low high b in
-      let f = then-there e a q s .0 in
+      let e : head (node table x) ≡ a = ap head (at-node table h) in
+      let f = then-there ends a q s .0 in
       let n : x + suc (length (nodes a)) ≡ x + size a = omega (arith, all-nodes a) in
       let g : At (nodes (tree-of table)) (x + size a) q = subst (λ (k : ℕ). At (nodes (tree-of table)) k q) n (at-next h) in
       record {
@@ -110,11 +107,12 @@ module _ (table : Bytes) (x : ℕ) (ok : AtomIn table x) where
         ends = 0;
         text = text;
         over = f .over;
-        heads = ap head (at-node table h);
+        heads = e;
         fields = head-there f;
         words = f .text;
         inner = at-body (at-atom h);
-        follow = goes q refl (at-node table h) (at-node table g) (omega (arith, at-size table g, some-pattern q));
+        is-last = λ e. absurd (omega arith);
+        is-followed = λ n. record { is = rw e (at-node table h ∙ ap (then a) (sym (at-node table g))); there = rw e (omega (arith, at-size table g, some-pattern q)) };
       }
 
   view : View table x
@@ -223,20 +221,6 @@ module _ (table : Bytes) (x : ℕ) (ok : AtomIn table x) where
         let (bs, q, a, c, z) = kinds-group b x (v .text) (λ k. omega (arith, kind-is)) (λ k. omega (arith, kind-is)) in
         omega (arith, b-is, c, size-is)
 
-    last-is : r .ends ≡ 1 → node table x ≡ last (head (node table x))
-    last-is e = go (v .follow)
-      where
-        go : Follow table x (v .ends) (repeat (v .low) (v .high) b) → node table x ≡ last (head (node table x))
-        go (ended z n) = n ∙ ap last (sym (v .heads))
-        go (goes q z n m l) = absurd (omega (arith, ends-is))
-
-    followed-is : (r .ends ≡ 1 → ⊥) → FollowedIn table x
-    followed-is e = go (v .follow)
-      where
-        go : Follow table x (v .ends) (repeat (v .low) (v .high) b) → FollowedIn table x
-        go (ended z n) = absurd (e (ends-is ∙ z))
-        go (goes q z n m l) = record { is = rw (v .heads) (n ∙ ap (then (repeat (v .low) (v .high) b)) (sym m)); there = rw (v .heads) l }
-
     pub record-is : RecordOf table x r
     record-is =
         let c : head (node table x) ≡ repeat (r .low) (high-of (r .high)) (inside (head (node table x))) = v .heads ∙ count-is ∙ ap (repeat (r .low) (high-of (r .high))) (sym inside-is) in
@@ -249,8 +233,8 @@ module _ (table : Bytes) (x : ℕ) (ok : AtomIn table x) where
           is-group = group-is;
           next-group = next-group-is;
           next-leaf = λ n. size-is ∙ ap suc (kinds-leaf b (λ k. n (kind-is ∙ k)));
-          is-last = last-is;
-          is-followed = followed-is;
+          is-last = λ e. v .is-last (sym ends-is ∙ e);
+          is-followed = λ n. v .is-followed (λ e. n (ends-is ∙ e));
         }
 
     -- a literal's value lies in the pool, where the record says

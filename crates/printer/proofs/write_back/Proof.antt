@@ -10,20 +10,11 @@ use Rattle.printer.proofs.write_back.Tie as tie
 good : (c : tie.After-known-told) → Sized (c .before .before .before .before .before .before .args .table .now) (c .before .s .given .0 .0)
 good c = tested-good _ _ (sym (c .before .s .given .1) ∙ c .before .before .before .test .ensures)
 
-test-requires : tie.Need-test-requires
-test-requires c κs = search needs
-
-enum-known-s : tie.Need-enum-known-s
-enum-known-s c = search needs
-
 returns : tie.Need-returns
 returns c = room-written (good (c .before)) (c .before .before .before .before .before .before .before .args .source .now) (c .if1 .taken)
 
 write-pattern-requires : tie.Need-write-pattern-requires
 write-pattern-requires c κs = start-pre (good (c .before .before)) (c .before .before .before .before .before .before .before .before .args .source .now) (c .before .if1 .left)
-
-enum-told : tie.Need-enum-told
-enum-told c = search needs
 
 returns-2 : tie.Need-returns-2
 returns-2 c = length-written (good (c .before .before .before .before .before)) (c .before .before .before .before .before .before .before .before .before .before .before .args .source .now) (c .before .before .before .before .if1 .left) (c .before .before .write-pattern .ensures)
@@ -35,4 +26,4 @@ returns-3 : tie.Need-returns-3
 returns-3 c = table-written (c .before .before .before .before .before .args .table .now) (c .before .before .before .before .before .args .source .now) (sym (c .enum-told .given .1) ∙ c .before .before .test .ensures)
 
 pub write-back-spec : {M : Type 1} → statement M
-write-back-spec = tie.close (tie.spec test-requires enum-known-s returns write-pattern-requires enum-told same-length returns-2 returns-3)
+write-back-spec = tie.close (tie.spec (λ c κs. search needs) (search needs) returns write-pattern-requires (search needs) same-length returns-2 returns-3)

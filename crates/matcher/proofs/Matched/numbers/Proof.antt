@@ -14,39 +14,6 @@ refused-numbers : (budget number : ℕ) {a : Answer} {m q : Matched} → a ≡ r
     → record { number = a .number; position = 0; value = a .value; trials = a .trials } ≡ answer-of budget m
 refused-numbers budget number e f g = ap (λ (x : Answer). record { number = x .number; position = 0; value = x .value; trials = x .trials }) e ∙ g ∙ sym (ap (answer-of budget) f)
 
-enum-told : tie.Need-enum-told
-enum-told c = search needs
-
-refused-requires : tie.Need-refused-requires
-refused-requires c κs = search needs
-
-enum-told-2 : tie.Need-enum-told-2
-enum-told-2 c = search needs
-
-refused-requires-2 : tie.Need-refused-requires-2
-refused-requires-2 c κs = search needs
-
-enum-told-3 : tie.Need-enum-told-3
-enum-told-3 c = search needs
-
-refused-requires-3 : tie.Need-refused-requires-3
-refused-requires-3 c κs = search needs
-
-enum-told-4 : tie.Need-enum-told-4
-enum-told-4 c = search needs
-
-refused-requires-4 : tie.Need-refused-requires-4
-refused-requires-4 c κs = search needs
-
-enum-told-5 : tie.Need-enum-told-5
-enum-told-5 c = search needs
-
-enum-known-self : tie.Need-enum-known-self
-enum-known-self c = search needs
-
-enum-known-self-2 : tie.Need-enum-known-self-2
-enum-known-self-2 c = search needs
-
 returns : tie.Need-returns
 returns c = refused-numbers _ 11 (c .refused .ensures) (c .before .enum-told .given .1) refl
 
@@ -72,17 +39,17 @@ pub numbers-spec : {M : Type 1} → statement M
 numbers-spec =
     tie.close
     (tie.spec
-    enum-told
-    refused-requires
-    enum-told-2
-    refused-requires-2
-    enum-told-3
-    refused-requires-3
-    enum-told-4
-    refused-requires-4
-    enum-told-5
-    enum-known-self
-    enum-known-self-2
+    (search needs)
+    (λ c κs. search needs)
+    (search needs)
+    (λ c κs. search needs)
+    (search needs)
+    (λ c κs. search needs)
+    (search needs)
+    (λ c κs. search needs)
+    (search needs)
+    (search needs)
+    (search needs)
     returns
     returns-2
     returns-3

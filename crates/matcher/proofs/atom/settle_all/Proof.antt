@@ -14,9 +14,6 @@ abbrev μ-loop : tie.MeasureT-loop
 loop-holds : tie.Need-loop-holds Inv-loop μ-loop
 loop-holds c = all-start _ _ _ _ _ _ (c .before .before .before .pre .0) (c .before .before .before .pre .1)
 
-sub-x : tie.Need-sub-x Inv-loop μ-loop
-sub-x c = omega arith
-
 settle-requires : tie.Need-settle-requires Inv-loop μ-loop
 settle-requires c κs =
     let start = c .before .before .before .before .before .before in
@@ -33,9 +30,6 @@ returns c =
     let start = turn .before .before .before .before in
     all-stop _ _ _ _ _ _ (start .pre .0) (start .pre .1) _ _ _ (turn .loop .inv) (after-loop-test .loop-test .taken) _ _ (after-settle .settle .ensures) (c .if1 .taken)
 
-loop-less : tie.Need-loop-less Inv-loop μ-loop
-loop-less c = omega arith
-
 loop-again : tie.Need-loop-again Inv-loop μ-loop
 loop-again c =
     let after-settle = c .before .before .before in
@@ -51,4 +45,4 @@ returns-2 : tie.Need-returns-2 Inv-loop μ-loop
 returns-2 c = all-end _ _ _ _ _ _ (c .before .before .before .before .before .pre .0) (c .before .before .before .before .before .pre .1) _ _ _ (c .before .loop .inv) (c .loop-test .left)
 
 pub settle-all-spec : {M : Type 1} → statement M
-settle-all-spec = tie.close (tie.spec Inv-loop μ-loop loop-holds sub-x settle-requires same-length returns loop-less loop-again same-length-2 returns-2)
+settle-all-spec = tie.close (tie.spec Inv-loop μ-loop loop-holds (λ c. omega arith) settle-requires same-length returns (λ c. omega arith) loop-again same-length-2 returns-2)

@@ -12,9 +12,6 @@ fill-requires : tie.Need-fill-requires
 unfolding Fit
 fill-requires c κs = body-fill _ _ _ _ _ _ (c .before .before .before .before .before .before .before .pre) _ tt
 
-same-length : tie.Need-same-length
-same-length c = search needs
-
 returns : tie.Need-returns
 returns c =
     let after-if1 = c .before .before .before .before in
@@ -24,9 +21,6 @@ returns c =
 fill-requires-2 : tie.Need-fill-requires-2
 unfolding Fit
 fill-requires-2 c κs = body-fill _ _ _ _ _ _ (c .before .before .before .before .before .before .before .before .before .before .before .pre) _ tt
-
-same-length-2 : tie.Need-same-length-2
-same-length-2 c = search needs
 
 returns-2 : tie.Need-returns-2
 returns-2 c =
@@ -42,9 +36,6 @@ fill-requires-3 : tie.Need-fill-requires-3
 unfolding Fit
 fill-requires-3 c κs = body-fill _ _ _ _ _ _ (c .before .before .before .before .before .before .before .before .before .before .before .before .pre) _ (c .before .literal-at .ensures .within)
 
-same-length-3 : tie.Need-same-length-3
-same-length-3 c = search needs
-
 returns-3 : tie.Need-returns-3
 returns-3 c =
     let after-literal-at = c .before .before .before .before in
@@ -56,13 +47,7 @@ unite-requires c κs =
     let after-record-at = after-if2 .before .before .before .before in
     record { body = after-record-at .before .before .before .before .pre; group = after-record-at .record-at .ensures .is-group (after-if2 .before .before .if1 .left) (after-if2 .if2 .left) }
 
-same-length-4 : tie.Need-same-length-4
-same-length-4 c = search needs
-
-returns-4 : tie.Need-returns-4
-returns-4 c = search needs
-
 pub fill-body-spec : {M : Type 1} → statement M
 fill-body-spec =
     tie.close
-    (tie.spec record-at-requires fill-requires same-length returns fill-requires-2 same-length-2 returns-2 literal-at-requires fill-requires-3 same-length-3 returns-3 (search needs) unite-requires same-length-4 returns-4)
+    (tie.spec record-at-requires fill-requires (search needs) returns fill-requires-2 (search needs) returns-2 literal-at-requires fill-requires-3 (search needs) returns-3 (search needs) unite-requires (search needs) (λ c. search needs))

@@ -12,12 +12,6 @@ use Rattle.table.proofs.header.read_header.Tie as tie
 returns : tie.Need-returns
 returns c = head-short (c .before .before .args .table .now) (c .if1 .taken)
 
-marked-requires : tie.Need-marked-requires
-marked-requires c κs = search needs
-
-header-at-requires : tie.Need-header-at-requires
-header-at-requires c κs = search needs
-
 add-if3 : tie.Need-add-if3
 add-if3 c =
     let known = c .before .before .before .before .before .shared-slice-known in
@@ -45,4 +39,4 @@ returns-4 : tie.Need-returns-4
 returns-4 c = head-off (c .before .before .before .before .args .table .now) (c .before .before .if1 .left) (sym (c .before .marked .ensures) ∙ c .if2 .left)
 
 pub read-header-spec : {M : Type 1} → statement M
-read-header-spec = tie.close (tie.spec returns marked-requires header-at-requires add-if3 returns-2 returns-3 returns-4)
+read-header-spec = tie.close (tie.spec returns (λ c κs. search needs) (λ c κs. search needs) add-if3 returns-2 returns-3 returns-4)

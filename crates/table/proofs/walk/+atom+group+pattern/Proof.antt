@@ -85,35 +85,14 @@ atom-returns t c = record { past = tt; reads = atom-over _ _ _ _ (c .if1 .taken)
 atom-record-at-requires : (t : ℕ) → atom-lts.Need-record-at-requires (atom-claims t) (atom-at t) atom.Post
 atom-record-at-requires t c κs = record-in (c .before .before .pre .1) (c .if1 .left)
 
-atom-is-ordered-requires : (t : ℕ) → atom-lts.Need-is-ordered-requires (atom-claims t) (atom-at t) atom.Post
-atom-is-ordered-requires t c κs = search needs
-
-atom-add-next : (t : ℕ) → atom-lts.Need-add-next (atom-claims t) (atom-at t) atom.Post
-atom-add-next t c = omega arith
-
-atom-count-length-requires : (t : ℕ) → atom-lts.Need-count-length-requires (atom-claims t) (atom-at t) atom.Post
-atom-count-length-requires t c κs = search needs
-
 atom-add-next-2 : (t : ℕ) → atom-lts.Need-add-next-2 (atom-claims t) (atom-at t) atom.Post
 atom-add-next-2 t c = omega (arith, short-source (c .before .before .before .before .before .before .before .pre .1))
 
 atom-add-next-3 : (t : ℕ) → atom-lts.Need-add-next-3 (atom-claims t) (atom-at t) atom.Post
 atom-add-next-3 t c = omega (arith, short-source (c .before .before .before .before .before .before .before .before .before .before .before .pre .1))
 
-atom-add-group : (t : ℕ) → atom-lts.Need-add-group (atom-claims t) (atom-at t) atom.Post
-atom-add-group t c = omega arith
-
-atom-cast-group : (t : ℕ) → atom-lts.Need-cast-group (atom-claims t) (atom-at t) atom.Post
-atom-cast-group t c = search needs
-
 atom-group-requires : (t : ℕ) → atom-lts.Need-group-requires (atom-claims t) (atom-at t) atom.Post
 atom-group-requires t c κs = (omega arith, inner-ready (atom-counted t (c .before .before .before .before .before .before)) (c .before .before .before .if3 .taken) (c .before .before .if4 .taken))
-
-atom-enum-known-end : (t : ℕ) → atom-lts.Need-enum-known-end (atom-claims t) (atom-at t) atom.Post
-atom-enum-known-end t c = search needs
-
-atom-cast-if5 : (t : ℕ) → atom-lts.Need-cast-if5 (atom-claims t) (atom-at t) atom.Post
-atom-cast-if5 t c = search needs
 
 atom-add-after : (t : ℕ) → atom-lts.Need-add-after (atom-claims t) (atom-at t) atom.Post
 atom-add-after t c =
@@ -142,9 +121,6 @@ atom-returns-3 t c =
     let there = after-if3 .before .before .before in
     group-elsewhere (atom-counted t there) (after-if3 .if3 .taken) (after-if4 .if4 .taken) (after-group .group .ensures) (after-end .end .given .1) (c .if5 .left)
 
-atom-enum-told : (t : ℕ) → atom-lts.Need-enum-told (atom-claims t) (atom-at t) atom.Post
-atom-enum-told t c = search needs
-
 atom-returns-4 : (t : ℕ) → atom-lts.Need-returns-4 (atom-claims t) (atom-at t) atom.Post
 atom-returns-4 t c =
     let after-if4 = c .before .before .before .before .before in
@@ -157,9 +133,6 @@ atom-returns-5 t c = too-deep (atom-counted t (c .before .before .before .before
 
 atom-leaf-at-requires : (t : ℕ) → atom-lts.Need-leaf-at-requires (atom-claims t) (atom-at t) atom.Post
 atom-leaf-at-requires t c κs = ready-leaf (c .before .before .before .before .before .before .before .before .before .pre .1)
-
-atom-enum-known-v : (t : ℕ) → atom-lts.Need-enum-known-v (atom-claims t) (atom-at t) atom.Post
-atom-enum-known-v t c = search needs
 
 atom-add-next-4 : (t : ℕ) → atom-lts.Need-add-next-4 (atom-claims t) (atom-at t) atom.Post
 atom-add-next-4 t c =
@@ -184,9 +157,6 @@ atom-returns-6 t c =
     let there = after-if3 .before .before .before in
     leaf-passed (atom-counted t there) (after-if3 .if3 .left) (after-leaf-at .leaf-at .ensures) (c .before .before .v .given .1)
 
-atom-enum-told-2 : (t : ℕ) → atom-lts.Need-enum-told-2 (atom-claims t) (atom-at t) atom.Post
-atom-enum-told-2 t c = search needs
-
 atom-returns-7 : (t : ℕ) → atom-lts.Need-returns-7 (atom-claims t) (atom-at t) atom.Post
 atom-returns-7 t c = leaf-bad (atom-counted t (c .before .before .before .before .before .before)) (c .before .before .before .if3 .left) (c .before .before .leaf-at .ensures) (c .enum-told2 .given .1)
 
@@ -194,19 +164,16 @@ atom-returns-8 : (t : ℕ) → atom-lts.Need-returns-8 (atom-claims t) (atom-at 
 atom-returns-8 t c = record { past = tt; reads = atom-unordered _ _ _ _ _ (c .before .before .record-at .ensures) (c .before .before .before .if1 .left) (sym (c .before .is-ordered .ensures) ∙ c .if2 .left) }
 
 abbrev group-Inv-loop : group-lts.InvT-loop
-group-Inv-loop body atoms depth k from₀ left₀ from left = Branching body atoms depth left₀ from₀ from left
+group-Inv-loop table atoms depth k from₀ left₀ from left = Branching table atoms depth left₀ from₀ from left
 
 abbrev group-μ-loop : group-lts.MeasureT-loop
-group-μ-loop body atoms depth k from₀ left₀ from left = left
+group-μ-loop table atoms depth k from₀ left₀ from left = left
 
 group-loop-holds : (t : ℕ) → group-lts.Need-loop-holds (group-claims t) (group-at t) group.Post group-Inv-loop group-μ-loop
 group-loop-holds t c = branching-start (c .before .pre .1)
 
 group-pattern-requires : (t : ℕ) → group-lts.Need-pattern-requires (group-claims t) (group-at t) group.Post group-Inv-loop group-μ-loop
 group-pattern-requires t c κs = let g = c .before .loop .inv in (omega (arith, g .on, c .before .before .before .pre .0), g .ready)
-
-group-enum-known-next : (t : ℕ) → group-lts.Need-enum-known-next (group-claims t) (group-at t) group.Post group-Inv-loop group-μ-loop
-group-enum-known-next t c = search needs
 
 group-returns : (t : ℕ) → group-lts.Need-returns (group-claims t) (group-at t) group.Post group-Inv-loop group-μ-loop
 group-returns t c =
@@ -223,12 +190,6 @@ group-add-from t c =
     let turn = after-loop-test .before in
     omega (arith, short-source (branch-ready (turn .loop .inv) (λ z. omega (arith, z, after-loop-test .loop-test .taken)) (after-pattern .pattern .ensures) (after-next .next .given .1)))
 
-group-sub-left : (t : ℕ) → group-lts.Need-sub-left (group-claims t) (group-at t) group.Post group-Inv-loop group-μ-loop
-group-sub-left t c = omega arith
-
-group-loop-less : (t : ℕ) → group-lts.Need-loop-less (group-claims t) (group-at t) group.Post group-Inv-loop group-μ-loop
-group-loop-less t c = omega arith
-
 group-loop-again : (t : ℕ) → group-lts.Need-loop-again (group-claims t) (group-at t) group.Post group-Inv-loop group-μ-loop
 group-loop-again t c =
     let after-next = c .before .before .before in
@@ -237,9 +198,6 @@ group-loop-again t c =
     let turn = after-loop-test .before in
     branching-more (turn .loop .inv) (λ z. omega (arith, z, after-loop-test .loop-test .taken)) (after-pattern .pattern .ensures) (after-next .next .given .1) (c .before .if1 .left)
 
-group-enum-told : (t : ℕ) → group-lts.Need-enum-told (group-claims t) (group-at t) group.Post group-Inv-loop group-μ-loop
-group-enum-told t c = search needs
-
 group-returns-2 : (t : ℕ) → group-lts.Need-returns-2 (group-claims t) (group-at t) group.Post group-Inv-loop group-μ-loop
 group-returns-2 t c = branching-bad (c .before .before .before .before .loop .inv) (λ z. omega (arith, z, c .before .before .before .loop-test .taken)) (c .before .before .pattern .ensures) (c .enum-told .given .1)
 
@@ -247,19 +205,16 @@ group-returns-3 : (t : ℕ) → group-lts.Need-returns-3 (group-claims t) (group
 group-returns-3 t c = branching-over (c .before .loop .inv) (omega arith)
 
 abbrev pattern-Inv-loop : pattern-lts.InvT-loop
-pattern-Inv-loop body atoms depth from₀ before₀ from before = Going body atoms depth from₀ from before
+pattern-Inv-loop table atoms depth from₀ before₀ from before = Going table atoms depth from₀ from before
 
 abbrev pattern-μ-loop : pattern-lts.MeasureT-loop
-pattern-μ-loop body atoms depth from₀ before₀ from before = reach atoms from
+pattern-μ-loop table atoms depth from₀ before₀ from before = reach atoms from
 
 pattern-loop-holds : (t : ℕ) → pattern-lts.Need-loop-holds (pattern-claims t) (pattern-at t) pattern.Post pattern-Inv-loop pattern-μ-loop
 pattern-loop-holds t c = going-start (c .before .pre .1)
 
 pattern-atom-requires : (t : ℕ) → pattern-lts.Need-atom-requires (pattern-claims t) (pattern-at t) pattern.Post pattern-Inv-loop pattern-μ-loop
 pattern-atom-requires t c κs = let g = c .loop .inv in (omega (arith, g .on, c .before .before .pre .0), g .ready)
-
-pattern-enum-known-next : (t : ℕ) → pattern-lts.Need-enum-known-next (pattern-claims t) (pattern-at t) pattern.Post pattern-Inv-loop pattern-μ-loop
-pattern-enum-known-next t c = search needs
 
 pattern-ends-of-requires : (t : ℕ) → pattern-lts.Need-ends-of-requires (pattern-claims t) (pattern-at t) pattern.Post pattern-Inv-loop pattern-μ-loop
 pattern-ends-of-requires t c κs =
@@ -301,9 +256,6 @@ pattern-loop-again t c =
     let turn = after-atom .before in
     going-more (turn .loop .inv) (after-atom .atom .ensures) (after-next .next .given .1) (c .before .before .ends-of .ensures) (c .if2 .left)
 
-pattern-enum-told : (t : ℕ) → pattern-lts.Need-enum-told (pattern-claims t) (pattern-at t) pattern.Post pattern-Inv-loop pattern-μ-loop
-pattern-enum-told t c = search needs
-
 pattern-returns-3 : (t : ℕ) → pattern-lts.Need-returns-3 (pattern-claims t) (pattern-at t) pattern.Post pattern-Inv-loop pattern-μ-loop
 pattern-returns-3 t c = going-bad (c .before .before .before .loop .inv) (c .before .before .atom .ensures) (c .enum-told .given .1)
 
@@ -311,28 +263,28 @@ pub +atom+group+pattern-spec : {M : Type 1} → statement M
 +atom+group+pattern-spec = close μ-atom μ-group μ-pattern (λ t. atom-lts.spec (atom-claims t) (atom-at t) atom.Post
     (atom-returns t)
     (atom-record-at-requires t)
-    (atom-is-ordered-requires t)
-    (atom-add-next t)
-    (atom-count-length-requires t)
+    (λ c κs. search needs)
+    (λ c. omega arith)
+    (λ c κs. search needs)
     (atom-add-next-2 t)
     (atom-add-next-3 t)
-    (atom-add-group t)
-    (atom-cast-group t)
+    (λ c. omega arith)
+    (search needs)
     (atom-group-requires t)
-    (atom-enum-known-end t)
-    (atom-cast-if5 t)
+    (search needs)
+    (search needs)
     (atom-add-after t)
     (atom-returns-2 t)
     (atom-returns-3 t)
-    (atom-enum-told t)
+    (search needs)
     (atom-returns-4 t)
     (atom-returns-5 t)
     (atom-leaf-at-requires t)
-    (atom-enum-known-v t)
+    (search needs)
     (atom-add-next-4 t)
     (atom-add-next-5 t)
     (atom-returns-6 t)
-    (atom-enum-told-2 t)
+    (search needs)
     (atom-returns-7 t)
     (atom-returns-8 t))
     (λ t. group-lts.spec (group-claims t) (group-at t) group.Post
@@ -340,13 +292,13 @@ pub +atom+group+pattern-spec : {M : Type 1} → statement M
     group-μ-loop
     (group-loop-holds t)
     (group-pattern-requires t)
-    (group-enum-known-next t)
+    (search needs)
     (group-returns t)
     (group-add-from t)
-    (group-sub-left t)
-    (group-loop-less t)
+    (λ c. omega arith)
+    (λ c. omega arith)
     (group-loop-again t)
-    (group-enum-told t)
+    (search needs)
     (group-returns-2 t)
     (group-returns-3 t))
     λ t. pattern-lts.spec (pattern-claims t) (pattern-at t) pattern.Post
@@ -354,7 +306,7 @@ pub +atom+group+pattern-spec : {M : Type 1} → statement M
     pattern-μ-loop
     (pattern-loop-holds t)
     (pattern-atom-requires t)
-    (pattern-enum-known-next t)
+    (search needs)
     (pattern-ends-of-requires t)
     (pattern-add-t11 t)
     (pattern-returns t)
@@ -362,5 +314,5 @@ pub +atom+group+pattern-spec : {M : Type 1} → statement M
     (pattern-add-before t)
     (pattern-loop-less t)
     (pattern-loop-again t)
-    (pattern-enum-told t)
+    (search needs)
     (pattern-returns-3 t)

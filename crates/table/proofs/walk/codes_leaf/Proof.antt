@@ -6,9 +6,6 @@ use Rattle.table.proofs.Leafing.{small-set, codes-on, codes-more, codes
 use Rattle.table.proofs.walk.codes_leaf.Statement.{statement}
 use Rattle.table.proofs.walk.codes_leaf.Tie as tie
 
-is-set-requires : tie.Need-is-set-requires
-is-set-requires c κs = search needs
-
 letters-requires : tie.Need-letters-requires
 letters-requires c κs = small-set (c .before .before .before .before .args .a) (sym (c .before .before .is-set .ensures) ∙ c .before .if1 .taken)
 
@@ -28,4 +25,4 @@ returns-3 c =
     record { short = tt; reads = codes-off (start .args .a) (start .args .b) (sym (c .before .is-set .ensures) ∙ c .if1 .left) }
 
 pub codes-leaf-spec : {M : Type 1} → statement M
-codes-leaf-spec = tie.close (tie.spec is-set-requires letters-requires returns returns-2 returns-3)
+codes-leaf-spec = tie.close (tie.spec (λ c κs. search needs) letters-requires returns returns-2 returns-3)

@@ -13,8 +13,5 @@ returns-2 : tie.Need-returns-2
 unfolding a-set
 returns-2 c = simp (lt-ltb 0 (c .before .args .a) (omega arith))
 
-cast-result : tie.Need-cast-result
-cast-result c = omega arith
-
 pub is-set-spec : {M : Type 1} → statement M
-is-set-spec = tie.close (tie.spec returns cast-result returns-2)
+is-set-spec = tie.close (tie.spec returns (λ c. omega arith) returns-2)

@@ -5,16 +5,10 @@ use Rattle.table.proofs.Leafing.{leaf-one, leaf-two, leaf-other}
 use Rattle.table.proofs.walk.leaf_at.Statement.{statement}
 use Rattle.table.proofs.walk.leaf_at.Tie as tie
 
-codes-leaf-requires : tie.Need-codes-leaf-requires
-codes-leaf-requires c κs = search needs
-
 returns : tie.Need-returns
 returns c =
     let a = c .before .before .before .before .args in
     record { short = c .codes-leaf .ensures .short; reads = c .codes-leaf .ensures .reads ∙ leaf-one (a .table .now) (a .atoms) (a .r .kind) (a .r .a) (a .r .b) (a .p) (c .before .if1 .taken) }
-
-text-leaf-requires : tie.Need-text-leaf-requires
-text-leaf-requires c κs = search needs
 
 returns-2 : tie.Need-returns-2
 returns-2 c =
@@ -28,4 +22,4 @@ returns-3 c =
 
 pub leaf-at-spec : {M : Type 1} → statement M
 leaf-at-spec =
-    tie.close (tie.spec codes-leaf-requires returns text-leaf-requires returns-2 returns-3)
+    tie.close (tie.spec (λ c κs. search needs) returns (λ c κs. search needs) returns-2 returns-3)
