@@ -1,13 +1,13 @@
 -- Atoms of codes and literals, from their bodies and their records. Assumes nothing.
 use mathlib.Core.Path.{_≡_, refl, subst}
 use mathlib.Core.List.{[], _∷_}
-use Prim.Native.Nat.{ℕ, _+_, _-_, _*_, _≤_}
+use Prim.Native.Nat.{ℕ, _+_, _-_, _≤_}
 use native.Mathlib.Omega.{arith}
 use lib.ListN.{length}
-use Rattle.pattern.specs.Numbers.{codes-kind, literal-kind, record-size, CODE, FORM}
+use Rattle.pattern.specs.Numbers.{codes-kind, literal-kind, CODE, FORM}
 use Rattle.pattern.specs.Bytes.{Bytes}
 use Rattle.pattern.specs.Syntax.{codes, literal, size}
-use Rattle.pattern.specs.Table.{pool, kind-field, a-field, b-field, records, flat}
+use Rattle.pattern.specs.Table.{pool, kind-field, a-field, b-field, records}
 use Rattle.pattern.specs.declared.repeat.Repeat.{Repeat}
 use Rattle.scanner.specs.declared.cursor.Cursor.{Cursor}
 use Rattle.scanner.specs.declared.body.Letters.{Letters}
@@ -17,8 +17,7 @@ use Rattle.scanner.specs.declared.body.Literal.the-variants as literals
 use Rattle.compiler.specs.declared.reader.State.{State}
 use Rattle.compiler.specs.declared.reader.Parsed.the-variants as parsed
 use Rattle.scanner.specs.Places.{flag}
-use Rattle.pattern.specs.Stores.{stored}
-use Rattle.table.specs.Write.{rec-of}
+use Rattle.table.specs.Write.{rec-of, put-records}
 use Rattle.scanner.specs.Bodies.{CodesRead, LiteralIs, LiteralRead}
 use Rattle.compiler.specs.Readers.{Settled, LeafRead, CodedRead, WordedRead}
 
@@ -28,7 +27,7 @@ state at n p = record { at = at; atoms = n; pool = p }
 module _ (s : Bytes) (i n p : ℕ) (rep : Repeat) (recs recs′ : Bytes) where
   module _ (r : Letters) (read : CodesRead s i r) where
     pub coded-done : (set f : ℕ) (next : Cursor) → r ≡ letters.Set set next → f ≡ flag s (next .at)
-        → recs′ ≡ stored recs (record-size * n) (flat (rec-of codes-kind f rep set 0 ∷ []) []) → p ≤ i → CodedRead s i n p rep recs recs′ (parsed.Done (state next (n + 1) p))
+        → recs′ ≡ put-records recs n (rec-of codes-kind f rep set 0 ∷ []) → p ≤ i → CodedRead s i n p rep recs recs′ (parsed.Done (state next (n + 1) p))
     unfolding CodesRead LeafRead records size pool kind-field a-field b-field Settled
     coded-done set f next e g w h =
         let (a, b, c, d, o) = subst (λ r. CodesRead s i r) e read in
@@ -57,7 +56,7 @@ module _ (s : Bytes) (i n p : ℕ) (rep : Repeat) (recs recs′ : Bytes) where
     literal-is next end e = subst (λ r. LiteralRead s i p text text′ r) e read
 
     pub worded-done : (f : ℕ) (next : Cursor) (end : ℕ) → r ≡ literals.Value next end → f ≡ flag s (next .at)
-        → recs′ ≡ stored recs (record-size * n) (flat (rec-of literal-kind f rep p (end - p) ∷ []) []) → WordedRead s i n p rep recs recs′ text text′ (parsed.Done (state next (n + 1) end))
+        → recs′ ≡ put-records recs n (rec-of literal-kind f rep p (end - p) ∷ []) → WordedRead s i n p rep recs recs′ text text′ (parsed.Done (state next (n + 1) end))
     unfolding LeafRead records size pool kind-field a-field b-field Settled
     worded-done f next end e g w =
         let v = literal-is next end e in

@@ -6,13 +6,13 @@ use Prim.Native.Nat.{ℕ, suc, _+_, _-_, _*_, _<_, _≤_}
 use native.Mathlib.Omega.{arith}
 use native.Mathlib.Numerals.{add-one}
 use lib.ListN.{length}
-use Rattle.pattern.specs.Numbers.{atom-limit, depth-limit, comma-byte, group-kind, record-size, FORM, DEPTH}
+use Rattle.pattern.specs.Numbers.{atom-limit, depth-limit, comma-byte, group-kind, FORM, DEPTH}
 use Rattle.pattern.specs.Bytes.{Bytes}
 use Rattle.pattern.specs.Syntax.{pattern, atom, body, branches, Syntax, last, then, repeat, group, only, or, size}
 use Rattle.pattern.specs.Spelling.{quote, opening, starts}
 use Rattle.pattern.specs.Reading.{counting, empty, Around, within, fork, next}
 use Rattle.pattern.specs.Scan.{low, high, depth}
-use Rattle.pattern.specs.Table.{pool, choices, flat}
+use Rattle.pattern.specs.Table.{pool, choices}
 use Rattle.pattern.specs.declared.repeat.Repeat.{Repeat}
 use Rattle.pattern.proofs.RoundTrip.{some-pattern}
 use Rattle.pattern.proofs.SpeltReads.{ended}
@@ -31,7 +31,7 @@ use Rattle.compiler.specs.declared.reader.Grouped.the-variants as groupe
 use Rattle.scanner.specs.Places.{flag, ByteIs, KindIs, LetterIs, ClassRead, SeparatorRead}
 use Rattle.scanner.specs.Scans.{scanned}
 use Rattle.pattern.specs.Stores.{stored}
-use Rattle.table.specs.Write.{rec-of}
+use Rattle.table.specs.Write.{rec-of, put-records}
 use Rattle.scanner.specs.Bodies.{Inside, in-codes, in-literal}
 use Rattle.scanner.specs.Counts.{CountIs, CountRefused, CountRead}
 use Rattle.compiler.specs.Readers.{Ready, Settled, tail, LeafRead, CodedRead, WordedRead, Refused, AtomIs, AtomRead, PatternIs, PatternRead, GroupIs, GroupRefused, GroupRead}
@@ -127,7 +127,7 @@ module _ (s : Bytes) (st : State) (d : ℕ) (recs text : Bytes) where
             record { scan = λ k z. opened k z ∙ v .scan k (low (c .run)) (high (c .run)) [] (omega arith) }
 
         pub atom-group : (u : State) (b f : ℕ) (recs₁ recs₂ text′ : Bytes) → GroupIs s (state later (st .atoms + 1) (st .pool)) (d + 1) recs recs₁ text text′ u b → f ≡ flag s (u .at .at)
-            → recs₂ ≡ stored recs₁ (record-size * st .atoms) (flat (rec-of group-kind f rep b (u .atoms) ∷ []) []) → AtomRead s st d recs recs₂ text text′ (parsed.Done u)
+            → recs₂ ≡ put-records recs₁ (st .atoms) (rec-of group-kind f rep b (u .atoms) ∷ []) → AtomRead s st d recs recs₂ text text′ (parsed.Done u)
         unfolding AtomRead Settled fork
         atom-group u b f recs₁ recs₂ text′ v g w =
             let m = v .moved in

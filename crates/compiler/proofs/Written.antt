@@ -2,27 +2,22 @@
 use mathlib.Core.Path.{_≡_, refl, sym, ap, ap₂, _∙_}
 use mathlib.Core.List.{List, [], _∷_, _++_}
 use mathlib.Core.Option.{Option}
-use Prim.Native.Nat.{ℕ, suc, _+_, _*_}
+use Prim.Native.Nat.{ℕ, suc, _+_}
 use native.Mathlib.Omega.{arith}
 use native.Mathlib.Numerals.{add-one}
 use lib.ListN.{length, length-append}
-use Rattle.pattern.specs.Numbers.{group-kind, record-size}
-use Rattle.pattern.specs.Bytes.{Bytes, word}
+use Rattle.pattern.specs.Numbers.{group-kind}
+use Rattle.pattern.specs.Bytes.{Bytes}
 use Rattle.pattern.specs.Syntax.{Sort, pattern, atom, body, branches, Syntax, last, then, repeat, group, only, or, size}
-use Rattle.pattern.specs.Table.{pool, choices, Rec, kind-field, a-field, b-field, rec, records, flat}
+use Rattle.pattern.specs.Table.{pool, choices, Rec, kind-field, a-field, b-field, rec, records}
 use Rattle.pattern.specs.Repeats.{repeat-of}
 use Rattle.pattern.specs.declared.repeat.Repeat.{Repeat}
-use Rattle.pattern.proofs.Records.{flat-append, length-flat, count-records}
+use Rattle.pattern.proofs.Records.{count-records}
 use Rattle.pattern.specs.Stores.{stored}
-use Rattle.table.specs.Write.{rec-of}
+use Rattle.table.specs.Write.{rec-of, put-records}
+use Rattle.table.proofs.Writing.{records-then, records-before}
 use Rattle.compiler.specs.Readers.{Wrote}
-use Rattle.pattern.proofs.Stores.{stored-then, stored-before}
-
--- records before other bytes
-pub flat-over : (xs : List Rec) (s : Bytes) → flat xs s ≡ flat xs [] ++ s
-unfolding flat
-flat-over [] s = refl
-flat-over (r ∷ xs) s = ap (λ l. r .kind ∷ r .ends ∷ word (r .low) (word (r .high) (word (r .a) (word (r .b) l)))) (flat-over xs s)
+use Rattle.pattern.proofs.Stores.{stored-then}
 
 -- of two trees one after the other
 wrote-both : {o o₁ o₂ : Sort} (e f : ℕ) (x : Syntax o₁) (y : Syntax o₂) (t : Syntax o) (n p m q m′ q′ : ℕ) (recs recs₁ recs₂ text text₁ text₂ : Bytes)
@@ -31,13 +26,11 @@ wrote-both : {o o₁ o₂ : Sort} (e f : ℕ) (x : Syntax o₁) (y : Syntax o₂
 wrote-both e f x y t n p m q m′ q′ recs recs₁ recs₂ text text₁ text₂ z v r a b =
     let xs : List Rec = records e x n p in
     let ys : List Rec = records f y m q in
-    let j : record-size * m ≡ record-size * n + length (flat xs []) = omega (arith, a .atoms, length-flat xs [], count-records e x n p) in
-    let w : flat (records 1 t n p) [] ≡ flat xs [] ++ flat ys [] =
-    ap (λ l. flat l []) (r ∙ ap₂ (λ g h. xs ++ records f y g h) (sym (a .atoms)) (sym (a .pooled))) ∙ flat-append xs ys [] ∙ flat-over xs (flat ys []) in
+    let w : records 1 t n p ≡ xs ++ ys = r ∙ ap₂ (λ g h. xs ++ records f y g h) (sym (a .atoms)) (sym (a .pooled)) in
     record {
       atoms = omega (arith, a .atoms, b .atoms);
       pooled = omega (arith, a .pooled, b .pooled, ap length v, length-append (pool x) (pool y));
-      recs-are = b .recs-are ∙ ap (λ l. stored l (record-size * m) (flat ys [])) (a .recs-are) ∙ stored-then recs (record-size * n) (record-size * m) (flat xs []) (flat ys []) j ∙ rw w;
+      recs-are = b .recs-are ∙ ap (λ l. put-records l m ys) (a .recs-are) ∙ records-then recs n m xs ys (omega (arith, a .atoms, count-records e x n p)) ∙ rw w;
       text-is = b .text-is ∙ ap (λ l. stored l q (pool y)) (a .text-is) ∙ stored-then text p q (pool x) (pool y) (a .pooled) ∙ rw v;
     }
 
@@ -76,7 +69,7 @@ any-ends e (or t bs) i p = ap₂ (λ k l. k ++ l) (any-end e t i p) (any-ends e 
 -- a leaf: its own record
 pub wrote-leaf : (e low : ℕ) (high : Option ℕ) (b : Syntax body) (rep : Repeat) (n p m q : ℕ) (recs recs′ text text′ : Bytes)
     → ((f j i : ℕ) → records f b j i ≡ []) → size b ≡ 0 → rep ≡ repeat-of low high → m ≡ n + 1 → q ≡ p + length (pool b)
-    → recs′ ≡ stored recs (record-size * n) (flat (rec-of (kind-field b) e rep (a-field b p) (b-field b n) ∷ []) []) → text′ ≡ stored text p (pool b)
+    → recs′ ≡ put-records recs n (rec-of (kind-field b) e rep (a-field b p) (b-field b n) ∷ []) → text′ ≡ stored text p (pool b)
     → Wrote e (repeat low high b) n p m q recs recs′ text text′
 unfolding size pool records
 wrote-leaf e low high b rep n p m q recs recs′ text text′ alone z f g h r t = record {
@@ -89,19 +82,17 @@ wrote-leaf e low high b rep n p m q recs recs′ text text′ alone z f g h r t 
 -- a group: its record goes before those of its contents
 pub wrote-group : (e low : ℕ) (high : Option ℕ) (bs : Syntax branches) (rep : Repeat) (c n p m q : ℕ) (recs recs₁ recs₂ text text′ : Bytes)
     → rep ≡ repeat-of low high → c ≡ choices bs → Wrote 1 bs (n + 1) p m q recs recs₁ text text′
-    → recs₂ ≡ stored recs₁ (record-size * n) (flat (rec-of group-kind e rep c m ∷ []) []) → Wrote e (repeat low high (group bs)) n p m q recs recs₂ text text′
-unfolding size pool records kind-field a-field b-field flat
+    → recs₂ ≡ put-records recs₁ n (rec-of group-kind e rep c m ∷ []) → Wrote e (repeat low high (group bs)) n p m q recs recs₂ text text′
+unfolding size pool records kind-field a-field b-field
 wrote-group e low high bs rep c n p m q recs recs₁ recs₂ text text′ f g w r =
     let x : Rec = rec e low high (group bs) n p in
-    let y : Bytes = flat (records 1 bs (suc n) p) [] in
     let a : n + 1 ≡ suc n = add-one n in
     let z : m ≡ suc n + size bs = omega (arith, w .atoms) in
-    let j : record-size * suc n ≡ record-size * n + record-size = omega arith in
-    let k : recs₁ ≡ stored recs (record-size * suc n) y = w .recs-are ∙ ap (λ i. stored recs (record-size * i) (flat (records 1 bs i p) [])) a in
-    let v : recs₂ ≡ stored recs₁ (record-size * n) (flat (x ∷ []) []) = r ∙ rw (f, g, z) in
+    let k : recs₁ ≡ put-records recs (suc n) (records 1 bs (suc n) p) = w .recs-are ∙ ap (λ i. put-records recs i (records 1 bs i p)) a in
+    let v : recs₂ ≡ put-records recs₁ n (x ∷ []) = r ∙ rw (f, g, z) in
     record {
       atoms = omega (arith, w .atoms);
       pooled = w .pooled;
-      recs-are = v ∙ ap (λ l. stored l (record-size * n) (flat (x ∷ []) [])) k ∙ stored-before recs (record-size * n) (record-size * suc n) (flat (x ∷ []) []) y j ∙ rw (any-ends e bs (suc n) p);
+      recs-are = v ∙ ap (λ l. put-records l n (x ∷ [])) k ∙ records-before recs n (suc n) (x ∷ []) _ (sym a) ∙ rw (any-ends e bs (suc n) p);
       text-is = w .text-is;
     }

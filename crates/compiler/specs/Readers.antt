@@ -2,15 +2,15 @@
 use mathlib.Core.Path.{_≡_}
 use mathlib.Core.List.{List, [], _∷_}
 use mathlib.Core.Option.{Option}
-use Prim.Native.Nat.{ℕ, suc, _+_, _*_, _<_, _≤_}
+use Prim.Native.Nat.{ℕ, suc, _+_, _<_, _≤_}
 use lib.ListN.{length}
-use Rattle.pattern.specs.Numbers.{source-limit, atom-limit, depth-limit, record-size}
+use Rattle.pattern.specs.Numbers.{source-limit, atom-limit, depth-limit}
 use Rattle.pattern.specs.Bytes.{Bytes}
 use Rattle.pattern.specs.Syntax.{Sort, pattern, body, branches, Syntax, last, then, repeat, codes, literal, group, size}
 use Rattle.pattern.specs.Spelling.{letter, quote, starts}
 use Rattle.pattern.specs.Reading.{counting, empty, after, Around, within, fork}
 use Rattle.pattern.specs.Scan.{depth, refused}
-use Rattle.pattern.specs.Table.{pool, choices, kind-field, a-field, b-field, records, flat}
+use Rattle.pattern.specs.Table.{pool, choices, kind-field, a-field, b-field, records}
 use Rattle.pattern.specs.declared.repeat.Repeat.{Repeat}
 use Rattle.pattern.proofs.SpeltReads.{ended}
 use Rattle.compiler.specs.declared.reader.State.{State}
@@ -21,7 +21,7 @@ use Rattle.compiler.specs.declared.reader.Grouped.the-variants as groupe
 use Rattle.scanner.specs.Places.{flag, Kind-not}
 use Rattle.scanner.specs.Scans.{scanned}
 use Rattle.pattern.specs.Stores.{stored}
-use Rattle.table.specs.Write.{rec-of}
+use Rattle.table.specs.Write.{rec-of, records-room, put-records}
 use Rattle.scanner.specs.Bodies.{Inside, in-codes, in-literal, Refuses}
 
 -- where a reader may start, in d groups
@@ -34,7 +34,7 @@ pub record Ready (s : Bytes) (st : State) (d : ℕ) : Type 0 where
 -- room for the records of all atoms and for the text of the whole source
 pub record Room (s recs text : Bytes) : Type 0 where
   pub source : length s ≤ source-limit
-  pub recs-fit : record-size * atom-limit ≤ length recs
+  pub recs-fit : records-room ≤ length recs
   pub text-fits : length s ≤ length text
 
 -- how a reader has moved
@@ -48,7 +48,7 @@ pub record Moved (s : Bytes) (st u : State) : Type 0 where
 pub record Wrote {o : Sort} (e : ℕ) (t : Syntax o) (n p m q : ℕ) (recs recs′ text text′ : Bytes) : Type 0 where
   pub atoms : m ≡ n + size t
   pub pooled : q ≡ p + length (pool t)
-  pub recs-are : recs′ ≡ stored recs (record-size * n) (flat (records e t n p) [])
+  pub recs-are : recs′ ≡ put-records recs n (records e t n p)
   pub text-is : text′ ≡ stored text p (pool t)
 
 -- a body does not go on at a place
@@ -72,7 +72,7 @@ pub record LeafIs (s : Bytes) (from : Inside) (P : Bytes → Type 0) (i n p : �
   pub fits : u .pool ≤ u .at .at
   pub atoms : u .atoms ≡ n + 1
   pub pooled : u .pool ≡ p + length (pool body)
-  pub recs-are : recs′ ≡ stored recs (record-size * n) (flat (rec-of (kind-field body) (flag s (u .at .at)) rep (a-field body p) (b-field body n) ∷ []) [])
+  pub recs-are : recs′ ≡ put-records recs n (rec-of (kind-field body) (flag s (u .at .at)) rep (a-field body p) (b-field body n) ∷ [])
   pub text-is : P (pool body)
   pub scan : (l : ℕ) (h : Option ℕ) (k : Around) (m : ℕ) → scanned s (from l h k) i m ≡ scanned s (after l h body, k) (u .at .at) m
   pub settled : Settled s (u .at .at) body
@@ -87,7 +87,7 @@ pub record LeafReady (s : Bytes) (i n p : ℕ) (recs : Bytes) : Type 0 where
   pub atoms : n < atom-limit
   pub pool : p ≤ i
   pub source : length s ≤ source-limit
-  pub recs-fit : record-size * atom-limit ≤ length recs
+  pub recs-fit : records-room ≤ length recs
 
 abbrev pub CodedRead : Bytes → (i n p : ℕ) → Repeat → (recs recs′ : Bytes) → Parsed → Type 0
 CodedRead s i n p rep recs recs′ r = LeafRead s (in-codes 0) (λ v. v ≡ []) i n p rep recs recs′ r

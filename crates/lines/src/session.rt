@@ -10,8 +10,13 @@ ghost use Rattle.lines.specs.Session.{reading-of, state-of, Starts, halt
 use crate::chunk::Pending;
 use crate::chunk::answer_chunk;
 use crate::chunk::answer_last;
-use replies::sizes::NEWLINE;
 use stores::clear;
+use stores::copy;
+
+// The line that the output begins with.
+const FIRST_SIZE: usize = 6;
+
+const FIRST_LINE: [u8; FIRST_SIZE] = *b"MPT 1\n";
 
 // What a read gave: nothing, since it failed; the end of the input; or the first bytes of the buffer.
 pub enum Input {
@@ -49,17 +54,13 @@ pub fn start(out: &mut [u8]) -> Next
     requires { ⌜ out-room ≤ length (now out) ⌝ }
     ensures { λ r. ⌜ Starts (now (out .entry)) (now (out .exit)) r ⌝ }
 {
-    out[0] = b'M';
-    out[1] = b'P';
-    out[2] = b'T';
-    out[3] = b' ';
-    out[4] = b'1';
-    out[5] = NEWLINE;
+    let line = FIRST_LINE;
+    copy(&line, FIRST_SIZE, out, 0);
     Next::Write(Pending {
         from: 0,
         to: 0,
         held: 0,
-        end: 6,
+        end: FIRST_SIZE,
         last: false,
     })
 }

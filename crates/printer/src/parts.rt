@@ -1,6 +1,7 @@
 // The parts of an atom in the shortest source, each written from a place on; the answer is the place after it.
 use pattern::repeat::Repeat;
 use stores::decimal::put_decimal;
+use stores::put_byte;
 ghost use mathlib.Core.List.{[], _∷_, _++_};
 ghost use Prim.Native.Nat.{_+_, _≤_, _<_};
 ghost use lib.ListN.{length};
@@ -30,12 +31,12 @@ pub fn count(out: &mut [u8], n: usize, low: u16, high: u16) -> usize
     if low == high {
         return put_decimal(out, n, low as u64);
     }
-    let m = low_number(out, n, low);
-    out[m] = b'.';
+    let point = low_number(out, n, low);
+    let m = put_byte(out, point, b'.');
     if high == Repeat::OPEN {
-        return m + 1;
+        return m;
     }
-    put_decimal(out, m + 1, high as u64)
+    put_decimal(out, m, high as u64)
 }
 
 // The letters of a set.
@@ -82,8 +83,7 @@ pub fn literal(out: &mut [u8], n: usize, v: &[u8]) -> usize
     requires { ⌜ n + length (quote-byte ∷ double (now v) ++ quote-byte ∷ []) ≤ length (now out) ⌝ }
     ensures { λ r. ⌜ Puts (now (out .entry)) n (quote-byte ∷ double (now (v .entry)) ++ quote-byte ∷ []) (now (out .exit)) r ⌝ }
 {
-    out[n] = b'"';
-    let m = doubled(out, n + 1, v);
-    out[m] = b'"';
-    m + 1
+    let from = put_byte(out, n, b'"');
+    let to = doubled(out, from, v);
+    put_byte(out, to, b'"')
 }

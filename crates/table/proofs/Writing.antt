@@ -1,6 +1,6 @@
 -- The stores of a record and of a table. Assumes nothing.
 use mathlib.Core.Path.{_≡_, refl, sym, ap, ap₂, _∙_}
-use mathlib.Core.List.{[], _∷_, _++_, append-assoc}
+use mathlib.Core.List.{List, [], _∷_, _++_, append-assoc}
 use Prim.Native.Nat.{ℕ, _+_, _*_, _<_, _≤_}
 use native.Mathlib.Omega.{arith}
 use lib.ListN.{length, take, set, length-append}
@@ -8,11 +8,13 @@ use lib.Seq.{length-take-le}
 use Rattle.pattern.specs.Numbers.{header-size, record-size, mark, version}
 use Rattle.pattern.specs.Bytes.{Bytes, word}
 use Rattle.pattern.specs.Stores.{stored, Puts}
-use Rattle.pattern.specs.Table.{Rec, flat, header}
+use Rattle.pattern.specs.Syntax.{pattern, Syntax, size}
+use Rattle.pattern.specs.Table.{pool, Rec, records, flat, header, encode}
 use Rattle.pattern.specs.Answers.{put}
+use Rattle.pattern.proofs.Records.{flat-append, length-flat, count-records}
 use Rattle.pattern.proofs.Calls.{put-fits, put-short}
-use Rattle.pattern.proofs.Stores.{stored-two, stored-then, stored-over, puts-then, puts-more}
-use Rattle.table.specs.Write.{WriteTablePre, table-of, output-of}
+use Rattle.pattern.proofs.Stores.{stored-two, stored-then, stored-before, stored-over, take-over, puts-then, puts-more}
+use Rattle.table.specs.Write.{put-records, WriteTablePre, table-of, output-of}
 use Rattle.table.specs.declared.write.Written.the-variants.{Length, Room}
 
 -- the ten stores of a record
@@ -30,7 +32,39 @@ record-puts l l₁ l₂ l₃ l₄ at r e₁ e₂ e₃ e₄ =
     let t₃ : l₃ ≡ stored l at (h ++ x ++ y ++ z) = e₃ ∙ ap (λ (m : Bytes). stored m (at + 6) z) t₂ ∙ stored-then l at (at + 6) (h ++ x ++ y) z refl in
     e₄ ∙ ap (λ (m : Bytes). stored m (at + 8) (word (r .b) [])) t₃ ∙ stored-then l at (at + 8) (h ++ x ++ y ++ z) (word (r .b) []) refl
 
+-- ---- records
+
+-- records before other bytes
+pub flat-over : (xs : List Rec) (s : Bytes) → flat xs s ≡ flat xs [] ++ s
+unfolding flat
+flat-over [] s = refl
+flat-over (r ∷ xs) s = ap (λ l. r .kind ∷ r .ends ∷ word (r .low) (word (r .high) (word (r .a) (word (r .b) l)))) (flat-over xs s)
+
+-- records after others that are stored
+pub records-then : (recs : Bytes) (i j : ℕ) (xs ys : List Rec) → j ≡ i + length xs → put-records (put-records recs i xs) j ys ≡ put-records recs i (xs ++ ys)
+records-then recs i j xs ys e =
+    stored-then recs (record-size * i) (record-size * j) (flat xs []) (flat ys []) (omega (arith, length-flat xs []))
+    ∙ ap (stored recs (record-size * i)) (sym (flat-append xs ys [] ∙ flat-over xs (flat ys [])))
+
+-- and before them
+pub records-before : (recs : Bytes) (i j : ℕ) (xs ys : List Rec) → j ≡ i + length xs → put-records (put-records recs j ys) i xs ≡ put-records recs i (xs ++ ys)
+records-before recs i j xs ys e =
+    stored-before recs (record-size * i) (record-size * j) (flat xs []) (flat ys []) (omega (arith, length-flat xs []))
+    ∙ ap (stored recs (record-size * i)) (sym (flat-append xs ys [] ∙ flat-over xs (flat ys [])))
+
 -- ---- the table
+
+take-stored : (l v : Bytes) (n : ℕ) → n ≡ length v → n ≤ length l → take n (stored l 0 v) ≡ v
+take-stored l v n e h = rw (e, stored-over l v (omega arith)) (take-over v l)
+
+-- the records and the text of a tree, at the start of their buffers, make its table
+pub table-is : (recs text : Bytes) (t : Syntax pattern) → record-size * size t ≤ length recs → length (pool t) ≤ length text
+    → table-of (size t) (length (pool t)) (put-records recs 0 (records 1 t 0 0)) (stored text 0 (pool t)) ≡ encode t
+unfolding table-of encode
+table-is recs text t h k =
+    let xs : List Rec = records 1 t 0 0 in
+    let r = take-stored recs (flat xs []) (record-size * size t) (omega (arith, length-flat xs [], count-records 1 t 0 0)) h in
+    ap (header (size t) (length (pool t))) (ap₂ (λ r v. r ++ v) r (take-stored text (pool t) (length (pool t)) refl k) ∙ sym (flat-over xs (pool t)))
 
 module _ (position n m : ℕ) (recs text table : Bytes) (pre : WriteTablePre n m recs text) where
   table-size : length (table-of n m recs text) ≡ header-size + record-size * n + m

@@ -1,11 +1,12 @@
 -- What writing a table asks and promises. Assumes nothing.
 use mathlib.Core.Path.{_≡_}
-use mathlib.Core.List.{_++_}
+use mathlib.Core.List.{List, [], _++_}
 use Prim.Native.Nat.{ℕ, _*_, _≤_}
 use lib.ListN.{length, take}
 use Rattle.pattern.specs.Numbers.{source-limit, atom-limit, record-size, ROOM}
 use Rattle.pattern.specs.Bytes.{Bytes}
-use Rattle.pattern.specs.Table.{Rec, header}
+use Rattle.pattern.specs.Table.{Rec, flat, header}
+use Rattle.pattern.specs.Stores.{stored}
 use Rattle.pattern.specs.Answers.{refusal, result, Output, put}
 use Rattle.pattern.specs.declared.repeat.Repeat.{Repeat}
 use Rattle.table.specs.declared.write.Written.{Written}
@@ -14,6 +15,14 @@ use Rattle.table.specs.declared.write.Written.the-variants.{Length, Room
 -- a record as the code has it
 abbrev pub rec-of : (kind last : ℕ) → Repeat → (a b : ℕ) → Rec
 rec-of kind last rep a b = record { kind = kind; ends = last; low = rep .low; high = rep .high; a = a; b = b }
+
+-- the records of every pattern fit
+abbrev pub records-room : ℕ
+records-room = record-size * atom-limit
+
+-- records in a buffer of records, the first of them that of atom i
+abbrev pub put-records : Bytes → (i : ℕ) → List Rec → Bytes
+put-records recs i xs = stored recs (record-size * i) (flat xs [])
 
 -- the buffers hold the records of n atoms and m bytes of text
 pub record WriteTablePre (n m : ℕ) (recs text : Bytes) : Type 0 where

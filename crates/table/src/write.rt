@@ -9,9 +9,7 @@ ghost use mathlib.Core.List.{[], _∷_};
 ghost use Prim.Native.Nat.{_+_, _*_, _≤_};
 ghost use lib.ListN.{length};
 ghost use Rattle.pattern.specs.Numbers.{record-size};
-ghost use Rattle.pattern.specs.Stores.{stored};
-ghost use Rattle.pattern.specs.Table.{flat};
-ghost use Rattle.table.specs.Write.{rec-of, WriteTablePre, WriteTablePost};
+ghost use Rattle.table.specs.Write.{rec-of, put-records, WriteTablePre, WriteTablePost};
 
 // The records of every pattern fit.
 pub const RECORDS_ROOM: usize = layout::RECORD_SIZE * limits::ATOM_LIMIT;
@@ -28,7 +26,7 @@ pub enum Written {
 // The record of atom i, in a buffer of records.
 pub fn put_record(recs: &mut [u8], i: usize, kind: u8, last: u8, rep: Repeat, a: u16, b: u16)
     requires { ⌜ record-size * i + record-size ≤ length (now recs) ⌝ }
-    ensures { λ _. ⌜ now (recs .exit) ≡ stored (now (recs .entry)) (record-size * i) (flat (rec-of kind last rep a b ∷ []) []) ⌝ }
+    ensures { λ _. ⌜ now (recs .exit) ≡ put-records (now (recs .entry)) i (rec-of kind last rep a b ∷ []) ⌝ }
 {
     let at = layout::RECORD_SIZE * i;
     recs[at] = kind;

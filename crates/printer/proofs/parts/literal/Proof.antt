@@ -1,56 +1,38 @@
 -- `parts::literal` meets its contract: a quote, the doubled value, a quote. Assumes nothing.
 use mathlib.Core.List.{[], _∷_}
 use native.Mathlib.Omega.{arith}
-use lib.ListN.{length-append, length-set}
+use lib.ListN.{length-append}
 use borrow.Author.Needs.{needs}
 use Rattle.pattern.specs.Print.{double}
-use Rattle.pattern.proofs.Stores.{puts-byte, puts-then, puts-more, puts-length, puts-room}
+use Rattle.pattern.proofs.Stores.{puts-then, puts-room}
 use Rattle.printer.proofs.parts.literal.Statement.{statement}
 use Rattle.printer.proofs.parts.literal.Tie as tie
 
-slice-write-out : tie.Need-slice-write-out
-slice-write-out c = search needs
-
-add-doubled : tie.Need-add-doubled
-add-doubled c = omega (arith, c .before .before .before .pre)
+put-byte-requires : tie.Need-put-byte-requires
+put-byte-requires c κs = search needs
 
 doubled-requires : tie.Need-doubled-requires
 doubled-requires c κs =
-    let a = c .before .before .before .args in
-    puts-room (puts-byte (a .out .now) (a .n) 34) (double (a .v .now)) (omega (arith, c .before .before .before .pre, length-append (double (a .v .now)) (34 ∷ [])))
+    let start = c .before .before .before .before .before .before .before in
+    let v = double (start .args .v .now) in
+    puts-room (c .before .before .before .put-byte .ensures) v (omega (arith, start .pre, length-append v (34 ∷ [])))
 
-slice-write-out-2 : tie.Need-slice-write-out-2
-slice-write-out-2 c =
-    let start = c .before .before .before .before .before .before in
-    let a = start .args in
-    let p = puts-then (puts-byte (a .out .now) (a .n) 34) (c .before .before .doubled .ensures) in
-    omega (arith, puts-room p (34 ∷ []) (start .pre))
-
-add-result : tie.Need-add-result
-add-result c =
-    let start = c .before .before .before .before .before .before in
-    let a = start .args in
-    let p = puts-then (puts-byte (a .out .now) (a .n) 34) (c .before .before .doubled .ensures) in
-    omega (arith, puts-room p (34 ∷ []) (start .pre), puts-length p)
+put-byte-requires-2 : tie.Need-put-byte-requires-2
+put-byte-requires-2 c κs =
+    let after-doubled = c .before .before .before in
+    let after-put-byte = after-doubled .before .before .before .before in
+    puts-room (puts-then (after-put-byte .put-byte .ensures) (after-doubled .doubled .ensures)) (34 ∷ []) (after-put-byte .before .before .before .before .pre)
 
 same-length : tie.Need-same-length
-same-length c =
-    let start = c .before .before .before .before .before .before in
-    simp length-set (puts-length (puts-then (puts-byte (start .args .out .now) (start .args .n) 34) (c .before .before .doubled .ensures)))
+same-length c = search needs
 
 returns : tie.Need-returns
 returns c =
-    let start = c .before .before .before .before .before .before in
-    puts-more (puts-then (puts-byte (start .args .out .now) (start .args .n) 34) (c .before .before .doubled .ensures)) 34
+    let after-doubled = c .before .before .before .before .before .before in
+    let after-put-byte = after-doubled .before .before .before .before in
+    puts-then (puts-then (after-put-byte .put-byte .ensures) (after-doubled .doubled .ensures)) (c .before .before .put-byte2 .ensures)
 
 pub literal-spec : {M : Type 1} → statement M
 literal-spec =
     tie.close
-    (tie.spec
-    slice-write-out
-    add-doubled
-    doubled-requires
-    slice-write-out-2
-    add-result
-    same-length
-    returns)
+    (tie.spec put-byte-requires doubled-requires put-byte-requires-2 same-length returns)
