@@ -29,8 +29,8 @@ limited table t d = let (n, h, g) = accepted-exactly (print t) t .0 (print-accep
 -- the table is good, and the sizes are of its tree
 pub record Sized (table : Bytes) (s : Sizes) : Type 0 where
   pub good : GoodTable table
-  pub atoms-are : s .atoms ≡ atoms table
-  pub top-are : s .top ≡ top-size (tree-of table)
+  pub atoms-is : s .atoms ≡ atoms table
+  pub top-is : s .top ≡ top-size (tree-of table)
   pub source-is : s .source ≡ length (print (tree-of table))
   pub few : atoms table ≤ atom-limit
 
@@ -47,8 +47,8 @@ module _ (table : Bytes) where
           let y : s ≡ record { atoms = size t; top = top-size t; source = length (print t) } = cc in
           record {
             good = record { decoded = d ∙ ap some (sym r) };
-            atoms-are = ap (λ (z : Sizes). z .atoms) y ∙ ap size (sym r);
-            top-are = ap (λ (z : Sizes). z .top) y ∙ ap top-size (sym r);
+            atoms-is = ap (λ (z : Sizes). z .atoms) y ∙ ap size (sym r);
+            top-is = ap (λ (z : Sizes). z .top) y ∙ ap top-size (sym r);
             source-is = ap (λ (z : Sizes). z .source) y ∙ ap (λ (u : Syntax pattern). length (print u)) (sym r);
             few = rw r (g .atoms);
           }

@@ -136,11 +136,11 @@ kinds-codes (codes set) p e = refl
 kinds-codes (literal value) p e = absurd (omega arith)
 kinds-codes (group bs) p e = absurd (omega arith)
 
-kinds-literal : (b : Syntax body) (i : ℕ) → kind-field b ≡ 2 → (b ≡ literal (pool b)) × (length (pool b) ≡ b-field b i)
-unfolding kind-field b-field pool
-kinds-literal (codes set) i e = absurd (omega arith)
-kinds-literal (literal value) i e = (refl, refl)
-kinds-literal (group bs) i e = absurd (omega arith)
+kinds-literal : (b : Syntax body) → kind-field b ≡ 2 → b ≡ literal (pool b)
+unfolding kind-field pool
+kinds-literal (codes set) e = absurd (omega arith)
+kinds-literal (literal value) e = refl
+kinds-literal (group bs) e = absurd (omega arith)
 
 -- the fields of a literal
 literal-fields : (b : Syntax body) (v : Bytes) (i p : ℕ) → b ≡ literal v → (pool b ≡ v) × (a-field b p ≡ p) × (b-field b i ≡ length v)
@@ -202,9 +202,6 @@ module _ (table : Bytes) (x : ℕ) (ok : AtomIn table x) where
         let f = count-fits table x ok (v .low) (v .high) b (v .heads) in
         ap₂ (λ (k : ℕ) (h : Option ℕ). repeat k h b) (sym (ap (λ (z : Record). z .low) said)) (sym (ap (λ (z : Record). high-of (z .high)) said ∙ high-again (v .high) (f .1)))
 
-    literal-is : r .kind ≡ 2 → (inside (head (node table x)) ≡ literal (pool b)) × (length (pool b) ≡ r .b)
-    literal-is e = let (p, q) = kinds-literal b x (sym kind-is ∙ e) in (inside-is ∙ p, q ∙ sym b-is)
-
     group-is : (r .kind ≡ 1 → ⊥) → (r .kind ≡ 2 → ⊥) → GroupIn table x (r .a)
     group-is n m =
         let (bs, e, a, c, z) = kinds-group b x (v .text) (λ k. n (kind-is ∙ k)) (λ k. m (kind-is ∙ k)) in
@@ -228,8 +225,7 @@ module _ (table : Bytes) (x : ℕ) (ok : AtomIn table x) where
           count = c;
           fits = count-fits table x ok (r .low) (high-of (r .high)) _ c;
           is-codes = λ e. inside-is ∙ kinds-codes b (v .text) (sym kind-is ∙ e) ∙ ap codes (sym a-is);
-          is-literal = λ e. record { atom = ok; value = pool b; is = literal-is e .0 };
-          is-empty = λ e z. literal-is e .0 ∙ ap literal (no-bytes (pool b) (literal-is e .1 ∙ z));
+          is-literal = λ e. record { atom = ok; value = pool b; is = inside-is ∙ kinds-literal b (sym kind-is ∙ e) };
           is-group = group-is;
           next-group = next-group-is;
           next-leaf = λ n. size-is ∙ ap suc (kinds-leaf b (λ k. n (kind-is ∙ k)));

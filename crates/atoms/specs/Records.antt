@@ -1,6 +1,5 @@
 -- What the record of an atom says of it, in a good table. Assumes nothing.
 use mathlib.Core.Path.{_≡_}
-use mathlib.Core.List.{[]}
 use Prim.Native.Nat.{ℕ, suc, _+_, _-_, _≤_, _<_}
 use lib.ListN.{length}
 use lib.Seq.{slice}
@@ -41,7 +40,6 @@ pub record RecordOf (table : Bytes) (x : ℕ) (r : Record) : Type 0 where
   pub fits : Fits (r .low) (high-of (r .high))
   pub is-codes : r .kind ≡ codes-kind → inside (head (node table x)) ≡ codes (r .a)
   pub is-literal : r .kind ≡ literal-kind → LiteralIn table x
-  pub is-empty : r .kind ≡ literal-kind → r .b ≡ 0 → inside (head (node table x)) ≡ literal []
   pub is-group : (r .kind ≡ codes-kind → ⊥) → (r .kind ≡ literal-kind → ⊥) → GroupIn table x (r .a)
   pub next-group : r .kind ≡ group-kind → r .b ≡ x + size (head (node table x))
   pub next-leaf : (r .kind ≡ group-kind → ⊥) → size (head (node table x)) ≡ 1

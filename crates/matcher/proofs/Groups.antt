@@ -1,16 +1,10 @@
 -- The plane of an atom's body, in plain values: leaves, and the loop over the branches of a group. Assumes nothing.
 use mathlib.Core.Path.{_≡_, refl, sym, ap, _∙_}
 use mathlib.Core.Bool.{Bool, true, false, _||_}
-use mathlib.Core.List.{[]}
-use mathlib.Core.Logic.{⊎-elim}
 use Prim.Native.Nat.{ℕ, suc, _+_, _-_, _*_, _≤_, _<_}
 use native.Mathlib.Omega.{arith}
-use native.Mathlib.Nat.{eq-or-lt-of-le}
-use borrow.Author.Tests.{eq-eqb, ne-eqb}
-use lib.Dec.{eqb}
 use lib.ListN.{length}
-use lib.Seq.{slice, slice-empty, length-slice}
-use Rattle.pattern.specs.Bytes.{Bytes, same}
+use Rattle.pattern.specs.Bytes.{Bytes}
 use Rattle.pattern.specs.Syntax.{pattern, body, branches, Syntax, group, only, or, size}
 use Rattle.pattern.specs.Decision.{Rel, decide}
 use Rattle.pattern.proofs.RoundTrip.{some-pattern}
@@ -18,7 +12,7 @@ use Rattle.table.specs.declared.record.Record.{Record}
 use Rattle.atoms.specs.Records.{LiteralAt, RecordOf}
 use Rattle.atoms.proofs.Views.{branches-last, branches-more, branches-some}
 use Rattle.planes.specs.declared.fill.Content.{Content}
-use Rattle.planes.specs.declared.fill.Content.the-variants.{Empty, Codes, Literal}
+use Rattle.planes.specs.declared.fill.Content.the-variants.{Codes, Literal}
 use Rattle.planes.specs.Cells.{InRoom, Plane, Kept, Others, on}
 use Rattle.planes.specs.Whole.{Blanked, Addable, Added}
 use Rattle.planes.specs.Filled.{held-in, Fit, Fillable, Filled}
@@ -26,7 +20,6 @@ use Rattle.atoms.specs.Atoms.{atoms, node, branches-from, head, inside}
 use Rattle.matcher.specs.Work.{Work, Settled}
 use Rattle.matcher.specs.Bodied.{Bodying, UnitePre, Bodied}
 use Rattle.planes.proofs.Planes.{Same, kept-all, kept-then, plane-on, plane-same, plane-flags, plane-kept, room-of, planes-le}
-use Rattle.planes.proofs.Slices.{same-false}
 
 -- settled planes stay settled where they are kept
 pub settled-kept : {table label s s′ : Bytes} {w x N : ℕ} {P : ℕ → ℕ → ℕ → Type 0} → Kept s s′ w N P → ((q i j : ℕ) → 2 * x ≤ q → q < 2 * atoms table → P q i j)
@@ -46,15 +39,6 @@ work-room {table} {label} {s} {w} h p l = room-of s w p (2 * atoms table + 4) l 
 pub work-few : {table label s : Bytes} {w : ℕ} → Work table label s w → 2 * atoms table + 4 ≤ length s
 work-few {table} {label} {s} {w} h = omega (arith, planes-le w (2 * atoms table + 4) (omega (arith, h .wide)), h .room)
 
--- an empty literal is satisfied by the empty stretches
-no-bytes : (l : Bytes) (i j : ℕ) → i ≤ j → j ≤ length l → eqb i j ≡ same (slice i j l) []
-unfolding same
-no-bytes l i j h k =
-    ⊎-elim
-    (λ e. eq-eqb i j e ∙ sym (ap (λ (x : ℕ). same (slice i x l) []) (sym e) ∙ ap (λ (x : Bytes). same x []) (slice-empty i l)))
-    (λ n. ne-eqb i j (λ e. omega arith) ∙ sym (same-false (slice i j l) [] (λ e. omega (arith, length-slice i j l k, ap length e))))
-    (eq-or-lt-of-le h)
-
 module _ (table label s : Bytes) (w top x : ℕ) (ok : Bodying table label s w top x) where
   pub body-blank : (1 ≤ w) × InRoom s w top
   body-blank = (omega (arith, ok .work .wide), work-room (ok .work) top (omega (arith, ok .topmost)))
@@ -63,19 +47,9 @@ module _ (table label s : Bytes) (w top x : ℕ) (ok : Bodying table label s w t
   pub body-fill : (content : Content) → Fit table content → Fillable table label s w content top
   body-fill content f = record { wide = ok .work .wide; fit = f; into = body-blank .1 }
 
-  module _ (r : Record) (got : RecordOf table x r) (s′ : Bytes) where
-    pub body-codes : r .kind ≡ 1 → Filled table label s s′ w (Codes (r .a)) top → Bodied table label s s′ w top x
-    unfolding held-in decide
-    body-codes e f =
-        let z = got .is-codes e in
-        record { plane = plane-same (f .plane) (λ i j hi hj. rw z); kept = f .kept }
-
-    pub body-empty : r .kind ≡ 2 → r .b ≡ 0 → Filled table label s s′ w Empty top → Bodied table label s s′ w top x
-    unfolding held-in decide
-    body-empty e n f =
-        let z = got .is-empty e n in
-        let wide = ok .work .wide in
-        record { plane = plane-same (f .plane) (λ i j hi hj. rw z (no-bytes label i j hi (omega arith))); kept = f .kept }
+  pub body-codes : {s′ : Bytes} {r : Record} → RecordOf table x r → r .kind ≡ 1 → Filled table label s s′ w (Codes (r .a)) top → Bodied table label s s′ w top x
+  unfolding held-in decide
+  body-codes got e f = let z = got .is-codes e in record { plane = plane-same (f .plane) (λ i j hi hj. rw z); kept = f .kept }
 
   pub body-literal : {s′ : Bytes} {from len : ℕ} → LiteralAt table x from len → Filled table label s s′ w (Literal from len) top → Bodied table label s s′ w top x
   unfolding held-in decide

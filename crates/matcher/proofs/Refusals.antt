@@ -33,10 +33,10 @@ module _ (table : Bytes) where
     told = tested-good table s e
 
     pub few-atoms : s .atoms ≤ atom-limit
-    few-atoms = omega (arith, told .atoms-are, told .few)
+    few-atoms = omega (arith, told .atoms-is, told .few)
 
     pub few-tops : s .top ≤ atom-limit
-    few-tops = omega (arith, told .top-are, told .few, top-le (tree-of table))
+    few-tops = omega (arith, told .top-is, told .few, top-le (tree-of table))
 
     -- the scratch bytes are few enough to count
     module _ (n : ℕ) (h : n ≤ label-limit) where
@@ -56,7 +56,7 @@ module _ (table : Bytes) where
       faulted o f = sym (rw (told .good .decoded, f))
 
       work-is : work (tree-of table) (length label) ≡ (2 * s .atoms + 4) * (length label + 1) * (length label + 1)
-      work-is = ap (λ (k : ℕ). (2 * k + 4) * (length label + 1) * (length label + 1)) (sym (told .atoms-are))
+      work-is = ap (λ (k : ℕ). (2 * k + 4) * (length label + 1) * (length label + 1)) (sym (told .atoms-is))
 
       pub long-label : label-limit < length label → Promised table label scratch parts budget Label scratch parts
       unfolding lent-fault refuse ending ended
@@ -76,15 +76,15 @@ module _ (table : Bytes) where
           pub few-parts : length parts < 2 * s .top → Promised table label scratch parts budget Parts scratch parts
           unfolding lent-fault refuse ending ended
           few-parts m =
-              let l : length parts < 2 * top-size (tree-of table) = rw (← told .top-are) m in
+              let l : length parts < 2 * top-size (tree-of table) = rw (← told .top-is) m in
               faulted (some PARTS) (rw (le-ltb label-limit (length label) h, le-ltb (length scratch) (work (tree-of table) (length label)) room, lt-ltb (length parts) (2 * top-size (tree-of table)) l))
 
           module _ (m : 2 * s .top ≤ length parts) where
             fits : 2 * top-size (tree-of table) ≤ length parts
-            fits = rw (← told .top-are) m
+            fits = rw (← told .top-is) m
 
             pub all-lent : Running table label scratch parts (s .atoms)
-            all-lent = record { good = told .good; counted = told .atoms-are; short = h; room = room; fits = fits }
+            all-lent = record { good = told .good; counted = told .atoms-is; short = h; room = room; fits = fits }
 
             pub no-fault : ended (unrefused table label budget) scratch parts ≡ matchOf table label scratch parts budget
             unfolding lent-fault refuse ending

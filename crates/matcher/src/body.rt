@@ -46,10 +46,6 @@ pub fn fill_body(table: &[u8], label: &[u8], scratch: &mut [u8], w: usize, top: 
         return;
     }
     if r.kind == kind::LITERAL {
-        if r.b == 0 {
-            fill(table, label, scratch, w, Content::Empty, top);
-            return;
-        }
         let v = literal_at(table, x);
         let value = Content::Literal(v.from, v.len);
         fill(table, label, scratch, w, value, top);

@@ -1,7 +1,7 @@
--- `matcher::body::fill_body` meets its contract: codes, an empty literal, another literal, a group. Assumes nothing.
+-- `matcher::body::fill_body` meets its contract: codes, a literal, a group. Assumes nothing.
 use borrow.Author.Needs.{needs}
 use Rattle.planes.specs.Filled.{Fit}
-use Rattle.matcher.proofs.Groups.{body-fill, body-codes, body-empty, body-literal}
+use Rattle.matcher.proofs.Groups.{body-fill, body-codes, body-literal}
 use Rattle.matcher.proofs.body.fill_body.Statement.{statement}
 use Rattle.matcher.proofs.body.fill_body.Tie as tie
 
@@ -16,30 +16,19 @@ returns : tie.Need-returns
 returns c =
     let after-if1 = c .before .before .before .before in
     let after-record-at = after-if1 .before .before in
-    body-codes _ _ _ _ _ _ (after-record-at .before .before .before .before .pre) _ (after-record-at .record-at .ensures) _ (after-if1 .if1 .taken) (c .before .before .fill .ensures)
+    body-codes _ _ _ _ _ _ (after-record-at .before .before .before .before .pre) (after-record-at .record-at .ensures) (after-if1 .if1 .taken) (c .before .before .fill .ensures)
+
+literal-at-requires : tie.Need-literal-at-requires
+literal-at-requires c κs = c .before .before .before .before .record-at .ensures .is-literal (c .if2 .taken)
 
 fill-requires-2 : tie.Need-fill-requires-2
 unfolding Fit
-fill-requires-2 c κs = body-fill _ _ _ _ _ _ (c .before .before .before .before .before .before .before .before .before .before .before .pre) _ tt
+fill-requires-2 c κs = body-fill _ _ _ _ _ _ (c .before .before .before .before .before .before .before .before .before .before .pre) _ (c .before .literal-at .ensures .within)
 
 returns-2 : tie.Need-returns-2
 returns-2 c =
-    let after-if3 = c .before .before .before .before in
-    let after-if2 = after-if3 .before .before in
-    let after-record-at = after-if2 .before .before .before .before in
-    body-empty _ _ _ _ _ _ (after-record-at .before .before .before .before .pre) _ (after-record-at .record-at .ensures) _ (after-if2 .if2 .taken) (after-if3 .if3 .taken) (c .before .before .fill2 .ensures)
-
-literal-at-requires : tie.Need-literal-at-requires
-literal-at-requires c κs = c .before .before .before .before .before .before .record-at .ensures .is-literal (c .before .before .if2 .taken)
-
-fill-requires-3 : tie.Need-fill-requires-3
-unfolding Fit
-fill-requires-3 c κs = body-fill _ _ _ _ _ _ (c .before .before .before .before .before .before .before .before .before .before .before .before .pre) _ (c .before .literal-at .ensures .within)
-
-returns-3 : tie.Need-returns-3
-returns-3 c =
     let after-literal-at = c .before .before .before .before in
-    body-literal _ _ _ _ _ _ (after-literal-at .before .before .before .before .before .before .before .before .before .before .before .pre) (after-literal-at .literal-at .ensures) (c .before .before .fill3 .ensures)
+    body-literal _ _ _ _ _ _ (after-literal-at .before .before .before .before .before .before .before .before .before .pre) (after-literal-at .literal-at .ensures) (c .before .before .fill2 .ensures)
 
 unite-requires : tie.Need-unite-requires
 unite-requires c κs =
@@ -50,4 +39,4 @@ unite-requires c κs =
 pub fill-body-spec : {M : Type 1} → statement M
 fill-body-spec =
     tie.close
-    (tie.spec record-at-requires fill-requires (search needs) returns fill-requires-2 (search needs) returns-2 literal-at-requires fill-requires-3 (search needs) returns-3 (search needs) unite-requires (search needs) (λ c. search needs))
+    (tie.spec record-at-requires fill-requires (search needs) returns literal-at-requires fill-requires-2 (search needs) returns-2 (search needs) unite-requires (search needs) (λ c. search needs))
