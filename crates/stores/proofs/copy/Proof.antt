@@ -3,6 +3,7 @@ use mathlib.Core.Path.{_≡_, sym, ap, _∙_}
 use Prim.Native.Nat.{_≤_, _-_, _+_}
 use native.Mathlib.Omega.{arith}
 use lib.ListN.{length, take, set, getD}
+use lib.Seq.{length-take-le}
 use Rattle.pattern.specs.Stores.{stored}
 use Rattle.pattern.proofs.Stores.{length-stored, stored-none, copied}
 use Rattle.stores.proofs.copy.Statement.{statement}
@@ -39,11 +40,17 @@ loop-again c =
     let start = c .before .before .before in
     (omega arith, ap (λ m. set m (start .args .at + c .before .before .loop .i) (getD (start .args .from .now) (c .before .before .loop .i) 0)) (c .before .before .loop .inv .1) ∙ copied (start .args .to .now) (start .args .from .now) (start .args .at) (c .before .before .loop .i) (omega arith))
 
+add-result : tie.Need-add-result Inv-loop μ-loop
+add-result c = omega arith
+
 same-length : tie.Need-same-length Inv-loop μ-loop
 same-length c = ap length (c .before .loop .inv .1) ∙ length-stored _ _ _
 
 returns : tie.Need-returns Inv-loop μ-loop
-returns c = let e : c .before .loop .i ≡ c .before .before .args .n = omega arith in rw e at (c .before .loop .inv .1)
+returns c =
+    let a = c .before .before .args in
+    let e : c .before .loop .i ≡ a .n = omega arith in
+    record { bytes = rw e at (c .before .loop .inv .1); next = ap (λ k. a .at + k) (sym (length-take-le (a .n) (a .from .now) (c .before .before .pre .0))) }
 
 pub copy-spec : {M : Type 1} → statement M
 copy-spec =
@@ -58,5 +65,6 @@ copy-spec =
     add-i
     loop-less
     loop-again
+    add-result
     same-length
     returns)

@@ -19,7 +19,7 @@ same-length c = search needs
 
 returns : tie.Need-returns
 unfolding first-line bytes
-returns c = record { next = refl; bytes = c .before .before .copy .ensures ∙ stored-over _ first-line (omega arith) }
+returns c = record { next = refl; bytes = c .before .before .copy .ensures .bytes ∙ stored-over _ first-line (omega arith) }
 
 pub start-spec : {M : Type 1} → statement M
 start-spec = tie.close (tie.spec slice-aggregate-copy copy-requires same-length returns)

@@ -75,7 +75,7 @@ returns-2 c =
     let after-marked = after-copy .before .before .before in
     let after-if1 = after-marked .before in
     let start = after-if1 .before .before .before .before in
-    record { puts = λ position. writes-table position _ _ _ _ _ (start .pre) _ _ _ _ _ (after-if1 .if1 .left) (after-marked .marked .ensures) (after-copy .copy .ensures) (after-put16 .put16 .ensures) (after-copy2 .copy2 .ensures) (c .before .before .copy3 .ensures) }
+    record { puts = λ position. writes-table position _ _ _ _ _ (start .pre) _ _ _ _ _ (after-if1 .if1 .left) (after-marked .marked .ensures) (after-copy .copy .ensures .bytes) (after-put16 .put16 .ensures .bytes) (after-copy2 .copy2 .ensures .bytes) (c .before .before .copy3 .ensures .bytes) }
 
 pub write-table-spec : {M : Type 1} → statement M
 write-table-spec =
