@@ -11,7 +11,7 @@ use Rattle.pattern.specs.Decision.{trial, decide}
 use Rattle.pattern.specs.Parts.{longest, end, parts}
 use Rattle.pattern.specs.Decode.{tree-of}
 use Rattle.pattern.specs.Answers.{part-bytes}
-use Rattle.pattern.specs.Stores.{stored, Puts}
+use Rattle.pattern.specs.Stores.{Puts}
 use Rattle.pattern.proofs.Stores.{stored-over, puts-none, puts-then, puts-length}
 use Rattle.pattern.proofs.RoundTrip.{some-pattern}
 use Rattle.pattern.proofs.Longest.{longest-le}
@@ -98,16 +98,12 @@ module _ (table label s : Bytes) (w : ℕ) (lent₀ : Bytes) (ok : Parting table
     parts-room = omega (arith, inv .room, puts-length (inv .puts), some-top (node table x))
 
     module _ (r : Record) (is : RecordOf table x r) where
-      -- one part more
-      puts-part : (m : ℕ) (lent′ : Bytes) → lent′ ≡ stored lent at (word m []) → Puts lent₀ 0 (inv .done ++ word m []) lent′ (at + 2)
-      puts-part m lent′ got = puts-then (inv .puts) (record { bytes = got; next = refl })
-
-      pub parts-end : r .ends ≡ 1 → (lent′ : Bytes) → lent′ ≡ stored lent at (word (length label) []) → Parted table label lent₀ lent′
-      parts-end e lent′ got =
+      pub parts-end : r .ends ≡ 1 → (lent′ : Bytes) (k : ℕ) → Puts lent at (word (length label) []) lent′ k → Parted table label lent₀ lent′
+      parts-end e lent′ k got =
           let (l, n) = parts-last label _ _ i (is .is-last e) in
           let whole : part-bytes (parts label (tree-of table) 0) ≡ inv .done ++ word (length label) [] = inv .left ∙ ap (λ (y : Bytes). inv .done ++ y) l in
-          let p = puts-part (length label) lent′ got in
-          record { written = p .bytes ∙ stored-over lent₀ (inv .done ++ word (length label) []) (omega (arith, p .next, parts-room, puts-length (inv .puts))) ∙ ap (λ (v : Bytes). over v lent₀) (sym whole) }
+          let p = puts-then (inv .puts) got in
+          record { written = p .bytes ∙ stored-over lent₀ (inv .done ++ word (length label) []) (omega (arith, p .next, got .next, parts-room, puts-length (inv .puts))) ∙ ap (λ (v : Bytes). over v lent₀) (sym whole) }
 
       module _ (n : r .ends ≡ 1 → ⊥) (next : ℕ) (e : next ≡ x + size (head (node table x))) where
         then-is : node table x ≡ then (head (node table x)) (node table next)
@@ -141,15 +137,15 @@ module _ (table label s : Bytes) (w : ℕ) (lent₀ : Bytes) (ok : Parting table
               let wide = ok .work .wide in
               found ∙ ap (λ (k : ℕ). i + k) (longest-same _ _ (suc (length label) - i) (trial-same w _ _ _ _ (plane-on own) (plane-on rest) i (length label) (inv .inner) (omega arith)))
 
-          pub parts-step : (lent′ : Bytes) → lent′ ≡ stored lent at (word m []) → PartsAt table label lent₀ lent′ next m (at + 2)
-          parts-step lent′ got =
-              let (l, k) = parts-then label _ _ _ i then-is in
+          pub parts-step : (lent′ : Bytes) (k : ℕ) → Puts lent at (word m []) lent′ k → PartsAt table label lent₀ lent′ next m k
+          parts-step lent′ k got =
+              let (l, z) = parts-then label _ _ _ i then-is in
               let whole : part-bytes (parts label (node table x) i) ≡ word m (part-bytes (parts label (node table next) m)) = rw end-is l in
               record {
                 there = parts-next;
                 inner = parts-in;
-                room = omega (arith, inv .room);
+                room = omega (arith, inv .room, got .next);
                 done = inv .done ++ word m [];
-                puts = puts-part m lent′ got;
+                puts = puts-then (inv .puts) got;
                 left = inv .left ∙ ap (λ (y : Bytes). inv .done ++ y) whole ∙ sym (append-assoc (inv .done) (word m []) _);
               }

@@ -42,8 +42,7 @@ pub fn write_parts(table: &[u8], label: &[u8], scratch: &[u8], w: usize, parts: 
         }
         let next = next_atom(table, x);
         i = last_end(scratch, w, 2 * x, 2 * next + 1, i, n);
-        put16(parts, at, i as u16);
+        at = put16(parts, at, i as u16);
         x = next;
-        at += 2;
     }
 }

@@ -13,8 +13,8 @@ pub fn put_answer(answer: &mut [u8], position: u64, value: u64, trials: u64)
     requires { ⌜ area-size ≤ length (now answer) ⌝ }
     ensures { λ r. ⌜ now (answer .exit) ≡ over (area record { number = 0; position = position; value = value; trials = trials }) (now (answer .entry)) ⌝ }
 {
-    put64(answer, 0, position);
-    put64(answer, 8, value);
-    put64(answer, 16, trials);
-    put64(answer, 24, 0);
+    let second = put64(answer, 0, position);
+    let third = put64(answer, second, value);
+    let fourth = put64(answer, third, trials);
+    put64(answer, fourth, 0);
 }

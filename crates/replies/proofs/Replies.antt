@@ -98,7 +98,7 @@ top-is table sizes g t d =
     let k = tested-good table sizes g in
     let x : some (tree-of table) ≡ some t = sym (k .good .decoded) ∙ d in
     let e : tree-of table ≡ t = cc in
-    k .top-are ∙ ap top-size e
+    k .top-is ∙ ap top-size e
 
 -- a bad table
 pub bad-reply : (table label scratch : Bytes) → Bad ≡ tested (decode table) → texted scratch (unmatched-text TABLE) ≡ label-reply table label scratch

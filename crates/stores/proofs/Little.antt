@@ -1,8 +1,8 @@
 -- Numbers stored byte by byte. Assumes nothing.
-use mathlib.Core.Path.{_≡_, refl, ap, _∙_}
-use Prim.Native.Nat.{ℕ, zero, suc, _+_, _-_, _/_, _%_, _<_, _≤_}
+use mathlib.Core.Path.{_≡_, ap, _∙_}
+use Prim.Native.Nat.{ℕ, suc, _+_, _-_, _/_, _%_, _<_, _≤_}
 use native.Mathlib.Omega.{arith}
-use lib.ListN.{length, set}
+use lib.ListN.{set}
 use Rattle.pattern.specs.Bytes.{Bytes}
 use Rattle.pattern.specs.Stores.{stored}
 use Rattle.pattern.proofs.Stores.{stored-none, stored-first}
@@ -22,8 +22,3 @@ store-next l at j left h =
 pub store-end : (l : Bytes) (at j left : ℕ) → 8 ≤ j → stored l (at + j) (little (8 - j) left) ≡ l
 unfolding little
 store-end l at j left h = let e : 8 - j ≡ 0 = omega arith in ap (λ c. stored l (at + j) (little c left)) e ∙ stored-none l (at + j)
-
-pub length-little : (c x : ℕ) → length (little c x) ≡ c
-unfolding little
-length-little zero x = refl
-length-little (suc c) x = ap suc (length-little c (x / 256))

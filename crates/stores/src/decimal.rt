@@ -1,4 +1,4 @@
-// Numbers in decimal.
+// Numbers in decimal: how long they are, and stored.
 ghost use mathlib.Core.Path.{_≡_};
 ghost use Prim.Native.Nat.{_+_, _≤_};
 ghost use lib.ListN.{length};
@@ -18,7 +18,7 @@ pub fn decimal_length(x: u64) -> usize
     n
 }
 
-// A number, its last digit first; the answer is the place after it.
+// A number, its last digit first.
 pub fn put_decimal(to: &mut [u8], at: usize, x: u64) -> usize
     requires { ⌜ at + length (decimal x) ≤ length (now to) ⌝ }
     ensures { λ r. ⌜ Puts (now (to .entry)) at (decimal x) (now (to .exit)) r ⌝ }

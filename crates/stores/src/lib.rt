@@ -1,16 +1,16 @@
-// Bytes and numbers of a fixed width in lent bytes: stored, copied, compared and zeroed.
+// Bytes and numbers of a fixed width in lent bytes: stored, copied, compared and zeroed. What stores answers the place after.
 ghost use mathlib.Core.Path.{_≡_};
 ghost use mathlib.Core.List.{[], _∷_};
 ghost use Prim.Native.Nat.{_+_, _≤_};
 ghost use lib.ListN.{length, take};
 ghost use lib.Seq.{slice};
 ghost use Rattle.pattern.specs.Bytes.{same, word, zeroed};
-ghost use Rattle.pattern.specs.Stores.{stored, Puts};
+ghost use Rattle.pattern.specs.Stores.{Puts};
 ghost use Rattle.stores.specs.Little.{little};
 
 pub mod decimal;
 
-// One byte; the answer is the place after it.
+// One byte.
 pub fn put_byte(to: &mut [u8], at: usize, b: u8) -> usize
     requires { ⌜ at + 1 ≤ length (now to) ⌝ }
     ensures { λ r. ⌜ Puts (now (to .entry)) at (b ∷ []) (now (to .exit)) r ⌝ }
@@ -20,18 +20,19 @@ pub fn put_byte(to: &mut [u8], at: usize, b: u8) -> usize
 }
 
 // A number in two bytes, the lower first.
-pub fn put16(to: &mut [u8], at: usize, x: u16)
+pub fn put16(to: &mut [u8], at: usize, x: u16) -> usize
     requires { ⌜ at + 2 ≤ length (now to) ⌝ }
-    ensures { λ _. ⌜ now (to .exit) ≡ stored (now (to .entry)) at (word x []) ⌝ }
+    ensures { λ r. ⌜ Puts (now (to .entry)) at (word x []) (now (to .exit)) r ⌝ }
 {
     to[at] = (x % 256) as u8;
     to[at + 1] = (x / 256) as u8;
+    at + 2
 }
 
 // A number in eight bytes, the lowest first.
-pub fn put64(to: &mut [u8], at: usize, x: u64)
+pub fn put64(to: &mut [u8], at: usize, x: u64) -> usize
     requires { ⌜ at + 8 ≤ length (now to) ⌝ }
-    ensures { λ _. ⌜ now (to .exit) ≡ stored (now (to .entry)) at (little 8 x) ⌝ }
+    ensures { λ r. ⌜ Puts (now (to .entry)) at (little 8 x) (now (to .exit)) r ⌝ }
 {
     let mut left = x;
     let mut j: usize = 0;
@@ -40,18 +41,20 @@ pub fn put64(to: &mut [u8], at: usize, x: u64)
         left /= 256;
         j += 1;
     }
+    at + 8
 }
 
 // The first n bytes of from.
-pub fn copy(from: &[u8], n: usize, to: &mut [u8], at: usize)
+pub fn copy(from: &[u8], n: usize, to: &mut [u8], at: usize) -> usize
     requires { ⌜ (n ≤ length (now from)) × (at + n ≤ length (now to)) ⌝ }
-    ensures { λ _. ⌜ now (to .exit) ≡ stored (now (to .entry)) at (take n (now (from .entry))) ⌝ }
+    ensures { λ r. ⌜ Puts (now (to .entry)) at (take n (now (from .entry))) (now (to .exit)) r ⌝ }
 {
     let mut i = 0;
     while i < n {
         to[at + i] = from[i];
         i += 1;
     }
+    at + n
 }
 
 // The n bytes of a from i on are those of b from j on.

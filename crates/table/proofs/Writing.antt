@@ -1,4 +1,4 @@
--- The stores of a record and of a table. Assumes nothing.
+-- Records stored one after the other, and the stores of a table. Assumes nothing.
 use mathlib.Core.Path.{_≡_, refl, sym, ap, ap₂, _∙_}
 use mathlib.Core.List.{List, [], _∷_, _++_, append-assoc}
 use Prim.Native.Nat.{ℕ, _+_, _*_, _<_, _≤_}
@@ -13,26 +13,9 @@ use Rattle.pattern.specs.Table.{pool, Rec, records, flat, header, encode}
 use Rattle.pattern.specs.Answers.{put}
 use Rattle.pattern.proofs.Records.{flat-append, length-flat, count-records}
 use Rattle.pattern.proofs.Calls.{put-fits, put-short}
-use Rattle.pattern.proofs.Stores.{stored-two, stored-then, stored-before, stored-over, take-over, puts-then, puts-more}
+use Rattle.pattern.proofs.Stores.{stored-then, stored-before, stored-over, take-over, puts-then, puts-more}
 use Rattle.table.specs.Write.{put-records, WriteTablePre, table-of, output-of}
 use Rattle.table.specs.declared.write.Written.the-variants.{Length, Room}
-
--- the ten stores of a record
-pub record-puts : (l l₁ l₂ l₃ l₄ : Bytes) (at : ℕ) (r : Rec)
-    → l₁ ≡ stored (set (set l at (r .kind)) (at + 1) (r .ends)) (at + 2) (word (r .low) []) → l₂ ≡ stored l₁ (at + 4) (word (r .high) [])
-    → l₃ ≡ stored l₂ (at + 6) (word (r .a) []) → l₄ ≡ stored l₃ (at + 8) (word (r .b) []) → l₄ ≡ stored l at (flat (r ∷ []) [])
-unfolding flat
-record-puts l l₁ l₂ l₃ l₄ at r e₁ e₂ e₃ e₄ =
-    let h : Bytes = r .kind ∷ r .ends ∷ [] in
-    let x : Bytes = word (r .low) [] in
-    let y : Bytes = word (r .high) [] in
-    let z : Bytes = word (r .a) [] in
-    let t₁ : l₁ ≡ stored l at (h ++ x) = e₁ ∙ ap (λ (m : Bytes). stored m (at + 2) x) (sym (stored-two l at (r .kind) (r .ends))) ∙ stored-then l at (at + 2) h x refl in
-    let t₂ : l₂ ≡ stored l at (h ++ x ++ y) = e₂ ∙ ap (λ (m : Bytes). stored m (at + 4) y) t₁ ∙ stored-then l at (at + 4) (h ++ x) y refl in
-    let t₃ : l₃ ≡ stored l at (h ++ x ++ y ++ z) = e₃ ∙ ap (λ (m : Bytes). stored m (at + 6) z) t₂ ∙ stored-then l at (at + 6) (h ++ x ++ y) z refl in
-    e₄ ∙ ap (λ (m : Bytes). stored m (at + 8) (word (r .b) [])) t₃ ∙ stored-then l at (at + 8) (h ++ x ++ y ++ z) (word (r .b) []) refl
-
--- ---- records
 
 -- records before other bytes
 pub flat-over : (xs : List Rec) (s : Bytes) → flat xs s ≡ flat xs [] ++ s

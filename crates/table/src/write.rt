@@ -3,6 +3,7 @@ use crate::layout;
 use pattern::limits;
 use pattern::repeat::Repeat;
 use stores::copy;
+use stores::put_byte;
 use stores::put16;
 ghost use mathlib.Core.Path.{_≡_};
 ghost use mathlib.Core.List.{[], _∷_};
@@ -28,13 +29,12 @@ pub fn put_record(recs: &mut [u8], i: usize, kind: u8, last: u8, rep: Repeat, a:
     requires { ⌜ record-size * i + record-size ≤ length (now recs) ⌝ }
     ensures { λ _. ⌜ now (recs .exit) ≡ put-records (now (recs .entry)) i (rec-of kind last rep a b ∷ []) ⌝ }
 {
-    let at = layout::RECORD_SIZE * i;
-    recs[at] = kind;
-    recs[at + 1] = last;
-    put16(recs, at + 2, rep.low);
-    put16(recs, at + 4, rep.high);
-    put16(recs, at + 6, a);
-    put16(recs, at + 8, b);
+    let ends = put_byte(recs, layout::RECORD_SIZE * i, kind);
+    let low = put_byte(recs, ends, last);
+    let high = put16(recs, low, rep.low);
+    let first = put16(recs, high, rep.high);
+    let second = put16(recs, first, a);
+    put16(recs, second, b);
 }
 
 // The table of the first atoms of these records and the first text bytes of this pool; too little room writes nothing.

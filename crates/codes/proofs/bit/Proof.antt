@@ -21,9 +21,6 @@ loop-holds : tie.Need-loop-holds Inv-loop μ-loop
 unfolding bit
 loop-holds c = (omega arith, refl, refl)
 
-letter-requires : tie.Need-letter-requires Inv-loop μ-loop
-letter-requires c κs = search needs
-
 returns : tie.Need-returns Inv-loop μ-loop
 returns c =
     let l = c .before .before .before .loop in
@@ -37,17 +34,11 @@ returns-2 c =
     let l = c .before .before .before .before .loop in
     sym (bit-small (l .k) (c .before .before .before .loop-test .taken) (l .b) _ (ap (λ x. x + 32) (sym (c .before .before .letter .ensures)) ∙ c .if2 .taken)) ∙ l .inv .2
 
-add-k : tie.Need-add-k Inv-loop μ-loop
-add-k c = omega arith
-
 mul-b : tie.Need-mul-b Inv-loop μ-loop
 mul-b c =
     let after-loop-test = c .before .before .before in
     let turn = after-loop-test .before in
     omega (arith, turn .loop .inv .1, power-small (turn .loop .k) (after-loop-test .loop-test .taken))
-
-loop-less : tie.Need-loop-less Inv-loop μ-loop
-loop-less c = omega arith
 
 loop-again : tie.Need-loop-again Inv-loop μ-loop
 loop-again c =
@@ -68,12 +59,12 @@ bit-spec =
     Inv-loop
     μ-loop
     loop-holds
-    letter-requires
+    (λ c κs. search needs)
     returns
     add-if2
     returns-2
-    add-k
+    (λ c. omega arith)
     mul-b
-    loop-less
+    (λ c. omega arith)
     loop-again
     returns-3)

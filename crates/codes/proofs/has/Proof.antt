@@ -4,9 +4,6 @@ use borrow.Author.Needs.{needs}
 use Rattle.codes.proofs.has.Statement.{statement}
 use Rattle.codes.proofs.has.Tie as tie
 
-in-code-requires : tie.Need-in-code-requires
-in-code-requires c κs = search needs
-
 returns : tie.Need-returns
 returns c = rw (eq-eqb _ _ (c .before .if1 .taken)) (c .in-code .ensures)
 
@@ -14,4 +11,4 @@ returns-2 : tie.Need-returns-2
 returns-2 c = rw (ne-eqb _ _ (c .if1 .left))
 
 pub has-spec : {M : Type 1} → statement M
-has-spec = tie.close (tie.spec in-code-requires returns returns-2)
+has-spec = tie.close (tie.spec (λ c κs. search needs) returns returns-2)

@@ -11,12 +11,6 @@ use Rattle.codes.proofs.CodeRows.{every, rule-at, rows}
 use Rattle.codes.proofs.letter.Statement.{statement}
 use Rattle.codes.proofs.letter.Tie as tie
 
-mul-result : tie.Need-mul-result
-mul-result c = search needs
-
-element-copy-out-result : tie.Need-element-copy-out-result
-element-copy-out-result c = search needs
-
 returns : tie.Need-returns
 unfolding letter-at all-codes every rows
 returns c = eqb→eq _ _ (rule-at (λ k (x : Row). eqb (x .letter) (letter-at k)) rows _ tt (c .before .args .k) (c .if1 .taken))
@@ -26,4 +20,4 @@ unfolding letter-at
 returns-2 c = sym (List·getD-eq-default (map (λ (x : Code). x .letter) all-codes) 0 (unfold all-codes in c .if1 .left))
 
 pub letter-spec : {M : Type 1} → statement M
-letter-spec = tie.close (tie.spec mul-result element-copy-out-result returns returns-2)
+letter-spec = tie.close (tie.spec (search needs) (search needs) returns returns-2)

@@ -9,38 +9,11 @@ use Rattle.compiler.proofs.compile.Tie as tie
 returns : tie.Need-returns
 returns c = compile-long _ _ (c .if1 .taken)
 
-slice-aggregate-read-pattern : tie.Need-slice-aggregate-read-pattern
-slice-aggregate-read-pattern c = search needs
-
-slice-aggregate-read-pattern-2 : tie.Need-slice-aggregate-read-pattern-2
-slice-aggregate-read-pattern-2 c = search needs
-
-read-pattern-requires : tie.Need-read-pattern-requires
-read-pattern-requires c κs = search needs
-
-enum-known-end : tie.Need-enum-known-end
-enum-known-end c = search needs
-
-slice-aggregate-write-table : tie.Need-slice-aggregate-write-table
-slice-aggregate-write-table c = search needs
-
-slice-aggregate-write-table-2 : tie.Need-slice-aggregate-write-table-2
-slice-aggregate-write-table-2 c = search needs
-
 write-table-requires : tie.Need-write-table-requires
 write-table-requires c κs =
     let after-end = c .before .before .before .before .before .before in
     let after-read-pattern = after-end .before .before .before .before in
     let m = (pattern-is _ _ _ _ _ _ _ _ _ (after-end .end .given .1) (after-read-pattern .read-pattern .ensures)) .moved in search (needs, m)
-
-enum-known-n : tie.Need-enum-known-n
-enum-known-n c = search needs
-
-enum-told : tie.Need-enum-told
-enum-told c = search needs
-
-enum-known-no : tie.Need-enum-known-no
-enum-known-no c = search needs
 
 returns-2 : tie.Need-returns-2
 returns-2 c =
@@ -48,9 +21,6 @@ returns-2 c =
     let after-read-pattern = after-end .before .before .before .before in
     let after-if1 = after-read-pattern .before .before .before in
     compile-form _ _ (omega (arith, after-if1 .if1 .left)) _ _ _ _ _ (pattern-is _ _ _ _ _ _ _ _ _ (after-end .end .given .1) (after-read-pattern .read-pattern .ensures)) (c .if2 .taken)
-
-same-length : tie.Need-same-length
-same-length c = search needs
 
 returns-3 : tie.Need-returns-3
 returns-3 c =
@@ -61,9 +31,6 @@ returns-3 c =
     let after-read-pattern = after-end .before .before .before .before in
     let after-if1 = after-read-pattern .before .before .before in
     compile-table _ _ (omega (arith, after-if1 .if1 .left)) _ _ _ _ _ (pattern-is _ _ _ _ _ _ _ _ _ (after-end .end .given .1) (after-read-pattern .read-pattern .ensures)) (omega arith) (omega arith) (omega (arith, after-if2 .if2 .left)) (after-write-table .write-table .ensures) _ (after-n .n .given .1)
-
-same-length-2 : tie.Need-same-length-2
-same-length-2 c = search needs
 
 returns-4 : tie.Need-returns-4
 returns-4 c =
@@ -82,19 +49,19 @@ compile-spec =
     tie.close
     (tie.spec
     returns
-    slice-aggregate-read-pattern
-    slice-aggregate-read-pattern-2
-    read-pattern-requires
-    enum-known-end
-    slice-aggregate-write-table
-    slice-aggregate-write-table-2
+    (search needs)
+    (search needs)
+    (λ c κs. search needs)
+    (search needs)
+    (search needs)
+    (search needs)
     write-table-requires
-    enum-known-n
-    enum-told
-    enum-known-no
+    (search needs)
+    (search needs)
+    (search needs)
     returns-2
-    same-length
+    (search needs)
     returns-3
-    same-length-2
+    (search needs)
     returns-4
     returns-5)

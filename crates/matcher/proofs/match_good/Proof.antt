@@ -14,14 +14,8 @@ mul-if2 c = omega (arith, few-atoms _ _ (c .before .before .before .before .befo
 add-if2 : tie.Need-add-if2
 add-if2 c = omega (arith, few-atoms _ _ (c .before .before .before .before .before .pre))
 
-add-if2-2 : tie.Need-add-if2-2
-add-if2-2 c = omega arith
-
 mul-if2-2 : tie.Need-mul-if2-2
 mul-if2-2 c = omega (arith, rows-few _ _ (c .before .before .before .before .before .pre) _ (c .if1 .left))
-
-add-if2-3 : tie.Need-add-if2-3
-add-if2-3 c = omega arith
 
 mul-if2-3 : tie.Need-mul-if2-3
 mul-if2-3 c = omega (arith, bytes-few _ _ (c .before .before .before .before .before .pre) _ (c .if1 .left))
@@ -50,4 +44,4 @@ returns-4 c = c .before .before .before .before .run .ensures ∙ no-fault _ _ (
 pub match-good-spec : {M : Type 1} → statement M
 match-good-spec =
     tie.close
-    (tie.spec returns mul-if2 add-if2 add-if2-2 mul-if2-2 add-if2-3 mul-if2-3 returns-2 mul-if3 returns-3 run-requires same-length same-length-2 returns-4)
+    (tie.spec returns mul-if2 add-if2 (λ c. omega arith) mul-if2-2 (λ c. omega arith) mul-if2-3 returns-2 mul-if3 returns-3 run-requires same-length same-length-2 returns-4)

@@ -5,15 +5,6 @@ use Rattle.matcher.proofs.Refusals.{bad-table}
 use Rattle.matcher.proofs.match_label.Statement.{statement}
 use Rattle.matcher.proofs.match_label.Tie as tie
 
-test-requires : tie.Need-test-requires
-test-requires c κs = tt
-
-enum-told : tie.Need-enum-told
-enum-told c = search needs
-
-enum-known-sizes : tie.Need-enum-known-sizes
-enum-known-sizes c = search needs
-
 match-good-requires : tie.Need-match-good-requires
 match-good-requires c κs = sym (c .before .before .before .sizes .given .1) ∙ c .before .before .before .before .before .test .ensures
 
@@ -30,4 +21,4 @@ returns-2 : tie.Need-returns-2
 returns-2 c = c .before .before .before .before .match-good .ensures
 
 pub match-label-spec : {M : Type 1} → statement M
-match-label-spec = tie.close (tie.spec test-requires enum-told enum-known-sizes match-good-requires returns same-length same-length-2 returns-2)
+match-label-spec = tie.close (tie.spec (λ c κs. tt) (search needs) (search needs) match-good-requires returns same-length same-length-2 returns-2)

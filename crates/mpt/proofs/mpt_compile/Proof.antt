@@ -13,27 +13,6 @@ returns : tie.Need-returns
 unfolding compile-call
 returns c = short-area _ _ _ (c .if1 .taken)
 
-compile-requires : tie.Need-compile-requires
-compile-requires c κs = search needs
-
-enum-known-length : tie.Need-enum-known-length
-enum-known-length c = search needs
-
-put-answer-requires : tie.Need-put-answer-requires
-put-answer-requires c κs = search needs
-
-enum-known-number : tie.Need-enum-known-number
-enum-known-number c = search needs
-
-put-answer-requires-2 : tie.Need-put-answer-requires-2
-put-answer-requires-2 c κs = search needs
-
-same-length : tie.Need-same-length
-same-length c = search needs
-
-same-length-2 : tie.Need-same-length-2
-same-length-2 c = search needs
-
 returns-2 : tie.Need-returns-2
 unfolding compile-call
 returns-2 c =
@@ -41,12 +20,6 @@ returns-2 c =
     let after-compile = after-length .before .before .before .before in
     let after-if1 = after-compile .before .before in
     long-area _ _ (result (after-length .length .given .0 .0) 0) (after-if1 .if1 .left) (after-compile .compile .ensures) (ap answer-of (after-length .length .given .1)) (c .before .before .put-answer .ensures)
-
-same-length-3 : tie.Need-same-length-3
-same-length-3 c = search needs
-
-same-length-4 : tie.Need-same-length-4
-same-length-4 c = search needs
 
 returns-3 : tie.Need-returns-3
 unfolding compile-call area
@@ -62,14 +35,14 @@ mpt-compile-spec =
     tie.close
     (tie.spec
     returns
-    compile-requires
-    enum-known-length
-    put-answer-requires
-    enum-known-number
-    put-answer-requires-2
-    same-length
-    same-length-2
+    (λ c κs. search needs)
+    (search needs)
+    (λ c κs. search needs)
+    (search needs)
+    (λ c κs. search needs)
+    (search needs)
+    (search needs)
     returns-2
-    same-length-3
-    same-length-4
+    (search needs)
+    (search needs)
     returns-3)

@@ -11,24 +11,6 @@ returns : tie.Need-returns
 unfolding match-call
 returns c = short-match _ _ _ _ (c .if1 .taken)
 
-match-label-requires : tie.Need-match-label-requires
-match-label-requires c κs = search needs
-
-numbers-requires : tie.Need-numbers-requires
-numbers-requires c κs = search needs
-
-put-answer-requires : tie.Need-put-answer-requires
-put-answer-requires c κs = search needs
-
-same-length : tie.Need-same-length
-same-length c = search needs
-
-same-length-2 : tie.Need-same-length-2
-same-length-2 c = search needs
-
-same-length-3 : tie.Need-same-length-3
-same-length-3 c = search needs
-
 returns-2 : tie.Need-returns-2
 unfolding match-call area
 returns-2 c =
@@ -44,10 +26,10 @@ mpt-match-spec =
     tie.close
     (tie.spec
     returns
-    match-label-requires
-    numbers-requires
-    put-answer-requires
-    same-length
-    same-length-2
-    same-length-3
+    (λ c κs. search needs)
+    (λ c κs. search needs)
+    (λ c κs. search needs)
+    (search needs)
+    (search needs)
+    (search needs)
     returns-2)

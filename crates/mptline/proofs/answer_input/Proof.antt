@@ -9,9 +9,6 @@ use borrow.Author.Needs.{needs}
 use Rattle.mptline.proofs.answer_input.Statement.{statement}
 use Rattle.mptline.proofs.answer_input.Tie as tie
 
-start-requires : tie.Need-start-requires
-start-requires c κs = search needs
-
 run-requires : tie.Need-run-requires
 unfolding started
 run-requires c κs =
@@ -19,18 +16,6 @@ run-requires c κs =
     let y = after .before .before .before .before .before .before .pre in
     let s = after .start .ensures in
     rw (started-by _ _ _ s) (start-sound y (sized-as (y .sized) refl refl refl (omega (arith, ap length (s .bytes)))))
-
-same-length : tie.Need-same-length
-same-length c = search needs
-
-same-length-2 : tie.Need-same-length-2
-same-length-2 c = search needs
-
-same-length-3 : tie.Need-same-length-3
-same-length-3 c = search needs
-
-same-length-4 : tie.Need-same-length-4
-same-length-4 c = search needs
 
 returns : tie.Need-returns
 returns c =
@@ -41,10 +26,10 @@ pub answer-input-spec : {M : Type 1} → statement M
 answer-input-spec =
     tie.close
     (tie.spec
-    start-requires
+    (λ c κs. search needs)
     run-requires
-    same-length
-    same-length-2
-    same-length-3
-    same-length-4
+    (search needs)
+    (search needs)
+    (search needs)
+    (search needs)
     returns)

@@ -8,18 +8,6 @@ use borrow.Author.Needs.{needs}
 use Rattle.mptline.proofs.main.Statement.{statement}
 use Rattle.mptline.proofs.main.Tie as tie
 
-slice-aggregate-answer-input : tie.Need-slice-aggregate-answer-input
-slice-aggregate-answer-input c = search needs
-
-slice-aggregate-answer-input-2 : tie.Need-slice-aggregate-answer-input-2
-slice-aggregate-answer-input-2 c = search needs
-
-slice-aggregate-answer-input-3 : tie.Need-slice-aggregate-answer-input-3
-slice-aggregate-answer-input-3 c = search needs
-
-slice-aggregate-answer-input-4 : tie.Need-slice-aggregate-answer-input-4
-slice-aggregate-answer-input-4 c = search needs
-
 answer-input-requires : tie.Need-answer-input-requires
 unfolding NextIn
 answer-input-requires c κs =
@@ -29,16 +17,13 @@ answer-input-requires c κs =
       sized = record { input-some = omega arith; line-size = search needs; scratch-full = search needs; out-size = omega arith };
     }
 
-returns : tie.Need-returns
-returns c = search needs
-
 pub main-spec : {M : Type 1} → statement M
 main-spec =
     tie.close
     (tie.spec
-    slice-aggregate-answer-input
-    slice-aggregate-answer-input-2
-    slice-aggregate-answer-input-3
-    slice-aggregate-answer-input-4
+    (search needs)
+    (search needs)
+    (search needs)
+    (search needs)
     answer-input-requires
-    returns)
+    (search needs))

@@ -20,20 +20,11 @@ abbrev μ-loop : tie.MeasureT-loop
 loop-holds : tie.Need-loop-holds Inv-loop μ-loop
 loop-holds c = (refl, refl, refl, refl, so-far-none (c .before .before .before .before .pre))
 
-enum-known-next : tie.Need-enum-known-next Inv-loop μ-loop
-enum-known-next c = search needs
-
 write-requires : tie.Need-write-requires Inv-loop μ-loop
 write-requires c κs = rw (← c .before .before .before .before .before .next .given .1) (c .before .before .before .before .before .before .before .before .loop .inv .4 .sound)
 
-enum-known-next-2 : tie.Need-enum-known-next-2 Inv-loop μ-loop
-enum-known-next-2 c = search needs
-
 read-requires : tie.Need-read-requires Inv-loop μ-loop
 read-requires c κs = rw (← c .before .before .before .before .before .next2 .given .1) (c .before .before .before .before .before .before .before .before .loop .inv .4 .sound)
-
-enum-told : tie.Need-enum-told Inv-loop μ-loop
-enum-told c = search needs
 
 same-length : tie.Need-same-length Inv-loop μ-loop
 same-length c = c .before .before .before .loop .inv .0
@@ -49,12 +40,6 @@ same-length-4 c = c .before .before .before .loop .inv .3
 
 returns : tie.Need-returns Inv-loop μ-loop
 returns c = so-far-stop (c .before .before .before .loop .inv .4) (c .enum-told .given .1)
-
-sub-turns : tie.Need-sub-turns Inv-loop μ-loop
-sub-turns c = omega arith
-
-loop-less : tie.Need-loop-less Inv-loop μ-loop
-loop-less c = omega arith
 
 loop-again : tie.Need-loop-again Inv-loop μ-loop
 loop-again c =
@@ -92,18 +77,18 @@ run-spec =
     Inv-loop
     μ-loop
     loop-holds
-    enum-known-next
+    (search needs)
     write-requires
-    enum-known-next-2
+    (search needs)
     read-requires
-    enum-told
+    (search needs)
     same-length
     same-length-2
     same-length-3
     same-length-4
     returns
-    sub-turns
-    loop-less
+    (λ c. omega arith)
+    (λ c. omega arith)
     loop-again
     same-length-5
     same-length-6

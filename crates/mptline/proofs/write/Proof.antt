@@ -13,23 +13,8 @@ slice-reshare-prefix-write-all c = unfold NextIn in c .before .before .before .b
 slice-aggregate-write-all : tie.Need-slice-aggregate-write-all
 slice-aggregate-write-all c = unfold NextIn in sym (length-take-le _ _ (c .before .before .before .before .before .pre .ready .end-fits))
 
-write-all-requires : tie.Need-write-all-requires
-write-all-requires c κs = search needs
-
 after-write-requires : tie.Need-after-write-requires
 after-write-requires c κs = unfold NextIn in c .before .before .before .before .before .before .before .before .before .before .pre .ready
-
-same-length : tie.Need-same-length
-same-length c = search needs
-
-same-length-2 : tie.Need-same-length-2
-same-length-2 c = search needs
-
-same-length-3 : tie.Need-same-length-3
-same-length-3 c = search needs
-
-same-length-4 : tie.Need-same-length-4
-same-length-4 c = search needs
 
 returns : tie.Need-returns
 unfolding NextIn
@@ -44,10 +29,10 @@ write-spec =
     (tie.spec
     slice-reshare-prefix-write-all
     slice-aggregate-write-all
-    write-all-requires
+    (λ c κs. search needs)
     after-write-requires
-    same-length
-    same-length-2
-    same-length-3
-    same-length-4
+    (search needs)
+    (search needs)
+    (search needs)
+    (search needs)
     returns)

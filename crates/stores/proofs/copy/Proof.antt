@@ -3,6 +3,7 @@ use mathlib.Core.Path.{_≡_, sym, ap, _∙_}
 use Prim.Native.Nat.{_≤_, _-_, _+_}
 use native.Mathlib.Omega.{arith}
 use lib.ListN.{length, take, set, getD}
+use lib.Seq.{length-take-le}
 use Rattle.pattern.specs.Stores.{stored}
 use Rattle.pattern.proofs.Stores.{length-stored, stored-none, copied}
 use Rattle.stores.proofs.copy.Statement.{statement}
@@ -17,22 +18,10 @@ abbrev μ-loop : tie.MeasureT-loop
 loop-holds : tie.Need-loop-holds Inv-loop μ-loop
 loop-holds c = (omega arith, sym (stored-none _ _))
 
-shared-slice-read-to : tie.Need-shared-slice-read-to Inv-loop μ-loop
-shared-slice-read-to c = omega arith
-
-add-to : tie.Need-add-to Inv-loop μ-loop
-add-to c = omega arith
-
 slice-write-to : tie.Need-slice-write-to Inv-loop μ-loop
 slice-write-to c =
     let start = c .before .before .before in
     omega (arith, ap length (c .before .before .loop .inv .1), length-stored (start .args .to .now) (start .args .at) (take (c .before .before .loop .i) (start .args .from .now)))
-
-add-i : tie.Need-add-i Inv-loop μ-loop
-add-i c = omega arith
-
-loop-less : tie.Need-loop-less Inv-loop μ-loop
-loop-less c = omega arith
 
 loop-again : tie.Need-loop-again Inv-loop μ-loop
 loop-again c =
@@ -43,7 +32,10 @@ same-length : tie.Need-same-length Inv-loop μ-loop
 same-length c = ap length (c .before .loop .inv .1) ∙ length-stored _ _ _
 
 returns : tie.Need-returns Inv-loop μ-loop
-returns c = let e : c .before .loop .i ≡ c .before .before .args .n = omega arith in rw e at (c .before .loop .inv .1)
+returns c =
+    let a = c .before .before .args in
+    let e : c .before .loop .i ≡ a .n = omega arith in
+    record { bytes = rw e at (c .before .loop .inv .1); next = ap (λ k. a .at + k) (sym (length-take-le (a .n) (a .from .now) (c .before .before .pre .0))) }
 
 pub copy-spec : {M : Type 1} → statement M
 copy-spec =
@@ -52,11 +44,12 @@ copy-spec =
     Inv-loop
     μ-loop
     loop-holds
-    shared-slice-read-to
-    add-to
+    (λ c. omega arith)
+    (λ c. omega arith)
     slice-write-to
-    add-i
-    loop-less
+    (λ c. omega arith)
+    (λ c. omega arith)
     loop-again
+    (λ c. omega arith)
     same-length
     returns)

@@ -19,20 +19,11 @@ abbrev μ-loop : tie.MeasureT-loop
 loop-holds : tie.Need-loop-holds Inv-loop μ-loop
 loop-holds c = (omega arith, refl, let e : c .args .at + 0 ≡ c .args .at = omega arith in rw e)
 
-cast-to : tie.Need-cast-to Inv-loop μ-loop
-cast-to c = omega arith
-
 add-to : tie.Need-add-to Inv-loop μ-loop
 add-to c = omega (arith, c .before .loop .inv .1, c .before .before .pre)
 
 slice-write-to : tie.Need-slice-write-to Inv-loop μ-loop
 slice-write-to c = omega (arith, c .before .loop .inv .1, c .before .before .pre)
-
-add-j : tie.Need-add-j Inv-loop μ-loop
-add-j c = omega arith
-
-loop-less : tie.Need-loop-less Inv-loop μ-loop
-loop-less c = omega arith
 
 loop-again : tie.Need-loop-again Inv-loop μ-loop
 loop-again c =
@@ -40,12 +31,16 @@ loop-again c =
     let at = c .before .before .args .at in
     (omega arith, length-set (l .to) _ _ ∙ l .inv .1, sym (store-next (l .to) at (l .j) (l .left) (c .loop-test .taken)) ∙ l .inv .2)
 
+add-result : tie.Need-add-result Inv-loop μ-loop
+add-result c = omega (arith, c .before .before .pre)
+
 same-length : tie.Need-same-length Inv-loop μ-loop
 same-length c = c .before .loop .inv .1
 
 returns : tie.Need-returns Inv-loop μ-loop
-returns c = sym (store-end (c .before .loop .to) _ _ (c .before .loop .left) (c .loop-test .left)) ∙ c .before .loop .inv .2
+unfolding little
+returns c = record { bytes = sym (store-end (c .before .loop .to) _ _ (c .before .loop .left) (c .loop-test .left)) ∙ c .before .loop .inv .2; next = refl }
 
 pub put64-spec : {M : Type 1} → statement M
 put64-spec =
-    tie.close (tie.spec Inv-loop μ-loop loop-holds cast-to add-to slice-write-to add-j loop-less loop-again same-length returns)
+    tie.close (tie.spec Inv-loop μ-loop loop-holds (λ c. omega arith) add-to slice-write-to (λ c. omega arith) (λ c. omega arith) loop-again add-result same-length returns)

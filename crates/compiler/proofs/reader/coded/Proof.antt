@@ -4,30 +4,6 @@ use borrow.Author.Needs.{needs}
 use Rattle.compiler.proofs.reader.coded.Statement.{statement}
 use Rattle.compiler.proofs.reader.coded.Tie as tie
 
-codes-from-requires : tie.Need-codes-from-requires
-codes-from-requires c κs = search needs
-
-enum-known-set : tie.Need-enum-known-set
-enum-known-set c = search needs
-
-last-requires : tie.Need-last-requires
-last-requires c κs = search needs
-
-cast-put-record : tie.Need-cast-put-record
-cast-put-record c = search needs
-
-put-record-requires : tie.Need-put-record-requires
-put-record-requires c κs = search needs
-
-add-t18 : tie.Need-add-t18
-add-t18 c = search needs
-
-enum-known-pos : tie.Need-enum-known-pos
-enum-known-pos c = search needs
-
-same-length : tie.Need-same-length
-same-length c = search needs
-
 returns : tie.Need-returns
 returns c =
     let after-last = c .before .before .before in
@@ -43,13 +19,13 @@ pub coded-spec : {M : Type 1} → statement M
 coded-spec =
     tie.close
     (tie.spec
-    codes-from-requires
-    enum-known-set
-    last-requires
-    cast-put-record
-    put-record-requires
-    add-t18
-    enum-known-pos
-    same-length
+    (λ c κs. search needs)
+    (search needs)
+    (λ c κs. search needs)
+    (search needs)
+    (λ c κs. search needs)
+    (search needs)
+    (search needs)
+    (search needs)
     returns
     returns-2)

@@ -26,9 +26,6 @@ abbrev μ-loop : tie.MeasureT-loop
 loop-holds : tie.Need-loop-holds Inv-loop μ-loop
 loop-holds c = (refl, refl, refl, omega arith, omega arith, rw taken-nothing (done-none _ _ (omega arith) (omega arith)), λ e m. absurd (omega arith))
 
-sub-if1 : tie.Need-sub-if1 Inv-loop μ-loop
-sub-if1 c = omega arith
-
 take-line-requires : tie.Need-take-line-requires Inv-loop μ-loop
 take-line-requires c κs = (omega arith, omega arith, omega arith)
 
@@ -39,9 +36,6 @@ slice-aggregate-answer-line : tie.Need-slice-aggregate-answer-line Inv-loop μ-l
 slice-aggregate-answer-line c =
     let t = c .before .before .before .before .take-line .ensures in
     sym (length-take-le _ _ (omega (arith, t .held-fits, t .size)))
-
-answer-line-requires : tie.Need-answer-line-requires Inv-loop μ-loop
-answer-line-requires c κs = omega arith
 
 clear-requires : tie.Need-clear-requires Inv-loop μ-loop
 clear-requires c κs =
@@ -118,11 +112,11 @@ answer-chunk-spec =
     Inv-loop
     μ-loop
     loop-holds
-    sub-if1
+    (λ c. omega arith)
     take-line-requires
     slice-reshare-prefix-answer-line
     slice-aggregate-answer-line
-    answer-line-requires
+    (λ c κs. omega arith)
     clear-requires
     loop-less
     loop-again

@@ -8,15 +8,6 @@ use Rattle.lines.proofs.chunk.answer_last.Tie as tie
 returns : tie.Need-returns
 returns c = replied-as (replied-none 0 _ _ 0) (last-none _ _ (c .if1 .taken)) (omega arith)
 
-answer-line-requires : tie.Need-answer-line-requires
-answer-line-requires c κs = search needs
-
-same-length : tie.Need-same-length
-same-length c = search needs
-
-same-length-2 : tie.Need-same-length-2
-same-length-2 c = search needs
-
 returns-2 : tie.Need-returns-2
 returns-2 c =
     let r = c .before .before .before .before .answer-line .ensures in
@@ -24,4 +15,4 @@ returns-2 c =
 
 pub answer-last-spec : {M : Type 1} → statement M
 answer-last-spec =
-    tie.close (tie.spec returns answer-line-requires same-length same-length-2 returns-2)
+    tie.close (tie.spec returns (λ c κs. search needs) (search needs) (search needs) returns-2)

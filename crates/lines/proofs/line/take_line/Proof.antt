@@ -22,12 +22,6 @@ abbrev μ-loop : tie.MeasureT-loop
 loop-holds : tie.Need-loop-holds Inv-loop μ-loop
 loop-holds c = (omega arith, omega arith, omega arith, refl, taken-nothing _ (c .args .chunk .now) (c .args .from), refl, omega arith)
 
-shared-slice-read-b : tie.Need-shared-slice-read-b Inv-loop μ-loop
-shared-slice-read-b c = omega arith
-
-add-at : tie.Need-add-at Inv-loop μ-loop
-add-at c = omega arith
-
 same-length : tie.Need-same-length Inv-loop μ-loop
 same-length c = c .before .before .before .loop .inv .3
 
@@ -46,15 +40,6 @@ returns c =
       stops = λ e. absurd (omega (arith, ap (λ b. cond b (suc 0) 0) e));
     }
 
-slice-write-line : tie.Need-slice-write-line Inv-loop μ-loop
-slice-write-line c = omega arith
-
-add-n : tie.Need-add-n Inv-loop μ-loop
-add-n c = omega arith
-
-loop-less : tie.Need-loop-less Inv-loop μ-loop
-loop-less c = omega arith
-
 loop-again : tie.Need-loop-again Inv-loop μ-loop
 loop-again c =
     let k = c .before .before .before .before in (
@@ -66,9 +51,6 @@ loop-again c =
       drop-set-lt (k .loop .n + 1) _ (k .loop .n) _ (omega arith) ∙ same-after _ _ (k .loop .n) (k .loop .n + 1) (omega arith) (k .loop .inv .5),
       omega arith,
     )
-
-loop-less-2 : tie.Need-loop-less-2 Inv-loop μ-loop
-loop-less-2 c = omega arith
 
 loop-again-2 : tie.Need-loop-again-2 Inv-loop μ-loop
 loop-again-2 c =
@@ -107,15 +89,15 @@ take-line-spec =
     Inv-loop
     μ-loop
     loop-holds
-    shared-slice-read-b
-    add-at
+    (λ c. omega arith)
+    (λ c. omega arith)
     same-length
     returns
-    slice-write-line
-    add-n
-    loop-less
+    (λ c. omega arith)
+    (λ c. omega arith)
+    (λ c. omega arith)
     loop-again
-    loop-less-2
+    (λ c. omega arith)
     loop-again-2
     same-length-2
     returns-2)

@@ -15,53 +15,14 @@ use Rattle.lines.proofs.session.after_read.Tie as tie
 read-back : (c : tie.Start) → reading-of (c .args .got) (length (c .args .buf .now)) ≡ reading-of (toZ w64 (ofZ w64 (c .args .got))) (length (c .args .buf .now))
 read-back c = ap (λ z. reading-of z (length (c .args .buf .now))) (sym (toZ-ofZ w64 (c .args .got) (c .fits .got)))
 
-reading-requires : tie.Need-reading-requires
-reading-requires c κs = search needs
-
-enum-told : tie.Need-enum-told
-enum-told c = search needs
-
-halt-requires : tie.Need-halt-requires
-halt-requires c κs = search needs
-
-enum-told-2 : tie.Need-enum-told-2
-enum-told-2 c = search needs
-
-slice-reshare-prefix-answer-last : tie.Need-slice-reshare-prefix-answer-last
-slice-reshare-prefix-answer-last c = search needs
-
 slice-aggregate-answer-last : tie.Need-slice-aggregate-answer-last
 slice-aggregate-answer-last c = sym (length-take-le _ _ (search needs))
-
-answer-last-requires : tie.Need-answer-last-requires
-answer-last-requires c κs = search needs
-
-clear-requires : tie.Need-clear-requires
-clear-requires c κs = search needs
-
-enum-known-n : tie.Need-enum-known-n
-enum-known-n c = search needs
 
 slice-reshare-prefix-answer-chunk : tie.Need-slice-reshare-prefix-answer-chunk
 slice-reshare-prefix-answer-chunk c = chunk-fits _ _ _ (sym (c .before .n .given .1) ∙ c .before .before .before .reading .ensures)
 
 slice-aggregate-answer-chunk : tie.Need-slice-aggregate-answer-chunk
 slice-aggregate-answer-chunk c = let some = c .before .before in sym (length-take-le _ _ (chunk-fits _ _ _ (sym (some .n .given .1) ∙ some .before .before .reading .ensures)))
-
-answer-chunk-requires : tie.Need-answer-chunk-requires
-answer-chunk-requires c κs = search needs
-
-same-length : tie.Need-same-length
-same-length c = search needs
-
-same-length-2 : tie.Need-same-length-2
-same-length-2 c = search needs
-
-same-length-3 : tie.Need-same-length-3
-same-length-3 c = search needs
-
-same-length-4 : tie.Need-same-length-4
-same-length-4 c = search needs
 
 returns : tie.Need-returns
 returns c =
@@ -70,15 +31,6 @@ returns c =
     let read = failed .before .before in
     read-as _ _ _ _ _ _ (read-back (read .before .before .before .before .before) ∙ sym (read .reading .ensures) ∙ failed .enum-told .given .1) (unfold AfterRead in after-halt .halt .ensures)
 
-same-length-5 : tie.Need-same-length-5
-same-length-5 c = search needs
-
-same-length-6 : tie.Need-same-length-6
-same-length-6 c = search needs
-
-same-length-7 : tie.Need-same-length-7
-same-length-7 c = search needs
-
 returns-2 : tie.Need-returns-2
 returns-2 c =
     let after-clear = c .before .before in
@@ -86,18 +38,6 @@ returns-2 c =
     let ended = answered .before .before .before .before in
     let read = ended .before .before in
     read-as _ _ _ _ _ _ (read-back (read .before .before .before .before .before) ∙ sym (read .reading .ensures) ∙ ended .enum-told2 .given .1) (unfold AfterRead in finished-by _ _ (answered .answer-last .ensures) (after-clear .clear .ensures))
-
-same-length-8 : tie.Need-same-length-8
-same-length-8 c = search needs
-
-same-length-9 : tie.Need-same-length-9
-same-length-9 c = search needs
-
-same-length-10 : tie.Need-same-length-10
-same-length-10 c = search needs
-
-same-length-11 : tie.Need-same-length-11
-same-length-11 c = search needs
 
 returns-3 : tie.Need-returns-3
 returns-3 c =
@@ -111,29 +51,29 @@ pub after-read-spec : {M : Type 1} → statement M
 after-read-spec =
     tie.close
     (tie.spec
-    reading-requires
-    enum-told
-    halt-requires
-    enum-told-2
-    slice-reshare-prefix-answer-last
+    (λ c κs. search needs)
+    (search needs)
+    (λ c κs. search needs)
+    (search needs)
+    (search needs)
     slice-aggregate-answer-last
-    answer-last-requires
-    clear-requires
-    enum-known-n
+    (λ c κs. search needs)
+    (λ c κs. search needs)
+    (search needs)
     slice-reshare-prefix-answer-chunk
     slice-aggregate-answer-chunk
-    answer-chunk-requires
-    same-length
-    same-length-2
-    same-length-3
-    same-length-4
+    (λ c κs. search needs)
+    (search needs)
+    (search needs)
+    (search needs)
+    (search needs)
     returns
-    same-length-5
-    same-length-6
-    same-length-7
+    (search needs)
+    (search needs)
+    (search needs)
     returns-2
-    same-length-8
-    same-length-9
-    same-length-10
-    same-length-11
+    (search needs)
+    (search needs)
+    (search needs)
+    (search needs)
     returns-3)

@@ -8,18 +8,9 @@ use borrow.Author.Needs.{needs}
 use Rattle.lines.proofs.session.start.Statement.{statement}
 use Rattle.lines.proofs.session.start.Tie as tie
 
-slice-aggregate-copy : tie.Need-slice-aggregate-copy
-slice-aggregate-copy c = search needs
-
-copy-requires : tie.Need-copy-requires
-copy-requires c κs = search needs
-
-same-length : tie.Need-same-length
-same-length c = search needs
-
 returns : tie.Need-returns
 unfolding first-line bytes
-returns c = record { next = refl; bytes = c .before .before .copy .ensures ∙ stored-over _ first-line (omega arith) }
+returns c = record { next = refl; bytes = c .before .before .copy .ensures .bytes ∙ stored-over _ first-line (omega arith) }
 
 pub start-spec : {M : Type 1} → statement M
-start-spec = tie.close (tie.spec slice-aggregate-copy copy-requires same-length returns)
+start-spec = tie.close (tie.spec (search needs) (λ c κs. search needs) (search needs) returns)

@@ -18,12 +18,6 @@ record-at-requires c κs =
     let start = c .before .before .before .before .before .before .before in
     record { good = start .pre .1 .work .good; there = start .pre .1 .there }
 
-lesser-requires : tie.Need-lesser-requires
-lesser-requires c κs = tt
-
-lesser-requires-2 : tie.Need-lesser-requires-2
-lesser-requires-2 c κs = tt
-
 make-requires : tie.Need-make-requires
 make-requires c κs =
     let after-begin = c .before .before .before .before .before .before .before .before in
@@ -119,4 +113,4 @@ returns-4 c =
 pub settle-own-spec : {M : Type 1} → statement M
 settle-own-spec =
     tie.close
-    (tie.spec mul-own begin-requires record-at-requires (search needs) (search needs) lesser-requires lesser-requires-2 make-requires same-length returns holds-requires blank-requires same-length-2 returns-2 same-length-3 returns-3 same-length-4 returns-4)
+    (tie.spec mul-own begin-requires record-at-requires (search needs) (search needs) (λ c κs. tt) (λ c κs. tt) make-requires same-length returns holds-requires blank-requires same-length-2 returns-2 same-length-3 returns-3 same-length-4 returns-4)

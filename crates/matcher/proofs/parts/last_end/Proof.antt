@@ -40,12 +40,6 @@ returns c =
     let a = start .args in
     omega (arith, l .inv .2, longest-hit (trial (on (now (a .scratch)) (a .w) (a .left)) (on (now (a .scratch)) (a .w) (a .right)) (a .i) (a .n)) (a .i) (l .m) (after-loop-test .loop-test .taken) hit)
 
-sub-m : tie.Need-sub-m Inv-loop μ-loop
-sub-m c = omega arith
-
-loop-less : tie.Need-loop-less Inv-loop μ-loop
-loop-less c = omega arith
-
 loop-again : tie.Need-loop-again Inv-loop μ-loop
 loop-again c =
     let after-loop-test = c .before .before .before in
@@ -64,4 +58,4 @@ returns-2 c =
     omega (arith, l .inv .2, longest-none (trial (on (now (a .scratch)) (a .w) (a .left)) (on (now (a .scratch)) (a .w) (a .right)) (a .i) (a .n)) (a .i) (l .m) (c .loop-test .left))
 
 pub last-end-spec : {M : Type 1} → statement M
-last-end-spec = tie.close (tie.spec Inv-loop μ-loop loop-holds byte-requires byte-requires-2 returns sub-m loop-less loop-again returns-2)
+last-end-spec = tie.close (tie.spec Inv-loop μ-loop loop-holds byte-requires byte-requires-2 returns (λ c. omega arith) (λ c. omega arith) loop-again returns-2)

@@ -41,7 +41,7 @@ returns c =
     let after-record-at = after-if1 .before .before in
     let turn = after-record-at .before in
     let start = turn .before .before .before .before .before in
-    parts-end _ _ _ _ _ (start .pre) _ _ _ _ (turn .loop .inv) _ (after-record-at .record-at .ensures) (after-if1 .if1 .taken) _ (c .before .before .put16 .ensures)
+    parts-end _ _ _ _ _ (start .pre) _ _ _ _ (turn .loop .inv) _ (after-record-at .record-at .ensures) (after-if1 .if1 .taken) _ _ (c .before .before .put16 .ensures)
 
 next-atom-requires : tie.Need-next-atom-requires Inv-loop μ-loop
 next-atom-requires c κs = record { good = c .before .before .before .before .before .before .before .before .pre .work .good; there = c .before .before .before .loop .inv .there }
@@ -94,12 +94,6 @@ put16-requires-2 c κs =
     let turn = c .before .before .before .before .before .before in
     parts-room _ _ _ _ _ (turn .before .before .before .before .before .pre) _ _ _ _ (turn .loop .inv)
 
-add-at : tie.Need-add-at Inv-loop μ-loop
-add-at c =
-    let turn = c .before .before .before .before .before .before .before .before .before in
-    let start = turn .before .before .before .before .before in
-    omega (arith, parts-room _ _ _ _ _ (start .pre) _ _ _ _ (turn .loop .inv), puts-length (turn .loop .inv .puts))
-
 loop-less : tie.Need-loop-less Inv-loop μ-loop
 loop-less c =
     let after-next-atom = c .before .before .before .before .before in
@@ -118,9 +112,9 @@ loop-again c =
     let after-record-at = after-if1 .before .before in
     let turn = after-record-at .before in
     let start = turn .before .before .before .before .before in
-    parts-step _ _ _ _ _ (start .pre) _ _ _ _ (turn .loop .inv) _ (after-record-at .record-at .ensures) (after-if1 .if1 .left) _ (after-next-atom .next-atom .ensures) _ (after-last-end .last-end .ensures) _ (c .before .before .put162 .ensures)
+    parts-step _ _ _ _ _ (start .pre) _ _ _ _ (turn .loop .inv) _ (after-record-at .record-at .ensures) (after-if1 .if1 .left) _ (after-next-atom .next-atom .ensures) _ (after-last-end .last-end .ensures) _ _ (c .before .before .put162 .ensures)
 
 pub write-parts-spec : {M : Type 1} → statement M
 write-parts-spec =
     tie.close
-    (tie.spec Inv-loop μ-loop loop-holds record-at-requires cast-put16 put16-requires same-length returns next-atom-requires mul-last-end mul-last-end-2 add-last-end last-end-requires cast-put16-2 put16-requires-2 add-at loop-less loop-again)
+    (tie.spec Inv-loop μ-loop loop-holds record-at-requires cast-put16 put16-requires same-length returns next-atom-requires mul-last-end mul-last-end-2 add-last-end last-end-requires cast-put16-2 put16-requires-2 loop-less loop-again)

@@ -53,12 +53,6 @@ add-scratch-3 c = omega (arith, written (c .before .before))
 slice-write-scratch : tie.Need-slice-write-scratch Inv-loop μ-loop
 slice-write-scratch c = omega (arith, written (c .before .before))
 
-add-k : tie.Need-add-k Inv-loop μ-loop
-add-k c = omega arith
-
-loop-less : tie.Need-loop-less Inv-loop μ-loop
-loop-less c = omega arith
-
 loop-again : tie.Need-loop-again Inv-loop μ-loop
 loop-again c =
     let turn = c .before .before .before in
@@ -78,4 +72,4 @@ returns c = add-end _ _ _ _ (c .before .before .before .before .before .pre) _ _
 
 pub add-spec : {M : Type 1} → statement M
 add-spec =
-    tie.close (tie.spec Inv-loop μ-loop place-requires place-requires-2 mul-len loop-holds add-scratch slice-read-scratch add-scratch-2 slice-read-scratch-2 add-scratch-3 slice-write-scratch add-k loop-less loop-again same-length returns)
+    tie.close (tie.spec Inv-loop μ-loop place-requires place-requires-2 mul-len loop-holds add-scratch slice-read-scratch add-scratch-2 slice-read-scratch-2 add-scratch-3 slice-write-scratch (λ c. omega arith) (λ c. omega arith) loop-again same-length returns)

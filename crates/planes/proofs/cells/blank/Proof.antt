@@ -34,12 +34,6 @@ add-scratch c = omega (arith, written c)
 slice-write-scratch : tie.Need-slice-write-scratch Inv-loop μ-loop
 slice-write-scratch c = omega (arith, written c)
 
-add-k : tie.Need-add-k Inv-loop μ-loop
-add-k c = omega arith
-
-loop-less : tie.Need-loop-less Inv-loop μ-loop
-loop-less c = omega arith
-
 loop-again : tie.Need-loop-again Inv-loop μ-loop
 loop-again c =
     let p = c .before .before .before .before .pre in
@@ -52,4 +46,4 @@ returns : tie.Need-returns Inv-loop μ-loop
 returns c = blank-end _ _ _ _ _ (c .before .loop .inv) (c .loop-test .left)
 
 pub blank-spec : {M : Type 1} → statement M
-blank-spec = tie.close (tie.spec Inv-loop μ-loop place-requires mul-len loop-holds add-scratch slice-write-scratch add-k loop-less loop-again same-length returns)
+blank-spec = tie.close (tie.spec Inv-loop μ-loop place-requires mul-len loop-holds add-scratch slice-write-scratch (λ c. omega arith) (λ c. omega arith) loop-again same-length returns)

@@ -9,9 +9,6 @@ use Rattle.planes.proofs.Planes.{at-in}
 use Rattle.planes.proofs.cells.byte.Statement.{statement}
 use Rattle.planes.proofs.cells.byte.Tie as tie
 
-place-requires : tie.Need-place-requires
-place-requires c κs = search needs
-
 shared-slice-read-result : tie.Need-shared-slice-read-result
 shared-slice-read-result c =
     let s = c .before .before .before in
@@ -21,4 +18,4 @@ returns : tie.Need-returns
 returns c = ap (λ (k : ℕ). getD (now (c .before .before .before .args .scratch)) k 0) (c .before .place .ensures)
 
 pub byte-spec : {M : Type 1} → statement M
-byte-spec = tie.close (tie.spec place-requires shared-slice-read-result returns)
+byte-spec = tie.close (tie.spec (λ c κs. search needs) shared-slice-read-result returns)

@@ -8,12 +8,9 @@ use Rattle.planes.specs.Cells.{on}
 use Rattle.planes.proofs.cells.holds.Statement.{statement}
 use Rattle.planes.proofs.cells.holds.Tie as tie
 
-byte-requires : tie.Need-byte-requires
-byte-requires c κs = search needs
-
 returns : tie.Need-returns
 unfolding on
 returns c = ap (λ (v : ℕ). not (eqb v 0)) (c .byte .ensures)
 
 pub holds-spec : {M : Type 1} → statement M
-holds-spec = tie.close (tie.spec byte-requires returns)
+holds-spec = tie.close (tie.spec (λ c κs. search needs) returns)

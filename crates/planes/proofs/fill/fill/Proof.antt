@@ -15,9 +15,6 @@ abbrev μ-loop : tie.MeasureT-loop
 blank-requires : tie.Need-blank-requires Inv-loop μ-loop
 blank-requires c κs = (omega (arith, c .before .before .before .before .pre .wide), c .before .before .before .before .pre .into)
 
-width-requires : tie.Need-width-requires Inv-loop μ-loop
-width-requires c κs = tt
-
 loop-holds : tie.Need-loop-holds Inv-loop μ-loop
 loop-holds c =
     let after-blank = c .before .before .before in
@@ -39,12 +36,6 @@ mark-requires c κs =
     let start = after-blank .before .before .before .before .before in
     (omega arith, (c .before .before .loop-test .taken, rw (turn .loop .inv .long ∙ after-blank .blank .kept .0) (start .pre .into)))
 
-add-j : tie.Need-add-j Inv-loop μ-loop
-add-j c = omega arith
-
-loop-less : tie.Need-loop-less Inv-loop μ-loop
-loop-less c = omega arith
-
 loop-again : tie.Need-loop-again Inv-loop μ-loop
 loop-again c =
     let after-value = c .before .before .before in
@@ -64,4 +55,4 @@ returns c =
     fill-end _ _ _ _ _ _ _ (start .pre) (after-blank .blank .kept .0) (after-blank .blank .ensures) _ _ (c .before .loop .inv) (c .loop-test .left)
 
 pub fill-spec : {M : Type 1} → statement M
-fill-spec = tie.close (tie.spec Inv-loop μ-loop blank-requires width-requires loop-holds sub-i value-requires mark-requires add-j loop-less loop-again same-length returns)
+fill-spec = tie.close (tie.spec Inv-loop μ-loop blank-requires (λ c κs. tt) loop-holds sub-i value-requires mark-requires (λ c. omega arith) (λ c. omega arith) loop-again same-length returns)

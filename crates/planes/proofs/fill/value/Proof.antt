@@ -7,20 +7,8 @@ use Rattle.planes.proofs.Filling.{value-empty, value-codes, value-liter
 use Rattle.planes.proofs.fill.value.Statement.{statement}
 use Rattle.planes.proofs.fill.value.Tie as tie
 
-enum-told : tie.Need-enum-told
-enum-told c = search needs
-
-enum-known-content : tie.Need-enum-known-content
-enum-known-content c = search needs
-
 shared-slice-read-in-set : tie.Need-shared-slice-read-in-set
 shared-slice-read-in-set c = let s = c .before .before .before .before .before .before in value-codes (now (s .args .table)) (now (s .args .label)) (s .args .i) (s .pre .0) _ (c .before .before .content .given .1) .0
-
-in-set-requires : tie.Need-in-set-requires
-in-set-requires c κs = search needs
-
-enum-known-content-2 : tie.Need-enum-known-content-2
-enum-known-content-2 c = search needs
 
 equal-requires : tie.Need-equal-requires
 equal-requires c κs = let s = c .before .before .before .before .before in value-literal (now (s .args .table)) (now (s .args .label)) (s .args .i) (s .pre .0) _ _ (c .before .content2 .given .1) (s .pre .1)
@@ -36,4 +24,4 @@ unfolding held-in
 returns-3 c = rw (c .before .before .content2 .given .1) (c .equal .ensures)
 
 pub value-spec : {M : Type 1} → statement M
-value-spec = tie.close (tie.spec enum-told enum-known-content shared-slice-read-in-set in-set-requires enum-known-content-2 equal-requires returns returns-2 returns-3)
+value-spec = tie.close (tie.spec (search needs) (search needs) shared-slice-read-in-set (λ c κs. search needs) (search needs) equal-requires returns returns-2 returns-3)

@@ -45,20 +45,11 @@ loop2-holds c = column-start (c .before .loop .inv) (c .loop-test .taken)
 loop3-holds : tie.Need-loop3-holds Inv-loop3 μ-loop3 Inv-loop2 μ-loop2 Inv-loop μ-loop
 loop3-holds c = search-start (c .loop2-test .taken) (c .before .loop2 .inv .counting .within)
 
-add-spent : tie.Need-add-spent Inv-loop3 μ-loop3 Inv-loop2 μ-loop2 Inv-loop μ-loop
-add-spent c = omega arith
-
 byte-requires : tie.Need-byte-requires Inv-loop3 μ-loop3 Inv-loop2 μ-loop2 Inv-loop μ-loop
 byte-requires c κs = (omega arith, (omega arith, column-ready (c .before .before .before .before .loop2 .inv) .from-left .room))
 
 byte-requires-2 : tie.Need-byte-requires-2 Inv-loop3 μ-loop3 Inv-loop2 μ-loop2 Inv-loop μ-loop
 byte-requires-2 c κs = (omega arith, (omega arith, column-ready (c .before .before .before .before .before .before .loop2 .inv) .from-right .room))
-
-sub-m : tie.Need-sub-m Inv-loop3 μ-loop3 Inv-loop2 μ-loop2 Inv-loop μ-loop
-sub-m c = omega arith
-
-loop3-less : tie.Need-loop3-less Inv-loop3 μ-loop3 Inv-loop2 μ-loop2 Inv-loop μ-loop
-loop3-less c = omega arith
 
 loop3-again : tie.Need-loop3-again Inv-loop3 μ-loop3 Inv-loop2 μ-loop2 Inv-loop μ-loop
 loop3-again c =
@@ -68,19 +59,10 @@ loop3-again c =
     let h : bitAnd (first .byte .result) (second .byte2 .result) ≡ 0 = c .before .if2 .left in
     trial-next (search .before .before .loop2 .inv) (search .loop3 .inv) (first .before .before .if1 .left) (rw (first .byte .ensures, second .byte2 .ensures) at h) (c .if3 .left)
 
-enum-told : tie.Need-enum-told Inv-loop3 μ-loop3 Inv-loop2 μ-loop2 Inv-loop μ-loop
-enum-told c = search needs
-
 mark-requires : tie.Need-mark-requires Inv-loop3 μ-loop3 Inv-loop2 μ-loop2 Inv-loop μ-loop
 mark-requires c κs =
     let turn = c .before .before .before .before .before .before in
     (omega arith, (omega arith, column-ready (turn .loop2 .inv) .into))
-
-enum-told-2 : tie.Need-enum-told-2 Inv-loop3 μ-loop3 Inv-loop2 μ-loop2 Inv-loop μ-loop
-enum-told-2 c = search needs
-
-enum-told-3 : tie.Need-enum-told-3 Inv-loop3 μ-loop3 Inv-loop2 μ-loop2 Inv-loop μ-loop
-enum-told-3 c = search needs
 
 -- what the search came to
 says : (c : tie.Joined1 Inv-loop3 μ-loop3 Inv-loop2 μ-loop2 Inv-loop μ-loop)
@@ -117,12 +99,6 @@ returns c =
     join-blank (emptied .before .before .before .pre .1) (emptied .blank .ensures)
     (plane-stop (outer .loop .inv) (column .loop-test .taken) (turn .loop2 .inv) (row .loop2-test .taken) (rw (c .enum-told3 .given .1) at got))
 
-add-i : tie.Need-add-i Inv-loop3 μ-loop3 Inv-loop2 μ-loop2 Inv-loop μ-loop
-add-i c = omega arith
-
-loop2-less : tie.Need-loop2-less Inv-loop3 μ-loop3 Inv-loop2 μ-loop2 Inv-loop μ-loop
-loop2-less c = omega arith
-
 loop2-again : tie.Need-loop2-again Inv-loop3 μ-loop3 Inv-loop2 μ-loop2 Inv-loop μ-loop
 loop2-again c =
     let row = c .before .before .before in
@@ -132,12 +108,6 @@ loop2-again c =
     (λ w. rw (w .6, w .3 .ensures) (column-found (turn .loop2 .inv) (row .loop2-test .taken) (rw (w .1 .given .1) at got)))
     (λ w. rw (w .2) (column-missing (turn .loop2 .inv) (row .loop2-test .taken) (rw (w .1 .given .1) at got)))
     (c .match .came)
-
-add-j : tie.Need-add-j Inv-loop3 μ-loop3 Inv-loop2 μ-loop2 Inv-loop μ-loop
-add-j c = omega arith
-
-loop-less : tie.Need-loop-less Inv-loop3 μ-loop3 Inv-loop2 μ-loop2 Inv-loop μ-loop
-loop-less c = omega arith
 
 loop-again : tie.Need-loop-again Inv-loop3 μ-loop3 Inv-loop2 μ-loop2 Inv-loop μ-loop
 loop-again c = plane-step (c .before .before .before .loop .inv) (c .before .before .loop-test .taken) (c .before .loop2 .inv) (c .loop2-test .left)
@@ -153,4 +123,4 @@ returns-2 c =
 pub join-spec : {M : Type 1} → statement M
 join-spec =
     tie.close
-    (tie.spec Inv-loop3 μ-loop3 Inv-loop2 μ-loop2 Inv-loop μ-loop blank-requires loop-holds loop2-holds loop3-holds add-spent byte-requires byte-requires-2 sub-m loop3-less loop3-again enum-told mark-requires enum-told-2 enum-told-3 same-length returns add-i loop2-less loop2-again add-j loop-less loop-again same-length-2 returns-2)
+    (tie.spec Inv-loop3 μ-loop3 Inv-loop2 μ-loop2 Inv-loop μ-loop blank-requires loop-holds loop2-holds loop3-holds (λ c. omega arith) byte-requires byte-requires-2 (λ c. omega arith) (λ c. omega arith) loop3-again (search needs) mark-requires (search needs) (search needs) same-length returns (λ c. omega arith) (λ c. omega arith) loop2-again (λ c. omega arith) (λ c. omega arith) loop-again same-length-2 returns-2)

@@ -4,12 +4,6 @@ use Rattle.planes.proofs.Bodies.{gather-taken, gather-left}
 use Rattle.planes.proofs.made.gather.Statement.{statement}
 use Rattle.planes.proofs.made.gather.Tie as tie
 
-add-requires : tie.Need-add-requires
-add-requires c κs = search needs
-
-same-length : tie.Need-same-length
-same-length c = search needs
-
 returns : tie.Need-returns
 returns c = gather-taken _ _ _ _ _ _ (c .before .before .before .before .if1 .taken) _ (c .before .before .add .ensures)
 
@@ -17,4 +11,4 @@ returns-2 : tie.Need-returns-2
 returns-2 c = gather-left _ _ _ _ (c .before .before .pre) _ _ (c .if1 .left)
 
 pub gather-spec : {M : Type 1} → statement M
-gather-spec = tie.close (tie.spec add-requires same-length returns returns-2)
+gather-spec = tie.close (tie.spec (λ c κs. search needs) (search needs) returns returns-2)

@@ -52,12 +52,6 @@ returns c =
     let g = make-gathered _ _ _ _ _ _ _ _ p _ _ _ _ _ (turn .loop .inv) _ (after-gather .gather .kept .0) (after-gather .gather .ensures) in
     make-stop _ _ _ _ _ _ _ _ p _ _ _ _ _ g (after-loop-test .loop-test .taken) _ _ (after-join .join .ensures) (c .if1 .taken)
 
-add-k : tie.Need-add-k Inv-loop μ-loop
-add-k c = omega arith
-
-loop-less : tie.Need-loop-less Inv-loop μ-loop
-loop-less c = omega arith
-
 loop-again : tie.Need-loop-again Inv-loop μ-loop
 loop-again c =
     let after-join = c .before .before .before in
@@ -88,4 +82,4 @@ returns-2 c =
 
 pub make-spec : {M : Type 1} → statement M
 make-spec =
-    tie.close (tie.spec Inv-loop μ-loop add-from add-to loop-holds gather-requires join-requires same-length returns add-k loop-less loop-again gather-requires-2 same-length-2 returns-2)
+    tie.close (tie.spec Inv-loop μ-loop add-from add-to loop-holds gather-requires join-requires same-length returns (λ c. omega arith) (λ c. omega arith) loop-again gather-requires-2 same-length-2 returns-2)

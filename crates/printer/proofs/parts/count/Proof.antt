@@ -15,9 +15,6 @@ put-decimal-requires c κs =
     let start = c .before .before .before in
     omega (arith, start .pre .1, ap length (exact-given (start .args .low) (start .args .high) (start .pre .0 .0) (c .before .if1 .taken)))
 
-same-length : tie.Need-same-length
-same-length c = search needs
-
 returns : tie.Need-returns
 returns c =
     let after-if1 = c .before .before .before .before in
@@ -36,9 +33,6 @@ put-byte-requires c κs =
     let p = c .before .before .before .low-number .ensures in
     omega (arith, p .next, puts-length p, start .pre .1, count-begins (start .args .low) (start .args .high) (after-if1 .if1 .left))
 
-same-length-2 : tie.Need-same-length-2
-same-length-2 c = search needs
-
 returns-2 : tie.Need-returns-2
 returns-2 c =
     let after-put-byte = c .before .before .before in
@@ -56,9 +50,6 @@ put-decimal-requires-2 c κs =
     let e = count-two (a .low) (a .high) (c .before .if2 .left) (after-if1 .if1 .left) in
     puts-room (puts-then (after-low-number .low-number .ensures) (after-put-byte .put-byte .ensures)) (decimal (a .high)) (omega (arith, start .pre .1, ap length e))
 
-same-length-3 : tie.Need-same-length-3
-same-length-3 c = search needs
-
 returns-3 : tie.Need-returns-3
 returns-3 c =
     let after-if2 = c .before .before .before .before in
@@ -73,12 +64,12 @@ count-spec =
     tie.close
     (tie.spec
     put-decimal-requires
-    same-length
+    (search needs)
     returns
     low-number-requires
     put-byte-requires
-    same-length-2
+    (search needs)
     returns-2
     put-decimal-requires-2
-    same-length-3
+    (search needs)
     returns-3)

@@ -20,9 +20,6 @@ abbrev μ-loop : tie.MeasureT-loop
 loop-holds : tie.Need-loop-holds Inv-loop μ-loop
 loop-holds c = (omega arith, partly-start _ _ _)
 
-shared-slice-read-b : tie.Need-shared-slice-read-b Inv-loop μ-loop
-shared-slice-read-b c = omega arith
-
 slice-write-out : tie.Need-slice-write-out Inv-loop μ-loop
 slice-write-out c =
     let turn = c .before .before .before in
@@ -55,12 +52,6 @@ add-m-2 c =
     ⊎-elim (λ w. quote-on (a .v .now) (l .i) (omega arith) (l .inv .1) (w .0 .taken) (w .1) (w .2)) (λ w. plain-on (a .v .now) (l .i) (omega arith) (l .inv .1) (w .0 .left) (w .1) (w .2)) (c .before .if1 .came) in
     omega (arith, partly-length h, byte-room (a .v .now) (start .pre) h)
 
-add-i : tie.Need-add-i Inv-loop μ-loop
-add-i c = omega arith
-
-loop-less : tie.Need-loop-less Inv-loop μ-loop
-loop-less c = omega arith
-
 loop-again : tie.Need-loop-again Inv-loop μ-loop
 loop-again c =
     let a = c .before .before .before .before .before .args in
@@ -82,13 +73,13 @@ doubled-spec =
     Inv-loop
     μ-loop
     loop-holds
-    shared-slice-read-b
+    (λ c. omega arith)
     slice-write-out
     add-m
     slice-write-out-2
     add-m-2
-    add-i
-    loop-less
+    (λ c. omega arith)
+    (λ c. omega arith)
     loop-again
     same-length
     returns)

@@ -20,9 +20,6 @@ abbrev μ-loop : tie.MeasureT-loop
 loop-holds : tie.Need-loop-holds Inv-loop μ-loop
 loop-holds c = (omega arith, partly-start _ _ _)
 
-letter-requires : tie.Need-letter-requires Inv-loop μ-loop
-letter-requires c κs = tt
-
 slice-write-out : tie.Need-slice-write-out Inv-loop μ-loop
 slice-write-out c =
     let turn = c .before .before .before in
@@ -34,12 +31,6 @@ add-m c =
     let turn = c .before .before .before in
     let start = turn .before .before in
     omega (arith, partly-length (turn .loop .inv .1), letter-room (turn .loop .k) (start .args .set) (turn .loop .left) (c .before .before .loop-test .taken) (c .before .if1 .taken) (start .pre) (turn .loop .inv .1))
-
-add-k : tie.Need-add-k Inv-loop μ-loop
-add-k c = omega arith
-
-loop-less : tie.Need-loop-less Inv-loop μ-loop
-loop-less c = omega arith
 
 loop-again : tie.Need-loop-again Inv-loop μ-loop
 loop-again c =
@@ -68,11 +59,11 @@ letters-spec =
     Inv-loop
     μ-loop
     loop-holds
-    letter-requires
+    (λ c κs. tt)
     slice-write-out
     add-m
-    add-k
-    loop-less
+    (λ c. omega arith)
+    (λ c. omega arith)
     loop-again
     same-length
     returns)

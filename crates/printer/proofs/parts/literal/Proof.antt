@@ -8,9 +8,6 @@ use Rattle.pattern.proofs.Stores.{puts-then, puts-room}
 use Rattle.printer.proofs.parts.literal.Statement.{statement}
 use Rattle.printer.proofs.parts.literal.Tie as tie
 
-put-byte-requires : tie.Need-put-byte-requires
-put-byte-requires c κs = search needs
-
 doubled-requires : tie.Need-doubled-requires
 doubled-requires c κs =
     let start = c .before .before .before .before .before .before .before in
@@ -23,9 +20,6 @@ put-byte-requires-2 c κs =
     let after-put-byte = after-doubled .before .before .before .before in
     puts-room (puts-then (after-put-byte .put-byte .ensures) (after-doubled .doubled .ensures)) (34 ∷ []) (after-put-byte .before .before .before .before .pre)
 
-same-length : tie.Need-same-length
-same-length c = search needs
-
 returns : tie.Need-returns
 returns c =
     let after-doubled = c .before .before .before .before .before .before in
@@ -35,4 +29,4 @@ returns c =
 pub literal-spec : {M : Type 1} → statement M
 literal-spec =
     tie.close
-    (tie.spec put-byte-requires doubled-requires put-byte-requires-2 same-length returns)
+    (tie.spec (λ c κs. search needs) doubled-requires put-byte-requires-2 (search needs) returns)

@@ -16,11 +16,8 @@ put-decimal-requires c κs =
     let start = c .before .before .before in
     omega (arith, start .pre, ap length (low-other (start .args .low) (c .before .if1 .left)))
 
-same-length : tie.Need-same-length
-same-length c = search needs
-
 returns-2 : tie.Need-returns-2
 returns-2 c = puts-as (c .before .before .put-decimal .ensures) (sym (low-other (c .before .before .before .before .before .before .args .low) (c .before .before .before .before .if1 .left)))
 
 pub low-number-spec : {M : Type 1} → statement M
-low-number-spec = tie.close (tie.spec returns put-decimal-requires same-length returns-2)
+low-number-spec = tie.close (tie.spec returns put-decimal-requires (search needs) returns-2)

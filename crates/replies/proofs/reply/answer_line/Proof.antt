@@ -6,18 +6,6 @@ use borrow.Author.Needs.{needs}
 use Rattle.replies.proofs.reply.answer_line.Statement.{statement}
 use Rattle.replies.proofs.reply.answer_line.Tie as tie
 
-put-reply-requires : tie.Need-put-reply-requires
-put-reply-requires c κs = search needs
-
-put-byte-requires : tie.Need-put-byte-requires
-put-byte-requires c κs = search needs
-
-same-length : tie.Need-same-length
-same-length c = search needs
-
-same-length-2 : tie.Need-same-length-2
-same-length-2 c = search needs
-
 returns : tie.Need-returns
 unfolding answer-to
 returns c =
@@ -28,4 +16,4 @@ returns c =
 
 pub answer-line-spec : {M : Type 1} → statement M
 answer-line-spec =
-    tie.close (tie.spec put-reply-requires put-byte-requires same-length same-length-2 returns)
+    tie.close (tie.spec (λ c κs. search needs) (λ c κs. search needs) (search needs) (search needs) returns)

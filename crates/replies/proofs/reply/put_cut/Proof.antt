@@ -9,38 +9,11 @@ use borrow.Author.Needs.{needs}
 use Rattle.replies.proofs.reply.put_cut.Statement.{statement}
 use Rattle.replies.proofs.reply.put_cut.Tie as tie
 
-slice-aggregate-compile : tie.Need-slice-aggregate-compile
-slice-aggregate-compile c = search needs
-
-compile-requires : tie.Need-compile-requires
-compile-requires c κs = search needs
-
-enum-known-n : tie.Need-enum-known-n
-enum-known-n c = search needs
-
 array-share-prefix-table : tie.Need-array-share-prefix-table
 array-share-prefix-table c = table-fits _ [] [] _ _ (c .before .before .before .before .compile .ensures) _ (c .before .n .given .1)
 
 slice-aggregate-put-label : tie.Need-slice-aggregate-put-label
 slice-aggregate-put-label c = sym (length-take-le _ _ (table-fits _ [] [] _ _ (c .before .before .before .before .before .compile .ensures) _ (c .before .before .n .given .1)))
-
-put-label-requires : tie.Need-put-label-requires
-put-label-requires c κs = search needs
-
-enum-known-number : tie.Need-enum-known-number
-enum-known-number c = search needs
-
-cast-put-refused : tie.Need-cast-put-refused
-cast-put-refused c = search needs
-
-put-refused-requires : tie.Need-put-refused-requires
-put-refused-requires c κs = search needs
-
-same-length : tie.Need-same-length
-same-length c = search needs
-
-same-length-2 : tie.Need-same-length-2
-same-length-2 c = search needs
 
 returns : tie.Need-returns
 returns c =
@@ -49,9 +22,6 @@ returns c =
     let after-compile = after-n .before .before .before in
     let r = after-put-label .put-label .ensures in
     replied-same (table-reply-is _ _ _ _ _ (after-compile .compile .ensures) _ (after-n .n .given .1)) r
-
-same-length-3 : tie.Need-same-length-3
-same-length-3 c = search needs
 
 returns-2 : tie.Need-returns-2
 returns-2 c =
@@ -64,17 +34,17 @@ pub put-cut-spec : {M : Type 1} → statement M
 put-cut-spec =
     tie.close
     (tie.spec
-    slice-aggregate-compile
-    compile-requires
-    enum-known-n
+    (search needs)
+    (λ c κs. search needs)
+    (search needs)
     array-share-prefix-table
     slice-aggregate-put-label
-    put-label-requires
-    enum-known-number
-    cast-put-refused
-    put-refused-requires
-    same-length
-    same-length-2
+    (λ c κs. search needs)
+    (search needs)
+    (search needs)
+    (λ c κs. search needs)
+    (search needs)
+    (search needs)
     returns
-    same-length-3
+    (search needs)
     returns-2)

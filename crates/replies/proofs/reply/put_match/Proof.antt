@@ -10,38 +10,11 @@ use borrow.Author.Needs.{needs}
 use Rattle.replies.proofs.reply.put_match.Statement.{statement}
 use Rattle.replies.proofs.reply.put_match.Tie as tie
 
-slice-aggregate-match-good : tie.Need-slice-aggregate-match-good
-slice-aggregate-match-good c = search needs
-
 match-good-requires : tie.Need-match-good-requires
 match-good-requires c κs = c .before .before .before .before .before .before .pre .0
 
-numbers-requires : tie.Need-numbers-requires
-numbers-requires c κs = search needs
-
-cast-put-unmatched : tie.Need-cast-put-unmatched
-cast-put-unmatched c = search needs
-
-put-unmatched-requires : tie.Need-put-unmatched-requires
-put-unmatched-requires c κs = search needs
-
-same-length : tie.Need-same-length
-same-length c = search needs
-
-same-length-2 : tie.Need-same-length-2
-same-length-2 c = search needs
-
 returns : tie.Need-returns
 returns c = let m = c .before .before .before .before .before .before .before .before .before .before .before .match-good in let a = c .before .before .before .before .before .before .before .numbers in replied-same (match-texts _ _ _ _ (c .before .before .before .before .before .before .before .before .before .before .before .before .before .before .before .before .before .before .pre .0) (m .result) _ _ (m .ensures) _ (a .ensures) .refused-is (c .before .before .before .before .before .if1 .taken)) (replied (stored-within reply-room (omega (arith, unmatched-short (a .result .number) (omega (arith, c .before .before .before .before .before .before .struct-known .given)))) (c .before .before .put-unmatched .ensures)))
-
-put-byte-requires : tie.Need-put-byte-requires
-put-byte-requires c κs = search needs
-
-same-length-3 : tie.Need-same-length-3
-same-length-3 c = search needs
-
-same-length-4 : tie.Need-same-length-4
-same-length-4 c = search needs
 
 returns-2 : tie.Need-returns-2
 returns-2 c = let m = c .before .before .before .before .before .before .before .before .before .before .before .before .match-good in let a = c .before .before .before .before .before .before .before .before .numbers in replied-same (match-texts _ _ _ _ (c .before .before .before .before .before .before .before .before .before .before .before .before .before .before .before .before .before .before .before .pre .0) (m .result) _ _ (m .ensures) _ (a .ensures) .no-is (c .before .before .before .before .before .before .if1 .left) (c .before .before .before .before .if2 .taken)) (replied (stored-within reply-room (omega arith) (c .before .before .put-byte .ensures)))
@@ -58,14 +31,8 @@ slice-aggregate-put-matched c = sym (length-take-le _ _ (omega (arith, few-tops 
 put-matched-requires : tie.Need-put-matched-requires
 put-matched-requires c κs = omega (arith, few-tops _ _ (c .before .before .before .before .before .before .before .before .before .before .before .before .before .before .before .before .before .before .pre .0), length-take-le (2 * c .before .before .before .before .before .before .before .before .before .before .before .before .before .before .before .before .before .before .args .sizes .top) (c .before .before .before .before .before .before .before .before .before .before .before .match-good .last .1 .1 .1 .1 .0) (omega (arith, few-tops _ _ (c .before .before .before .before .before .before .before .before .before .before .before .before .before .before .before .before .before .before .pre .0), c .before .before .before .before .before .before .before .before .before .before .before .match-good .kept .1 .1 .1 .1 .0)), c .before .before .before .before .before .before .before .before .before .before .before .before .before .before .before .before .before .before .pre .1)
 
-same-length-5 : tie.Need-same-length-5
-same-length-5 c = search needs
-
-same-length-6 : tie.Need-same-length-6
-same-length-6 c = search needs
-
 returns-3 : tie.Need-returns-3
 returns-3 c = let m = c .before .before .before .before .before .before .before .before .before .before .before .before .before .before .match-good in let a = c .before .before .before .before .before .before .before .before .before .before .numbers in replied-same (match-texts _ _ _ _ (c .before .before .before .before .before .before .before .before .before .before .before .before .before .before .before .before .before .before .before .before .before .pre .0) (m .result) _ _ (m .ensures) _ (a .ensures) .yes-is (c .before .before .before .before .before .before .before .before .if1 .left) (c .before .before .before .before .before .before .if2 .left)) (replied (within-more (omega (arith, few-tops _ _ (c .before .before .before .before .before .before .before .before .before .before .before .before .before .before .before .before .before .before .before .before .before .pre .0), length-take-le (2 * c .before .before .before .before .before .before .before .before .before .before .before .before .before .before .before .before .before .before .before .before .before .args .sizes .top) (c .before .before .before .before .before .before .before .before .before .before .before .before .before .before .match-good .last .1 .1 .1 .1 .0) (omega (arith, few-tops _ _ (c .before .before .before .before .before .before .before .before .before .before .before .before .before .before .before .before .before .before .before .before .before .pre .0), c .before .before .before .before .before .before .before .before .before .before .before .before .before .before .match-good .kept .1 .1 .1 .1 .0)))) (c .before .before .put-matched .ensures)))
 
 pub put-match-spec : {M : Type 1} → statement M
-put-match-spec = tie.close (tie.spec slice-aggregate-match-good match-good-requires numbers-requires cast-put-unmatched put-unmatched-requires same-length same-length-2 returns put-byte-requires same-length-3 same-length-4 returns-2 mul-parts array-share-prefix-parts slice-aggregate-put-matched put-matched-requires same-length-5 same-length-6 returns-3)
+put-match-spec = tie.close (tie.spec (search needs) match-good-requires (λ c κs. search needs) (search needs) (λ c κs. search needs) (search needs) (search needs) returns (λ c κs. search needs) (search needs) (search needs) returns-2 mul-parts array-share-prefix-parts slice-aggregate-put-matched put-matched-requires (search needs) (search needs) returns-3)

@@ -9,24 +9,9 @@ use borrow.Author.Needs.{needs}
 use Rattle.replies.proofs.reply.put_reply.Statement.{statement}
 use Rattle.replies.proofs.reply.put_reply.Tie as tie
 
-put-byte-requires : tie.Need-put-byte-requires
-put-byte-requires c κs = search needs
-
-same-length : tie.Need-same-length
-same-length c = search needs
-
 returns : tie.Need-returns
 unfolding bytes
 returns c = replied-same (long-reply _ _ (c .before .before .before .before .if1 .taken)) (replied (stored-within reply-room (omega arith) (c .before .before .put-byte .ensures)))
-
-tab-at-requires : tie.Need-tab-at-requires
-tab-at-requires c κs = search needs
-
-put-byte-requires-2 : tie.Need-put-byte-requires-2
-put-byte-requires-2 c κs = search needs
-
-same-length-2 : tie.Need-same-length-2
-same-length-2 c = search needs
 
 returns-2 : tie.Need-returns-2
 unfolding bytes
@@ -38,27 +23,6 @@ returns-2 c =
 
 slice-aggregate-put-cut : tie.Need-slice-aggregate-put-cut
 slice-aggregate-put-cut c = sym (length-take-le _ _ (omega arith))
-
-add-put-cut : tie.Need-add-put-cut
-add-put-cut c = search needs
-
-sub-put-cut : tie.Need-sub-put-cut
-sub-put-cut c = search needs
-
-part-put-cut-start : tie.Need-part-put-cut-start
-part-put-cut-start c = search needs
-
-part-put-cut-end : tie.Need-part-put-cut-end
-part-put-cut-end c = search needs
-
-put-cut-requires : tie.Need-put-cut-requires
-put-cut-requires c κs = search needs
-
-same-length-3 : tie.Need-same-length-3
-same-length-3 c = search needs
-
-same-length-4 : tie.Need-same-length-4
-same-length-4 c = search needs
 
 returns-3 : tie.Need-returns-3
 returns-3 c =
@@ -73,19 +37,19 @@ pub put-reply-spec : {M : Type 1} → statement M
 put-reply-spec =
     tie.close
     (tie.spec
-    put-byte-requires
-    same-length
+    (λ c κs. search needs)
+    (search needs)
     returns
-    tab-at-requires
-    put-byte-requires-2
-    same-length-2
+    (λ c κs. search needs)
+    (λ c κs. search needs)
+    (search needs)
     returns-2
     slice-aggregate-put-cut
-    add-put-cut
-    sub-put-cut
-    part-put-cut-start
-    part-put-cut-end
-    put-cut-requires
-    same-length-3
-    same-length-4
+    (search needs)
+    (search needs)
+    (search needs)
+    (search needs)
+    (λ c κs. search needs)
+    (search needs)
+    (search needs)
     returns-3)

@@ -7,21 +7,12 @@ use borrow.Author.Needs.{needs}
 use Rattle.replies.proofs.text.put_coded.Statement.{statement}
 use Rattle.replies.proofs.text.put_coded.Tie as tie
 
-put-byte-requires : tie.Need-put-byte-requires
-put-byte-requires c κs = search needs
-
-put-byte-requires-2 : tie.Need-put-byte-requires-2
-put-byte-requires-2 c κs = search needs
-
 put-decimal-requires : tie.Need-put-decimal-requires
 put-decimal-requires c κs =
     let after-put-byte2 = c .before .before .before in
     let after-put-byte = after-put-byte2 .before .before .before .before in
     let start = after-put-byte .before .before .before in
     omega (arith, after-put-byte .put-byte .ensures .next, after-put-byte2 .put-byte2 .ensures .next, decimal-short 19 (start .args .number) (omega arith))
-
-same-length : tie.Need-same-length
-same-length c = search needs
 
 returns : tie.Need-returns
 unfolding coded-text
@@ -33,4 +24,4 @@ returns c =
 pub put-coded-spec : {M : Type 1} → statement M
 put-coded-spec =
     tie.close
-    (tie.spec put-byte-requires put-byte-requires-2 put-decimal-requires same-length returns)
+    (tie.spec (λ c κs. search needs) (λ c κs. search needs) put-decimal-requires (search needs) returns)

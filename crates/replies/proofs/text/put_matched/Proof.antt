@@ -21,32 +21,11 @@ Inv-loop parts out₀ at end₀ i₀ before₀ out end i before =
 abbrev μ-loop : tie.MeasureT-loop
 μ-loop parts out₀ at end₀ i₀ before₀ out end i before = length parts - i
 
-put-byte-requires : tie.Need-put-byte-requires Inv-loop μ-loop
-put-byte-requires c κs = omega arith
-
 loop-holds : tie.Need-loop-holds Inv-loop μ-loop
 loop-holds c = (omega arith, omega (arith, c .before .before .put-byte .ensures .next, puts-length (c .before .before .put-byte .ensures)), refl, λ m k d. d)
 
-add-loop : tie.Need-add-loop Inv-loop μ-loop
-add-loop c = omega arith
-
-shared-slice-read-put-part : tie.Need-shared-slice-read-put-part Inv-loop μ-loop
-shared-slice-read-put-part c = omega arith
-
-add-put-part : tie.Need-add-put-part Inv-loop μ-loop
-add-put-part c = omega arith
-
-shared-slice-read-put-part-2 : tie.Need-shared-slice-read-put-part-2 Inv-loop μ-loop
-shared-slice-read-put-part-2 c = omega arith
-
 put-part-requires : tie.Need-put-part-requires Inv-loop μ-loop
 put-part-requires c κs = let b = c .before .before .before .before .before .before .before .put-byte .ensures in omega (arith, b .next, puts-length b)
-
-add-i : tie.Need-add-i Inv-loop μ-loop
-add-i c = omega arith
-
-loop-less : tie.Need-loop-less Inv-loop μ-loop
-loop-less c = omega arith
 
 loop-again : tie.Need-loop-again Inv-loop μ-loop
 loop-again c = let k = c .before .before .before .before .before .before .before in let p = c .before .before .put-part .ensures in let s = c .before .before .before .before .before .before .before .before .before .before .before .before .before .before .args .parts .now in (omega arith, omega (arith, p .next, puts-length p, decimal-short 4 (getD s (k .loop .i) 0 + 256 * getD s (k .loop .i + 1) 0) (omega (arith, c .before .before .before .before .before .shared-slice-known2 .given (k .loop .i), c .before .before .before .before .shared-slice-known3 .given (k .loop .i + 1)))), omega (arith, puts-length p), λ m e d. k .loop .inv .3 m e (listed-join _ _ _ (c .before .before .before .before .before .before .loop-test .taken) p d))
@@ -59,4 +38,4 @@ unfolding bytes matched-text
 returns c = let b = c .before .before .before .before .put-byte .ensures in record { stores = puts-then b (c .before .loop .inv .3 _ _ (puts-as (puts-none _ _) (sym (listed-none _ _ _ (c .loop-test .left))))); short = omega (arith, b .next) }
 
 pub put-matched-spec : {M : Type 1} → statement M
-put-matched-spec = tie.close (tie.spec Inv-loop μ-loop put-byte-requires loop-holds add-loop shared-slice-read-put-part add-put-part shared-slice-read-put-part-2 put-part-requires add-i loop-less loop-again same-length returns)
+put-matched-spec = tie.close (tie.spec Inv-loop μ-loop (λ c κs. omega arith) loop-holds (λ c. omega arith) (λ c. omega arith) (λ c. omega arith) (λ c. omega arith) put-part-requires (λ c. omega arith) (λ c. omega arith) loop-again same-length returns)

@@ -7,22 +7,10 @@ use borrow.Author.Needs.{needs}
 use Rattle.replies.proofs.text.put_part.Statement.{statement}
 use Rattle.replies.proofs.text.put_part.Tie as tie
 
-put-byte-requires : tie.Need-put-byte-requires
-put-byte-requires c κs = search needs
-
-mul-put-decimal : tie.Need-mul-put-decimal
-mul-put-decimal c = search needs
-
-add-put-decimal : tie.Need-add-put-decimal
-add-put-decimal c = search needs
-
 put-decimal-requires : tie.Need-put-decimal-requires
 put-decimal-requires c κs =
     let a = c .before .before .before .before .before .before .args in
     omega (arith, c .before .before .before .put-byte .ensures .next, decimal-short 4 (a .low + 256 * a .high) (omega arith))
-
-same-length : tie.Need-same-length
-same-length c = search needs
 
 returns : tie.Need-returns
 returns c = puts-then (c .before .before .before .before .before .before .put-byte .ensures) (c .before .before .put-decimal .ensures)
@@ -31,9 +19,9 @@ pub put-part-spec : {M : Type 1} → statement M
 put-part-spec =
     tie.close
     (tie.spec
-    put-byte-requires
-    mul-put-decimal
-    add-put-decimal
+    (λ c κs. search needs)
+    (search needs)
+    (search needs)
     put-decimal-requires
-    same-length
+    (search needs)
     returns)

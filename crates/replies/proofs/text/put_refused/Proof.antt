@@ -7,9 +7,6 @@ use borrow.Author.Needs.{needs}
 use Rattle.replies.proofs.text.put_refused.Statement.{statement}
 use Rattle.replies.proofs.text.put_refused.Tie as tie
 
-put-coded-requires : tie.Need-put-coded-requires
-put-coded-requires c κs = search needs
-
 put-byte-requires : tie.Need-put-byte-requires
 unfolding coded-text
 put-byte-requires c κs = omega (arith, c .before .before .before .put-coded .ensures .next, decimal-short 19 (c .before .before .before .before .before .before .args .number) (omega arith))
@@ -22,9 +19,6 @@ put-decimal-requires c κs =
     let start = after-put-coded .before .before .before in
     omega (arith, after-put-coded .put-coded .ensures .next, after-put-byte .put-byte .ensures .next, decimal-short 19 (start .args .number) (omega arith), decimal-short 19 (start .args .position) (omega arith))
 
-same-length : tie.Need-same-length
-same-length c = search needs
-
 returns : tie.Need-returns
 unfolding refused-text
 returns c =
@@ -35,4 +29,4 @@ returns c =
 pub put-refused-spec : {M : Type 1} → statement M
 put-refused-spec =
     tie.close
-    (tie.spec put-coded-requires put-byte-requires put-decimal-requires same-length returns)
+    (tie.spec (λ c κs. search needs) put-byte-requires put-decimal-requires (search needs) returns)

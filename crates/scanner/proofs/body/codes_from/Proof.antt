@@ -15,25 +15,13 @@ Inv-loop s first at₀ set₀ at set = Coding s (at₀ .at - 1) at set
 abbrev μ-loop : tie.MeasureT-loop
 μ-loop s first at₀ set₀ at set = length s - at .at
 
-bit-requires : tie.Need-bit-requires Inv-loop μ-loop
-bit-requires c κs = search needs
-
 loop-holds : tie.Need-loop-holds Inv-loop μ-loop
 loop-holds c = coding-start _ _ _ _ _ (c .before .before .pre) (c .bit .ensures)
-
-class-requires : tie.Need-class-requires Inv-loop μ-loop
-class-requires c κs = search needs
-
-enum-known-b : tie.Need-enum-known-b Inv-loop μ-loop
-enum-known-b c = search needs
 
 returns : tie.Need-returns Inv-loop μ-loop
 returns c =
     let turn = c .before .before .before in
     coding-end _ _ _ _ (turn .loop .inv) (c .before .before .loop-test .taken) _ (c .before .class .ensures) (λ e. ⊎-elim (λ f. omega arith) (⊎-elim (λ f. omega arith) (λ f. omega arith)) (c .match .keys2))
-
-bit-requires-2 : tie.Need-bit-requires-2 Inv-loop μ-loop
-bit-requires-2 c κs = search needs
 
 loop-less : tie.Need-loop-less Inv-loop μ-loop
 loop-less c =
@@ -56,12 +44,12 @@ codes-from-spec =
     (tie.spec
     Inv-loop
     μ-loop
-    bit-requires
+    (λ c κs. search needs)
     loop-holds
-    class-requires
-    enum-known-b
+    (λ c κs. search needs)
+    (search needs)
     returns
-    bit-requires-2
+    (λ c κs. search needs)
     loop-less
     loop-again
     sub-t11

@@ -18,12 +18,6 @@ abbrev μ-loop : tie.MeasureT-loop
 loop-holds : tie.Need-loop-holds Inv-loop μ-loop
 loop-holds c = quoting-start _ _ _ _ (c .before .before .pre .0) (c .before .before .pre .1) (c .before .before .pre .2)
 
-text-requires : tie.Need-text-requires Inv-loop μ-loop
-text-requires c κs = search needs
-
-enum-known-b : tie.Need-enum-known-b Inv-loop μ-loop
-enum-known-b c = search needs
-
 slice-write-pool : tie.Need-slice-write-pool Inv-loop μ-loop
 slice-write-pool c =
     let after-text = c .before .before .before in
@@ -39,17 +33,11 @@ loop-less c = let o = quoting-past _ _ _ _ _ _ _ (c .before .before .before .bef
 loop-again : tie.Need-loop-again Inv-loop μ-loop
 loop-again c = quoting-more _ _ _ _ _ _ _ (c .before .before .before .before .loop .inv) _ (c .before .before .before .text .ensures) _ _ (c .before .b .given .1)
 
-enum-known-next : tie.Need-enum-known-next Inv-loop μ-loop
-enum-known-next c = search needs
-
 same-length : tie.Need-same-length Inv-loop μ-loop
 same-length c = ap length (c .before .before .before .before .loop .inv .wrote) ∙ length-stored _ _ _
 
 returns : tie.Need-returns Inv-loop μ-loop
 returns c = quoting-ends _ _ _ _ _ _ _ (c .before .before .before .before .loop .inv) _ (c .before .before .before .text .ensures) _ (c .before .next .given .1)
-
-enum-told : tie.Need-enum-told Inv-loop μ-loop
-enum-told c = search needs
 
 same-length-2 : tie.Need-same-length-2 Inv-loop μ-loop
 same-length-2 c = ap length (c .before .before .before .loop .inv .wrote) ∙ length-stored _ _ _
@@ -64,15 +52,15 @@ quoted-spec =
     Inv-loop
     μ-loop
     loop-holds
-    text-requires
-    enum-known-b
+    (λ c κs. search needs)
+    (search needs)
     slice-write-pool
     add-end
     loop-less
     loop-again
-    enum-known-next
+    (search needs)
     same-length
     returns
-    enum-told
+    (search needs)
     same-length-2
     returns-2)

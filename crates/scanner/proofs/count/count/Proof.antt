@@ -4,38 +4,8 @@ use borrow.Author.Needs.{needs}
 use Rattle.scanner.proofs.count.count.Statement.{statement}
 use Rattle.scanner.proofs.count.count.Tie as tie
 
-digits-requires : tie.Need-digits-requires
-digits-requires c κs = search needs
-
-point-requires : tie.Need-point-requires
-point-requires c κs = search needs
-
-enum-known-next : tie.Need-enum-known-next
-enum-known-next c = search needs
-
 digits-requires-2 : tie.Need-digits-requires-2
 digits-requires-2 c κs = point-within _ _ 0 _ (c .before .before .before .before .before .digits .ensures) _ (c .before .before .before .point .ensures) _ (c .before .next .given .1)
-
-open-requires : tie.Need-open-requires
-open-requires c κs = search needs
-
-judged-requires : tie.Need-judged-requires
-judged-requires c κs = search needs
-
-closed-requires : tie.Need-closed-requires
-closed-requires c κs = search needs
-
-judged-requires-2 : tie.Need-judged-requires-2
-judged-requires-2 c κs = search needs
-
-enum-told : tie.Need-enum-told
-enum-told c = search needs
-
-exact-requires : tie.Need-exact-requires
-exact-requires c κs = search needs
-
-judged-requires-3 : tie.Need-judged-requires-3
-judged-requires-3 c κs = search needs
 
 returns : tie.Need-returns
 returns c =
@@ -67,17 +37,17 @@ pub count-spec : {M : Type 1} → statement M
 count-spec =
     tie.close
     (tie.spec
-    digits-requires
-    point-requires
-    enum-known-next
+    (λ c κs. search needs)
+    (λ c κs. search needs)
+    (search needs)
     digits-requires-2
-    open-requires
-    judged-requires
-    closed-requires
-    judged-requires-2
-    enum-told
-    exact-requires
-    judged-requires-3
+    (λ c κs. search needs)
+    (λ c κs. search needs)
+    (λ c κs. search needs)
+    (λ c κs. search needs)
+    (search needs)
+    (λ c κs. search needs)
+    (λ c κs. search needs)
     returns
     returns-2
     returns-3

@@ -17,12 +17,6 @@ abbrev μ-loop : tie.MeasureT-loop
 loop-holds : tie.Need-loop-holds Inv-loop μ-loop
 loop-holds c = digits-start _ _ (c .before .pre)
 
-digit-requires : tie.Need-digit-requires Inv-loop μ-loop
-digit-requires c κs = search needs
-
-enum-known-d : tie.Need-enum-known-d Inv-loop μ-loop
-enum-known-d c = search needs
-
 grown-requires : tie.Need-grown-requires Inv-loop μ-loop
 grown-requires c κs =
     let after-digit = c .before .before .before in
@@ -35,9 +29,6 @@ loop-less c = let o = digit-past _ _ _ _ (c .before .before .before .before .bef
 loop-again : tie.Need-loop-again Inv-loop μ-loop
 loop-again c = digits-more _ _ _ _ (c .before .before .before .before .before .loop .inv) _ (c .before .before .before .before .digit .ensures) _ _ (c .before .before .d .given .1) _ (c .grown .ensures .0) (c .grown .ensures .1)
 
-enum-told : tie.Need-enum-told Inv-loop μ-loop
-enum-told c = search needs
-
 returns : tie.Need-returns Inv-loop μ-loop
 returns c = digits-end _ _ _ _ (c .before .before .before .loop .inv) _ (c .before .before .digit .ensures) _ refl refl (c .enum-told .given .1)
 
@@ -48,10 +39,10 @@ digits-spec =
     Inv-loop
     μ-loop
     loop-holds
-    digit-requires
-    enum-known-d
+    (λ c κs. search needs)
+    (search needs)
     grown-requires
     loop-less
     loop-again
-    enum-told
+    (search needs)
     returns)

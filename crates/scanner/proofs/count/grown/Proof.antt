@@ -5,12 +5,6 @@ use borrow.Author.Needs.{needs}
 use Rattle.scanner.proofs.count.grown.Statement.{statement}
 use Rattle.scanner.proofs.count.grown.Tie as tie
 
-mul-result : tie.Need-mul-result
-mul-result c = search needs
-
-add-result : tie.Need-add-result
-add-result c = search needs
-
 returns : tie.Need-returns
 returns c = (omega arith, grown-large _ _ (c .if1 .taken))
 
@@ -18,4 +12,4 @@ returns-2 : tie.Need-returns-2
 returns-2 c = (omega arith, grown-small _ _ (omega arith) (c .before .pre .1))
 
 pub grown-spec : {M : Type 1} → statement M
-grown-spec = tie.close (tie.spec mul-result add-result returns returns-2)
+grown-spec = tie.close (tie.spec (search needs) (search needs) returns returns-2)

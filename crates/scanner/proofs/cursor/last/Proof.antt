@@ -8,18 +8,6 @@ use borrow.Author.Needs.{needs}
 use Rattle.scanner.proofs.cursor.last.Statement.{statement}
 use Rattle.scanner.proofs.cursor.last.Tie as tie
 
-byte-requires : tie.Need-byte-requires
-byte-requires c κs = search needs
-
-enum-known-b : tie.Need-enum-known-b
-enum-known-b c = search needs
-
-is-digit-requires : tie.Need-is-digit-requires
-is-digit-requires c κs = search needs
-
-enum-told : tie.Need-enum-told
-enum-told c = search needs
-
 returns : tie.Need-returns
 returns c = sym (flag-is _ _ _ _ (byte-is _ _ _ _ _ (c .before .before .before .b .given .1) (c .before .before .before .before .before .byte .ensures)) ∙ ap count-flag (digit-is _ (sym (c .before .is-digit .ensures) ∙ c .if1 .taken)))
 
@@ -37,10 +25,10 @@ pub last-spec : {M : Type 1} → statement M
 last-spec =
     tie.close
     (tie.spec
-    byte-requires
-    enum-known-b
-    is-digit-requires
-    enum-told
+    (λ c κs. search needs)
+    (search needs)
+    (λ c κs. search needs)
+    (search needs)
     returns
     returns-2
     returns-3

@@ -17,12 +17,6 @@ abbrev μ-loop : tie.MeasureT-loop
 loop-holds : tie.Need-loop-holds Inv-loop μ-loop
 loop-holds c = (omega arith, omega arith)
 
-add-n : tie.Need-add-n Inv-loop μ-loop
-add-n c = omega arith
-
-loop-less : tie.Need-loop-less Inv-loop μ-loop
-loop-less c = omega arith
-
 loop-again : tie.Need-loop-again Inv-loop μ-loop
 loop-again c = (omega arith, omega (arith, decimal-longer (c .before .loop .left) (c .loop-test .taken)))
 
@@ -30,4 +24,4 @@ returns : tie.Need-returns Inv-loop μ-loop
 returns c = omega (arith, ap length (decimal-one (c .before .loop .left) (c .loop-test .left)))
 
 pub decimal-length-spec : {M : Type 1} → statement M
-decimal-length-spec = tie.close (tie.spec Inv-loop μ-loop loop-holds add-n loop-less loop-again returns)
+decimal-length-spec = tie.close (tie.spec Inv-loop μ-loop loop-holds (λ c. omega arith) (λ c. omega arith) loop-again returns)

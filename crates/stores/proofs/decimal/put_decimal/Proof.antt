@@ -16,9 +16,6 @@ Inv-loop to₀ at x end left₀ o₀ to left o = (end ≡ at + length (decimal x
 abbrev μ-loop : tie.MeasureT-loop
 μ-loop to₀ at x end left₀ o₀ to left o = left
 
-decimal-length-requires : tie.Need-decimal-length-requires Inv-loop μ-loop
-decimal-length-requires c κs = tt
-
 add-end : tie.Need-add-end Inv-loop μ-loop
 add-end c = omega (arith, c .decimal-length .ensures)
 
@@ -28,17 +25,8 @@ loop-holds c = (omega (arith, c .decimal-length .ensures), omega (arith, c .deci
 sub-o : tie.Need-sub-o Inv-loop μ-loop
 sub-o c = omega (arith, decimal-longer (c .before .loop .left) (c .loop-test .taken))
 
-cast-to : tie.Need-cast-to Inv-loop μ-loop
-cast-to c = omega arith
-
-add-to : tie.Need-add-to Inv-loop μ-loop
-add-to c = omega arith
-
 slice-write-to : tie.Need-slice-write-to Inv-loop μ-loop
 slice-write-to c = omega (arith, decimal-longer (c .before .loop .left) (c .loop-test .taken))
-
-loop-less : tie.Need-loop-less Inv-loop μ-loop
-loop-less c = omega arith
 
 loop-again : tie.Need-loop-again Inv-loop μ-loop
 loop-again c =
@@ -49,12 +37,6 @@ loop-again c =
       simp length-set (k .inv .3),
       last-digit (k .to) (c .before .before .before .before .args .at) (k .left) (k .o) (c .loop-test .taken) (k .inv .1) ∙ k .inv .4,
     )
-
-cast-to-2 : tie.Need-cast-to-2 Inv-loop μ-loop
-cast-to-2 c = omega arith
-
-add-to-2 : tie.Need-add-to-2 Inv-loop μ-loop
-add-to-2 c = omega arith
 
 slice-write-to-2 : tie.Need-slice-write-to-2 Inv-loop μ-loop
 slice-write-to-2 c = omega (arith, ap length (decimal-one (c .before .loop .left) (c .loop-test .left)))
@@ -73,17 +55,17 @@ put-decimal-spec =
     (tie.spec
     Inv-loop
     μ-loop
-    decimal-length-requires
+    (λ c κs. tt)
     add-end
     loop-holds
     sub-o
-    cast-to
-    add-to
+    (λ c. omega arith)
+    (λ c. omega arith)
     slice-write-to
-    loop-less
+    (λ c. omega arith)
     loop-again
-    cast-to-2
-    add-to-2
+    (λ c. omega arith)
+    (λ c. omega arith)
     slice-write-to-2
     same-length
     returns)

@@ -8,32 +8,11 @@ use Rattle.table.proofs.Measures.{open-length, two-length}
 use Rattle.table.proofs.lengths.count_length.Statement.{statement}
 use Rattle.table.proofs.lengths.count_length.Tie as tie
 
-low-length-requires : tie.Need-low-length-requires
-low-length-requires c κs = search needs
-
-add-result : tie.Need-add-result
-add-result c = search needs
-
 returns : tie.Need-returns
 returns c = (open-length (c .before .before .args .low) (c .before .before .args .high) (c .low-length .result) (c .low-length .ensures .0) (c .before .if1 .taken), omega arith)
 
-digits-requires : tie.Need-digits-requires
-digits-requires c κs = search needs
-
 returns-2 : tie.Need-returns-2
 returns-2 c = (c .digits .ensures .0 ∙ sym (ap length (count-exact (c .before .before .before .args .low) (c .before .before .before .args .high) (c .before .before .if1 .left) (c .before .if2 .taken))), omega arith)
-
-low-length-requires-2 : tie.Need-low-length-requires-2
-low-length-requires-2 c κs = search needs
-
-add-result-2 : tie.Need-add-result-2
-add-result-2 c = search needs
-
-digits-requires-2 : tie.Need-digits-requires-2
-digits-requires-2 c κs = search needs
-
-add-result-3 : tie.Need-add-result-3
-add-result-3 c = search needs
 
 returns-3 : tie.Need-returns-3
 returns-3 c =
@@ -45,13 +24,13 @@ pub count-length-spec : {M : Type 1} → statement M
 count-length-spec =
     tie.close
     (tie.spec
-    low-length-requires
-    add-result
+    (λ c κs. search needs)
+    (search needs)
     returns
-    digits-requires
+    (λ c κs. search needs)
     returns-2
-    low-length-requires-2
-    add-result-2
-    digits-requires-2
-    add-result-3
+    (λ c κs. search needs)
+    (search needs)
+    (λ c κs. search needs)
+    (search needs)
     returns-3)

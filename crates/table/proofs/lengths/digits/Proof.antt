@@ -5,11 +5,8 @@ use Rattle.pattern.proofs.Decimal.{decimal-short}
 use Rattle.table.proofs.lengths.digits.Statement.{statement}
 use Rattle.table.proofs.lengths.digits.Tie as tie
 
-decimal-length-requires : tie.Need-decimal-length-requires
-decimal-length-requires c κs = search needs
-
 returns : tie.Need-returns
 returns c = (c .decimal-length .ensures, omega (arith, c .decimal-length .ensures, decimal-short 4 (c .before .args .n) (omega arith)))
 
 pub digits-spec : {M : Type 1} → statement M
-digits-spec = tie.close (tie.spec decimal-length-requires returns)
+digits-spec = tie.close (tie.spec (λ c κs. search needs) returns)

@@ -5,18 +5,6 @@ use Rattle.table.proofs.Measures.{fours, letters-at}
 use Rattle.table.proofs.lengths.letters.Statement.{statement}
 use Rattle.table.proofs.lengths.letters.Tie as tie
 
-cast-few : tie.Need-cast-few
-cast-few c = search needs
-
-cast-more : tie.Need-cast-more
-cast-more c = search needs
-
-array-read-result : tie.Need-array-read-result
-array-read-result c = search needs
-
-array-read-result-2 : tie.Need-array-read-result-2
-array-read-result-2 c = search needs
-
 add-result : tie.Need-add-result
 unfolding fours
 add-result c = omega (arith, letters-at (c .args .set) (c .pre) .1)
@@ -33,10 +21,10 @@ pub letters-spec : {M : Type 1} → statement M
 letters-spec =
     tie.close
     (tie.spec
-    cast-few
-    cast-more
-    array-read-result
-    array-read-result-2
+    (search needs)
+    (search needs)
+    (search needs)
+    (search needs)
     add-result
     cast-result
     returns)

@@ -7,9 +7,6 @@ use Rattle.table.proofs.Sources.{low-zero, low-other}
 use Rattle.table.proofs.lengths.low_length.Statement.{statement}
 use Rattle.table.proofs.lengths.low_length.Tie as tie
 
-digits-requires : tie.Need-digits-requires
-digits-requires c κs = search needs
-
 returns : tie.Need-returns
 returns c = (sym (ap length (low-zero (c .before .args .low) (c .if1 .taken))), omega arith)
 
@@ -17,4 +14,4 @@ returns-2 : tie.Need-returns-2
 returns-2 c = (c .digits .ensures .0 ∙ sym (ap length (low-other (c .before .before .args .low) (c .before .if1 .left))), c .digits .ensures .1)
 
 pub low-length-spec : {M : Type 1} → statement M
-low-length-spec = tie.close (tie.spec digits-requires returns returns-2)
+low-length-spec = tie.close (tie.spec (λ c κs. search needs) returns returns-2)

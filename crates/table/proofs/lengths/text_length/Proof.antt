@@ -19,9 +19,6 @@ abbrev μ-loop : tie.MeasureT-loop
 loop-holds : tie.Need-loop-holds Inv-loop μ-loop
 loop-holds c = (omega arith, omega arith, refl, omega arith)
 
-shared-slice-read-b : tie.Need-shared-slice-read-b Inv-loop μ-loop
-shared-slice-read-b c = omega arith
-
 returns : tie.Need-returns Inv-loop μ-loop
 returns c =
     let turn = c .before .before .before in
@@ -34,17 +31,8 @@ returns-2 c =
     let start = turn .before in
     text-high (start .args .v .now) (turn .loop .i) (omega arith) (turn .loop .inv .2) (c .before .if1 .left) (c .if2 .taken)
 
-add-n : tie.Need-add-n Inv-loop μ-loop
-add-n c = omega arith
-
 add-n-2 : tie.Need-add-n-2 Inv-loop μ-loop
 add-n-2 c = ⊎-elim (λ w. omega arith) (λ w. omega arith) (c .before .if3 .came)
-
-add-i : tie.Need-add-i Inv-loop μ-loop
-add-i c = omega arith
-
-loop-less : tie.Need-loop-less Inv-loop μ-loop
-loop-less c = omega arith
 
 loop-again : tie.Need-loop-again Inv-loop μ-loop
 loop-again c =
@@ -69,12 +57,12 @@ text-length-spec =
     Inv-loop
     μ-loop
     loop-holds
-    shared-slice-read-b
+    (λ c. omega arith)
     returns
     returns-2
-    add-n
+    (λ c. omega arith)
     add-n-2
-    add-i
-    loop-less
+    (λ c. omega arith)
+    (λ c. omega arith)
     loop-again
     returns-3)

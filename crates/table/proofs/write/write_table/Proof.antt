@@ -7,41 +7,11 @@ use borrow.Author.Needs.{needs}
 use Rattle.table.proofs.write.write_table.Statement.{statement}
 use Rattle.table.proofs.write.write_table.Tie as tie
 
-mul-from : tie.Need-mul-from
-mul-from c = search needs
-
-add-from : tie.Need-add-from
-add-from c = search needs
-
-add-total : tie.Need-add-total
-add-total c = search needs
-
 returns : tie.Need-returns
 returns c = record { puts = λ position. no-room position _ _ _ _ _ (c .before .before .before .before .pre) (c .if1 .taken) }
 
-first-bytes-requires : tie.Need-first-bytes-requires
-first-bytes-requires c κs = search needs
-
-slice-aggregate-copy : tie.Need-slice-aggregate-copy
-slice-aggregate-copy c = search needs
-
-copy-requires : tie.Need-copy-requires
-copy-requires c κs = search needs
-
-cast-table : tie.Need-cast-table
-cast-table c = search needs
-
-slice-write-table : tie.Need-slice-write-table
-slice-write-table c = search needs
-
-cast-put16 : tie.Need-cast-put16
-cast-put16 c = search needs
-
 put16-requires : tie.Need-put16-requires
 put16-requires c κs = simp length-set (omega (arith, c .before .before .before .copy .kept .1 .1 .0))
-
-mul-copy : tie.Need-mul-copy
-mul-copy c = search needs
 
 copy-requires-2 : tie.Need-copy-requires-2
 copy-requires-2 c κs =
@@ -75,24 +45,24 @@ returns-2 c =
     let after-marked = after-copy .before .before .before in
     let after-if1 = after-marked .before in
     let start = after-if1 .before .before .before .before in
-    record { puts = λ position. writes-table position _ _ _ _ _ (start .pre) _ _ _ _ _ (after-if1 .if1 .left) (after-marked .first-bytes .ensures) (after-copy .copy .ensures) (after-put16 .put16 .ensures) (after-copy2 .copy2 .ensures) (c .before .before .copy3 .ensures) }
+    record { puts = λ position. writes-table position _ _ _ _ _ (start .pre) _ _ _ _ _ (after-if1 .if1 .left) (after-marked .first-bytes .ensures) (after-copy .copy .ensures .bytes) (after-put16 .put16 .ensures .bytes) (after-copy2 .copy2 .ensures .bytes) (c .before .before .copy3 .ensures .bytes) }
 
 pub write-table-spec : {M : Type 1} → statement M
 write-table-spec =
     tie.close
     (tie.spec
-    mul-from
-    add-from
-    add-total
+    (search needs)
+    (search needs)
+    (search needs)
     returns
-    first-bytes-requires
-    slice-aggregate-copy
-    copy-requires
-    cast-table
-    slice-write-table
-    cast-put16
+    (λ c κs. search needs)
+    (search needs)
+    (λ c κs. search needs)
+    (search needs)
+    (search needs)
+    (search needs)
     put16-requires
-    mul-copy
+    (search needs)
     copy-requires-2
     copy-requires-3
     same-length

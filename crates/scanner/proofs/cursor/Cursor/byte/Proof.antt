@@ -6,12 +6,6 @@ use borrow.Author.Needs.{needs}
 use Rattle.scanner.proofs.cursor.Cursor.byte.Statement.{statement}
 use Rattle.scanner.proofs.cursor.Cursor.byte.Tie as tie
 
-shared-slice-read-t8 : tie.Need-shared-slice-read-t8
-shared-slice-read-t8 c = search needs
-
-add-t9 : tie.Need-add-t9
-add-t9 c = search needs
-
 returns : tie.Need-returns
 unfolding ByteRead
 returns c = record { within = c .before .if1 .taken; value = refl; past = omega arith }
@@ -21,4 +15,4 @@ unfolding ByteRead
 returns-2 c = omega arith
 
 pub byte-spec : {M : Type 1} → statement M
-byte-spec = tie.close (tie.spec shared-slice-read-t8 add-t9 returns returns-2)
+byte-spec = tie.close (tie.spec (search needs) (search needs) returns returns-2)

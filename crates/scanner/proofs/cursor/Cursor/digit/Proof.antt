@@ -9,15 +9,6 @@ use borrow.Author.Needs.{needs}
 use Rattle.scanner.proofs.cursor.Cursor.digit.Statement.{statement}
 use Rattle.scanner.proofs.cursor.Cursor.digit.Tie as tie
 
-byte-requires : tie.Need-byte-requires
-byte-requires c κs = search needs
-
-enum-known-b : tie.Need-enum-known-b
-enum-known-b c = search needs
-
-is-digit-requires : tie.Need-is-digit-requires
-is-digit-requires c κs = search needs
-
 sub-t9 : tie.Need-sub-t9
 sub-t9 c =
     let after-b = c .before .before .before in
@@ -25,12 +16,6 @@ sub-t9 c =
     let after-shared-slice-known = after-byte .before in
     let start = after-shared-slice-known .before in
     let b = (byte-is _ _ _ _ _ (after-b .b .given .1) (after-byte .byte .ensures)) in digit-range _ (omega (arith, b .value, after-shared-slice-known .shared-slice-known .given (start .args .self .at))) (sym (c .before .is-digit .ensures) ∙ c .if1 .taken) .0
-
-cast-t10 : tie.Need-cast-t10
-cast-t10 c = search needs
-
-enum-told : tie.Need-enum-told
-enum-told c = search needs
 
 returns : tie.Need-returns
 unfolding DigitRead
@@ -53,12 +38,12 @@ pub digit-spec : {M : Type 1} → statement M
 digit-spec =
     tie.close
     (tie.spec
-    byte-requires
-    enum-known-b
-    is-digit-requires
+    (λ c κs. search needs)
+    (search needs)
+    (λ c κs. search needs)
     sub-t9
-    cast-t10
-    enum-told
+    (search needs)
+    (search needs)
     returns
     returns-2
     returns-3)

@@ -8,15 +8,6 @@ use borrow.Author.Needs.{needs}
 use Rattle.scanner.proofs.cursor.Cursor.point.Statement.{statement}
 use Rattle.scanner.proofs.cursor.Cursor.point.Tie as tie
 
-byte-requires : tie.Need-byte-requires
-byte-requires c κs = search needs
-
-enum-known-b : tie.Need-enum-known-b
-enum-known-b c = search needs
-
-enum-told : tie.Need-enum-told
-enum-told c = search needs
-
 returns : tie.Need-returns
 unfolding PointRead kind between
 returns c = of-kind _ _ _ _ (byte-is _ _ _ _ _ (c .before .before .b .given .1) (c .before .before .before .before .byte .ensures)) (counts point) (ap kind (c .if1 .taken))
@@ -30,4 +21,4 @@ unfolding PointRead
 returns-3 c = end-not _ _ _ (c .enum-told .given .1) (c .before .before .byte .ensures) (counts point)
 
 pub point-spec : {M : Type 1} → statement M
-point-spec = tie.close (tie.spec byte-requires enum-known-b enum-told returns returns-2 returns-3)
+point-spec = tie.close (tie.spec (λ c κs. search needs) (search needs) (search needs) returns returns-2 returns-3)

@@ -7,15 +7,6 @@ use borrow.Author.Needs.{needs}
 use Rattle.scanner.proofs.cursor.Cursor.separator.Statement.{statement}
 use Rattle.scanner.proofs.cursor.Cursor.separator.Tie as tie
 
-byte-requires : tie.Need-byte-requires
-byte-requires c κs = search needs
-
-enum-known-b : tie.Need-enum-known-b
-enum-known-b c = search needs
-
-enum-told : tie.Need-enum-told
-enum-told c = search needs
-
 returns : tie.Need-returns
 unfolding SeparatorRead
 returns c = of-byte _ _ _ _ _ (c .before .before .b .given .1) (c .before .before .before .before .byte .ensures) _ (c .if1 .taken)
@@ -34,4 +25,4 @@ returns-4 c = let e = (byte-end _ _ _ (c .enum-told .given .1) (c .before .befor
 
 pub separator-spec : {M : Type 1} → statement M
 separator-spec =
-    tie.close (tie.spec byte-requires enum-known-b enum-told returns returns-2 returns-3 returns-4)
+    tie.close (tie.spec (λ c κs. search needs) (search needs) (search needs) returns returns-2 returns-3 returns-4)
