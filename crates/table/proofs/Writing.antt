@@ -5,7 +5,7 @@ use Prim.Native.Nat.{ℕ, _+_, _*_, _<_, _≤_}
 use native.Mathlib.Omega.{arith}
 use lib.ListN.{length, take, set, length-append}
 use lib.Seq.{length-take-le}
-use Rattle.pattern.specs.Numbers.{header-size, record-size, mark, version}
+use Rattle.pattern.specs.Numbers.{atoms-place, length-place, header-size, record-size, mark, version}
 use Rattle.pattern.specs.Bytes.{Bytes, word}
 use Rattle.pattern.specs.Stores.{stored, Puts}
 use Rattle.pattern.specs.Syntax.{pattern, Syntax, size}
@@ -18,7 +18,7 @@ use Rattle.table.specs.Write.{put-records, WriteTablePre, table-of, outp
 use Rattle.table.specs.declared.write.Written.the-variants.{Length, Room}
 
 -- records before other bytes
-pub flat-over : (xs : List Rec) (s : Bytes) → flat xs s ≡ flat xs [] ++ s
+flat-over : (xs : List Rec) (s : Bytes) → flat xs s ≡ flat xs [] ++ s
 unfolding flat
 flat-over [] s = refl
 flat-over (r ∷ xs) s = ap (λ l. r .kind ∷ r .ends ∷ word (r .low) (word (r .high) (word (r .a) (word (r .b) l)))) (flat-over xs s)
@@ -59,13 +59,13 @@ module _ (position n m : ℕ) (recs text table : Bytes) (pre : WriteTablePre n m
   no-room h = sym (put-short position (table-of n m recs text) table (omega (arith, table-size)))
 
   -- the stores one after the other
-  pub writes-table : (mark′ t₁ t₂ t₃ t₄ : Bytes) → header-size + record-size * n + m ≤ length table → mark′ ≡ mark ++ word version [] → t₁ ≡ stored table 0 (take 5 mark′)
-      → t₂ ≡ stored (set t₁ 5 n) 6 (word m []) → t₃ ≡ stored t₂ header-size (take (record-size * n) recs) → t₄ ≡ stored t₃ (header-size + record-size * n) (take m text)
+  pub writes-table : (mark′ t₁ t₂ t₃ t₄ : Bytes) → header-size + record-size * n + m ≤ length table → mark′ ≡ mark ++ word version [] → t₁ ≡ stored table 0 (take atoms-place mark′)
+      → t₂ ≡ stored (set t₁ atoms-place n) length-place (word m []) → t₃ ≡ stored t₂ header-size (take (record-size * n) recs) → t₄ ≡ stored t₃ (header-size + record-size * n) (take m text)
       → output-of position (Length (header-size + record-size * n + m)) t₄ ≡ put position (table-of n m recs text) table
   writes-table mark′ t₁ t₂ t₃ t₄ h e e₁ e₂ e₃ e₄ =
       let r : Bytes = take (record-size * n) recs in
       let v : Bytes = take m text in
-      let a : Puts table 0 (mark ++ word version []) t₁ 5 = record { bytes = e₁ ∙ rw e; next = refl } in
+      let a : Puts table 0 (mark ++ word version []) t₁ atoms-place = record { bytes = e₁ ∙ rw e; next = refl } in
       let b : Puts table 0 eight t₂ header-size = puts-then (puts-more a n) (record { bytes = e₂; next = refl }) in
       let c : Puts table 0 (eight ++ r) t₃ (header-size + record-size * n) = puts-then b (record { bytes = e₃; next = ap (λ k. header-size + k) (sym (length-take-le (record-size * n) recs (pre .recs-there))) }) in
       let d : Puts table 0 ((eight ++ r) ++ v) t₄ (header-size + record-size * n + m) = puts-then c (record { bytes = e₄; next = ap (λ k. header-size + record-size * n + k) (sym (length-take-le m text (pre .text-there))) }) in
