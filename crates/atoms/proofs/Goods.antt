@@ -8,9 +8,9 @@ use lib.ListN.{length, getD}
 use Rattle.pattern.specs.Numbers.{atom-limit}
 use Rattle.pattern.specs.Bytes.{Bytes}
 use Rattle.pattern.specs.Syntax.{Sort, pattern, atom, Syntax, last, then, repeat, codes, literal, group, only, or, size, top-size, nodes}
-use Rattle.pattern.specs.Within.{Fits, Good, Limited}
+use Rattle.pattern.specs.Within.{Fits, InLimits, Limited}
 use Rattle.pattern.specs.Print.{print}
-use Rattle.pattern.specs.Decode.{blank, tree-of, decode}
+use Rattle.pattern.specs.Decode.{dummy, tree-of, decode}
 use Rattle.pattern.proofs.Accepted.{accepted-exactly}
 use Rattle.pattern.proofs.Bound.{nodes-size}
 use Rattle.pattern.proofs.RoundTrip.{tree-encode}
@@ -81,12 +81,12 @@ fit-at [] k p l f = absurd (omega arith)
 fit-at (q ∷ u) zero p l (h, f) = h
 fit-at (q ∷ u) (suc k) p l (h, f) = fit-at u k p (omega arith) f
 
-atom-fits : (d : ℕ) (a : Syntax atom) → Good d a → AtomFits a
-unfolding Good AtomFits
+atom-fits : (d : ℕ) (a : Syntax atom) → InLimits d a → AtomFits a
+unfolding InLimits AtomFits
 atom-fits d (repeat low high b) (f, g) = f
 
-all-fit : {o : Sort} (d : ℕ) (t : Syntax o) → Good d t → AllFit (nodes t)
-unfolding Good nodes AllFit head
+all-fit : {o : Sort} (d : ℕ) (t : Syntax o) → InLimits d t → AllFit (nodes t)
+unfolding InLimits nodes AllFit head
 all-fit d (last a) g = (atom-fits d a g, all-fit d a g)
 all-fit d (then a p) (g, k) = (atom-fits d a g, fit-append (nodes a) (nodes p) (all-fit d a g) (all-fit d p k))
 all-fit d (repeat low high b) (f, g) = all-fit d b g
@@ -100,4 +100,4 @@ pub count-fits : (table : Bytes) (x : ℕ) → AtomIn table x → (low : ℕ) (h
 unfolding node AtomFits
 count-fits table x ok low high b e =
     let t = tree-of table in
-    subst AtomFits e (fit-at (nodes t) x (last blank) (omega (arith, ok .there, nodes-size t)) (all-fit 0 t (limited table t (ok .good .decoded) .tree)))
+    subst AtomFits e (fit-at (nodes t) x (last dummy) (omega (arith, ok .there, nodes-size t)) (all-fit 0 t (limited table t (ok .good .decoded) .tree)))

@@ -8,8 +8,8 @@ use lib.ListN.{length, getD, take, drop, length-append, length-drop}
 use lib.Seq.{getD-drop, take-append-seam}
 use Rattle.pattern.specs.Bytes.{Bytes}
 use Rattle.pattern.specs.Syntax.{pattern, atom, body, branches, Syntax, last, then, repeat, codes, literal, group, only, or, size, nodes}
-use Rattle.pattern.specs.Table.{pool, choices, kind-field, a-field, b-field, rec, records}
-use Rattle.pattern.specs.Decode.{blank, layout, its, high-of, tree-of}
+use Rattle.pattern.specs.Table.{pool, branch-count, kind-field, a-field, b-field, rec, records}
+use Rattle.pattern.specs.Decode.{dummy, layout, record-at, high-of, tree-of}
 use Rattle.pattern.proofs.Bound.{all-nodes, nodes-size, outside}
 use Rattle.pattern.proofs.Stretch.{slice-take}
 use Rattle.pattern.proofs.Records.{Placed, head-there, then-there}
@@ -18,12 +18,12 @@ use Rattle.pattern.proofs.Nodes.{At, at-atom, at-last, at-next, at-branch, Held
 use Rattle.pattern.proofs.Calls.{decoded-encode}
 use Rattle.table.specs.declared.record.Record.{Record}
 use Rattle.table.specs.Fields.{record-of, RecordIn}
-use Rattle.atoms.specs.Atoms.{atoms, node, branches-from, head, inside, AtomIn}
+use Rattle.atoms.specs.Atoms.{atoms, node, branches-from, head, body-of, AtomIn}
 use Rattle.atoms.specs.Records.{LiteralAt, GroupIn, FollowedIn, RecordOf}
 use Rattle.atoms.proofs.Goods.{count-fits}
 
 -- the first node of a pattern is the pattern
-first-node : (p : Syntax pattern) (xs : List (Syntax pattern)) → getD (nodes p ++ xs) 0 (last blank) ≡ p
+first-node : (p : Syntax pattern) (xs : List (Syntax pattern)) → getD (nodes p ++ xs) 0 (last dummy) ≡ p
 unfolding nodes
 first-node (last a) xs = refl
 first-node (then a p) xs = refl
@@ -33,16 +33,16 @@ module _ (table : Bytes) where
   unfolding node
   at-node {x} {p} h =
       let z : x ≡ x + 0 = omega arith in
-      ap (λ (k : ℕ). getD (nodes (tree-of table)) k (last blank)) z
-      ∙ sym (getD-drop x (nodes (tree-of table)) 0 (last blank)) ∙ ap (λ (l : List (Syntax pattern)). getD l 0 (last blank)) (h .from) ∙ first-node p (h .rest)
+      ap (λ (k : ℕ). getD (nodes (tree-of table)) k (last dummy)) z
+      ∙ sym (getD-drop x (nodes (tree-of table)) 0 (last dummy)) ∙ ap (λ (l : List (Syntax pattern)). getD l 0 (last dummy)) (h .from) ∙ first-node p (h .rest)
 
   at-size : {x : ℕ} {p : Syntax pattern} → At (nodes (tree-of table)) x p → x + size p ≤ atoms table
   at-size {x} {p} h =
       omega (arith, simp (length-drop, length-append) at (ap length (h .from)), nodes-size (tree-of table), nodes-size p, some-pattern p)
 
   -- the branches that begin at atom y
-  at-branches : (bs : Syntax branches) (y : ℕ) → At (nodes (tree-of table)) y bs → (k : ℕ) → k ≡ choices bs → (0 < k) × (bs ≡ branches-from table (k - 1) y) × (y + size bs ≤ atoms table)
-  unfolding choices branches-from nodes size
+  at-branches : (bs : Syntax branches) (y : ℕ) → At (nodes (tree-of table)) y bs → (k : ℕ) → k ≡ branch-count bs → (0 < k) × (bs ≡ branches-from table (k - 1) y) × (y + size bs ≤ atoms table)
+  unfolding branch-count branches-from nodes size
   at-branches (only p) y h k c =
       let g : At (nodes (tree-of table)) y p = record { rest = h .rest; from = h .from } in
       let z : k - 1 ≡ 0 = omega arith in
@@ -66,7 +66,7 @@ record View (table : Bytes) (x : ℕ) : Type 0 where
   pub text : ℕ
   pub over : Bytes
   pub heads : head (node table x) ≡ repeat low high bodied
-  pub fields : its table (layout table) x ≡ rec ends low high bodied x text
+  pub fields : record-at table (layout table) x ≡ rec ends low high bodied x text
   pub words : drop (layout table .pool + text) table ≡ pool bodied ++ over
   pub inner : At (nodes (tree-of table)) (x + 1) bodied
   pub is-last : ends ≡ 1 → node table x ≡ last (head (node table x))
@@ -148,7 +148,7 @@ unfolding a-field b-field pool
 literal-fields b v i p e = (ap pool e, ap (λ (y : Syntax body). a-field y p) e, ap (λ (y : Syntax body). b-field y i) e)
 
 kinds-group : (b : Syntax body) (i p : ℕ) → (kind-field b ≡ 1 → ⊥) → (kind-field b ≡ 2 → ⊥)
-    → (bs : Syntax branches) × (b ≡ group bs) × (a-field b p ≡ choices bs) × (b-field b i ≡ suc i + size b) × (size b ≡ size bs)
+    → (bs : Syntax branches) × (b ≡ group bs) × (a-field b p ≡ branch-count bs) × (b-field b i ≡ suc i + size b) × (size b ≡ size bs)
 unfolding kind-field a-field b-field size
 kinds-group (codes set) i p n m = absurd (n refl)
 kinds-group (literal value) i p n m = absurd (m refl)
@@ -173,15 +173,15 @@ module _ (table : Bytes) (x : ℕ) (ok : AtomIn table x) where
   abbrev b : Syntax body
   b = v .bodied
 
-  inside-is : inside (head (node table x)) ≡ b
-  unfolding inside
-  inside-is = ap inside (v .heads)
+  inside-is : body-of (head (node table x)) ≡ b
+  unfolding body-of
+  inside-is = ap body-of (v .heads)
 
   size-is : size (head (node table x)) ≡ suc (size b)
   unfolding size
   size-is = ap size (v .heads)
 
-  module _ (r : Record) (got : r ≡ record-of (its table (layout table) x)) where
+  module _ (r : Record) (got : r ≡ record-of (record-at table (layout table) x)) where
     said : r ≡ record-of (rec (v .ends) (v .low) (v .high) b x (v .text))
     said = got ∙ ap record-of (v .fields)
 
@@ -220,7 +220,7 @@ module _ (table : Bytes) (x : ℕ) (ok : AtomIn table x) where
 
     pub record-is : RecordOf table x r
     record-is =
-        let c : head (node table x) ≡ repeat (r .low) (high-of (r .high)) (inside (head (node table x))) = v .heads ∙ count-is ∙ ap (repeat (r .low) (high-of (r .high))) (sym inside-is) in
+        let c : head (node table x) ≡ repeat (r .low) (high-of (r .high)) (body-of (head (node table x))) = v .heads ∙ count-is ∙ ap (repeat (r .low) (high-of (r .high))) (sym inside-is) in
         record {
           count = c;
           fits = count-fits table x ok (r .low) (high-of (r .high)) _ c;
@@ -234,7 +234,7 @@ module _ (table : Bytes) (x : ℕ) (ok : AtomIn table x) where
         }
 
     -- a literal's value lies in the pool, where the record says
-    module _ (w : Bytes) (e : inside (head (node table x)) ≡ literal w) where
+    module _ (w : Bytes) (e : body-of (head (node table x)) ≡ literal w) where
       pub literal-none : r .b ≡ 0 → LiteralAt table x 0 (r .b)
       literal-none z =
           let (p, a, l) = literal-fields b w x (v .text) (sym inside-is ∙ e) in

@@ -5,7 +5,7 @@ use Prim.Native.Nat.{ℕ, zero, suc, _+_, _<_}
 use lib.ListN.{getD}
 use Rattle.pattern.specs.Bytes.{Bytes}
 use Rattle.pattern.specs.Syntax.{pattern, atom, body, branches, Syntax, last, then, repeat, only, or, size, nodes}
-use Rattle.pattern.specs.Decode.{blank, tree-of, decode}
+use Rattle.pattern.specs.Decode.{dummy, tree-of, decode}
 
 -- the table is good: its tree is what it is read as
 pub record GoodTable (table : Bytes) : Type 0 where
@@ -17,7 +17,7 @@ atoms table = size (tree-of table)
 
 -- atom x with its followers
 unfoldable pub node : Bytes → ℕ → Syntax pattern
-node table x = getD (nodes (tree-of table)) x (last blank)
+node table x = getD (nodes (tree-of table)) x (last dummy)
 
 -- the branch that begins at atom x, and more branches after it
 unfoldable pub branches-from : Bytes → (more x : ℕ) → Syntax branches
@@ -29,8 +29,8 @@ unfoldable pub head : Syntax pattern → Syntax atom
 head (last a) = a
 head (then a p) = a
 
-unfoldable pub inside : Syntax atom → Syntax body
-inside (repeat low high b) = b
+unfoldable pub body-of : Syntax atom → Syntax body
+body-of (repeat low high b) = b
 
 -- a good table has an atom x
 pub record AtomIn (table : Bytes) (x : ℕ) : Type 0 where

@@ -9,23 +9,23 @@ use Rattle.pattern.specs.Syntax.{last, then, repeat, codes, literal, group, siz
 use Rattle.pattern.specs.Within.{Fits}
 use Rattle.pattern.specs.Decode.{high-of}
 use Rattle.table.specs.declared.record.Record.{Record}
-use Rattle.atoms.specs.Atoms.{atoms, node, branches-from, head, inside, AtomIn}
+use Rattle.atoms.specs.Atoms.{atoms, node, branches-from, head, body-of, AtomIn}
 
 -- atom x is a literal
 pub record LiteralIn (table : Bytes) (x : ℕ) : Type 0 where
   pub atom : AtomIn table x
   pub value : Bytes
-  pub is : inside (head (node table x)) ≡ literal value
+  pub is : body-of (head (node table x)) ≡ literal value
 
 -- its value lies there
 pub record LiteralAt (table : Bytes) (x from len : ℕ) : Type 0 where
-  pub is : inside (head (node table x)) ≡ literal (slice from (from + len) table)
+  pub is : body-of (head (node table x)) ≡ literal (slice from (from + len) table)
   pub within : from + len ≤ length table
 
 -- atom x is a group of this many branches
 pub record GroupIn (table : Bytes) (x count : ℕ) : Type 0 where
   pub some : 0 < count
-  pub is : inside (head (node table x)) ≡ group (branches-from table (count - 1) (x + 1))
+  pub is : body-of (head (node table x)) ≡ group (branches-from table (count - 1) (x + 1))
   pub sized : size (head (node table x)) ≡ suc (size (branches-from table (count - 1) (x + 1)))
   pub within : x + 1 + size (branches-from table (count - 1) (x + 1)) ≤ atoms table
 
@@ -36,9 +36,9 @@ pub record FollowedIn (table : Bytes) (x : ℕ) : Type 0 where
 
 -- r is the record of atom x
 pub record RecordOf (table : Bytes) (x : ℕ) (r : Record) : Type 0 where
-  pub count : head (node table x) ≡ repeat (r .low) (high-of (r .high)) (inside (head (node table x)))
+  pub count : head (node table x) ≡ repeat (r .low) (high-of (r .high)) (body-of (head (node table x)))
   pub fits : Fits (r .low) (high-of (r .high))
-  pub is-codes : r .kind ≡ codes-kind → inside (head (node table x)) ≡ codes (r .a)
+  pub is-codes : r .kind ≡ codes-kind → body-of (head (node table x)) ≡ codes (r .a)
   pub is-literal : r .kind ≡ literal-kind → LiteralIn table x
   pub is-group : (r .kind ≡ codes-kind → ⊥) → (r .kind ≡ literal-kind → ⊥) → GroupIn table x (r .a)
   pub next-group : r .kind ≡ group-kind → r .b ≡ x + size (head (node table x))

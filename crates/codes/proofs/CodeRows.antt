@@ -9,7 +9,7 @@ use lib.Dec.{T, leb, leb→le, eqb}
 use borrow.Author.Tests.{eq-eqb, ne-eqb}
 use lib.ListN.{length, getD, take, drop}
 use Rattle.pattern.specs.Bytes.{Bytes, between}
-use Rattle.pattern.specs.Codes.{Code, all-codes, ranged, coded, in-set, bit-among}
+use Rattle.pattern.specs.Codes.{Code, all-codes, in-ranges, in-codes, in-set, bit-among}
 use Rattle.codes.specs.declared.Code.{Code as Row}
 use Rattle.codes.specs.Rows.{letter-at, ranges-at, in-four}
 use Rattle.pattern.proofs.Tests.{and-both, agree, agreed, all, all-at}
@@ -43,11 +43,11 @@ unfolding all-codes flatten
 rows = map (λ (c : Code). record { letter = c .letter; ranges = take 8 (flatten (c .ranges) ++ 1 ∷ 0 ∷ 1 ∷ 0 ∷ 1 ∷ 0 ∷ []) }) all-codes
 
 -- the ranges of a row are those of its code, at every byte
-pub row-ranges : (k b : ℕ) (d : Row) → k < 7 → b < 256 → in-four (getD rows k d .ranges) b ≡ ranged (ranges-at k) b
-unfolding rows every all agree ranges-at all-codes ranged between
+pub row-ranges : (k b : ℕ) (d : Row) → k < 7 → b < 256 → in-four (getD rows k d .ranges) b ≡ in-ranges (ranges-at k) b
+unfolding rows every all agree ranges-at all-codes in-ranges between
 row-ranges k b d h g =
-    agreed _ _ (all-at 256 (λ b. agree (in-four (getD rows k d .ranges) b) (ranged (ranges-at k) b))
-    (rule-at (λ k (x : Row). all 256 (λ b. agree (in-four (x .ranges) b) (ranged (ranges-at k) b))) rows d tt k h) b g)
+    agreed _ _ (all-at 256 (λ b. agree (in-four (getD rows k d .ranges) b) (in-ranges (ranges-at k) b))
+    (rule-at (λ k (x : Row). all 256 (λ b. agree (in-four (x .ranges) b) (in-ranges (ranges-at k) b))) rows d tt k h) b g)
 
 -- ---- the codes from the one with bit k on
 
@@ -100,10 +100,10 @@ regrouped : (a c e l n p u : Bool) → (a || c || e || l || n || p || u) ≡ (a 
 regrouped a c e l n p u = simp (or-assoc, or-false)
 
 abbrev asked : (left k b : ℕ) → Bool
-asked left k b = eqb (left % 2) 1 && ranged (ranges-at k) b
+asked left k b = eqb (left % 2) 1 && in-ranges (ranges-at k) b
 
 -- the seven in turn
 pub in-turn : (set b : ℕ) {a c e l n p u : Bool} → a ≡ asked set 0 b → c ≡ asked (set / 2) 1 b → e ≡ asked (set / 2 / 2) 2 b → l ≡ asked (set / 2 / 2 / 2) 3 b → n ≡ asked (set / 2 / 2 / 2 / 2) 4 b
     → p ≡ asked (set / 2 / 2 / 2 / 2 / 2) 5 b → u ≡ asked (set / 2 / 2 / 2 / 2 / 2 / 2) 6 b → (a || c || e || l || n || p || u) ≡ in-set set b
-unfolding in-set coded all-codes ranges-at
+unfolding in-set in-codes all-codes ranges-at
 in-turn set b {a} {c} {e} {l} {n} {p} {u} x0 x1 x2 x3 x4 x5 x6 = regrouped a c e l n p u ∙ cc

@@ -4,7 +4,7 @@ ghost use mathlib.Core.Bool.{_&&_};
 ghost use Prim.Native.Nat.{_<_, _%_};
 ghost use lib.Dec.{eqb};
 ghost use Rattle.pattern.specs.Bytes.{between};
-ghost use Rattle.pattern.specs.Codes.{ranged, in-set, bit};
+ghost use Rattle.pattern.specs.Codes.{in-ranges, in-set, bit};
 ghost use Rattle.codes.specs.Rows.{letter-at, ranges-at, in-four};
 
 // A capital letter, and four ranges of bytes, each its first and its last; a range from 1 to 0 is empty.
@@ -98,7 +98,7 @@ fn in_ranges(r: [u8; 8], b: u8) -> bool
 // A byte is of the code with bit k.
 fn in_code(k: usize, b: u8) -> bool
     requires { ⌜ k < 7 ⌝ }
-    ensures { λ r. ⌜ r ≡ ranged (ranges-at k) b ⌝ }
+    ensures { λ r. ⌜ r ≡ in-ranges (ranges-at k) b ⌝ }
 {
     let code = CODES[k];
     let r = code.ranges;
@@ -108,7 +108,7 @@ fn in_code(k: usize, b: u8) -> bool
 // The lowest bit of what is left of a set is 1, and a byte is of the code with bit k.
 fn has(left: u16, k: usize, b: u8) -> bool
     requires { ⌜ k < 7 ⌝ }
-    ensures { λ r. ⌜ r ≡ (eqb (left % 2) 1 && ranged (ranges-at k) b) ⌝ }
+    ensures { λ r. ⌜ r ≡ (eqb (left % 2) 1 && in-ranges (ranges-at k) b) ⌝ }
 {
     if left % 2 == 1 { in_code(k, b) } else { false }
 }

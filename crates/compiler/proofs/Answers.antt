@@ -9,16 +9,16 @@ use borrow.Author.Tests.{le-leb, lt-leb}
 use Rattle.pattern.specs.Numbers.{source-limit, LONG, FORM}
 use Rattle.pattern.specs.Bytes.{Bytes}
 use Rattle.pattern.specs.Syntax.{pattern, Syntax, size}
-use Rattle.pattern.specs.Reading.{top, start}
+use Rattle.pattern.specs.Parser.{top, start}
 use Rattle.pattern.specs.Scan.{depth, Outcome, refused, accepted, scan, outcome}
 use Rattle.pattern.specs.Table.{pool, encode}
 use Rattle.pattern.specs.Answers.{Answer, refusal, Output, put, compiled, compileOf}
-use Rattle.pattern.proofs.SpeltReads.{ended}
+use Rattle.pattern.proofs.ParserComplete.{ended}
 use Rattle.compiler.specs.declared.reader.State.{State}
 use Rattle.compiler.specs.declared.reader.Parsed.{Parsed}
 use Rattle.compiler.specs.declared.reader.Parsed.the-variants as parsed
 use Rattle.scanner.specs.Scans.{scanned}
-use Rattle.compiler.specs.Readers.{Refused, PatternIs, PatternRead}
+use Rattle.compiler.specs.Readers.{Refused, PatternIs, ReadPatternPost}
 use Rattle.table.specs.declared.write.Written.{Written}
 use Rattle.table.specs.Write.{records-room, table-of, output-of, WriteTablePost}
 use Rattle.table.proofs.Writing.{table-is}
@@ -45,10 +45,10 @@ from-start = state (record { at = 0 }) 0 0
 
 -- the reader's answer, and the buffers before and after
 module _ (s table : Bytes) (short : length s ≤ source-limit) (recs recs′ text text′ : Bytes) where
-  pub compile-fault : (a : Parsed) (f p : ℕ) → a ≡ parsed.Fault f p → PatternRead s from-start 0 recs recs′ text text′ a → output (refusal f p) table ≡ compileOf s table
-  unfolding PatternRead depth compiled
+  pub compile-fault : (a : Parsed) (f p : ℕ) → a ≡ parsed.Fault f p → ReadPatternPost s from-start 0 recs recs′ text text′ a → output (refusal f p) table ≡ compileOf s table
+  unfolding ReadPatternPost depth compiled
   compile-fault a f p e h =
-      let x : Refused s 0 0 0 f p = subst (λ a. PatternRead s from-start 0 recs recs′ text text′ a) e h in
+      let x : Refused s 0 0 0 f p = subst (λ a. ReadPatternPost s from-start 0 recs recs′ text text′ a) e h in
       compile-by s table (refused f p) (short-outcome s short ∙ x .scan (top []) refl)
 
   module _ (u : State) (h : PatternIs s from-start 0 recs recs′ text text′ u) where

@@ -18,19 +18,19 @@ use Rattle.compiler.specs.declared.reader.State.{State}
 use Rattle.compiler.specs.declared.reader.Parsed.the-variants as parsed
 use Rattle.scanner.specs.Places.{flag}
 use Rattle.table.specs.Write.{rec-of, put-records}
-use Rattle.scanner.specs.Bodies.{CodesRead, LiteralIs, LiteralRead}
-use Rattle.compiler.specs.Readers.{Settled, LeafRead, CodedRead, WordedRead}
+use Rattle.scanner.specs.Bodies.{CodesFromPost, LiteralIs, QuotedPost}
+use Rattle.compiler.specs.Readers.{BodyEnds, LeafPost, ReadCodesPost, ReadLiteralPost}
 
 abbrev pub state : Cursor → ℕ → ℕ → State
 state at n p = record { at = at; atoms = n; pool = p }
 
 module _ (s : Bytes) (i n p : ℕ) (rep : Repeat) (recs recs′ : Bytes) where
-  module _ (r : Letters) (read : CodesRead s i r) where
-    pub coded-done : (set f : ℕ) (next : Cursor) → r ≡ letters.Set set next → f ≡ flag s (next .at)
-        → recs′ ≡ put-records recs n (rec-of codes-kind f rep set 0 ∷ []) → p ≤ i → CodedRead s i n p rep recs recs′ (parsed.Done (state next (n + 1) p))
-    unfolding CodesRead LeafRead records size pool kind-field a-field b-field Settled
-    coded-done set f next e g w h =
-        let (a, b, c, d, o) = subst (λ r. CodesRead s i r) e read in
+  module _ (r : Letters) (read : CodesFromPost s i r) where
+    pub codes-done : (set f : ℕ) (next : Cursor) → r ≡ letters.Set set next → f ≡ flag s (next .at)
+        → recs′ ≡ put-records recs n (rec-of codes-kind f rep set 0 ∷ []) → p ≤ i → ReadCodesPost s i n p rep recs recs′ (parsed.Done (state next (n + 1) p))
+    unfolding CodesFromPost LeafPost records size pool kind-field a-field b-field BodyEnds
+    codes-done set f next e g w h =
+        let (a, b, c, d, o) = subst (λ r. CodesFromPost s i r) e read in
         record {
           body = codes set;
           alone = λ x y z. refl;
@@ -46,19 +46,19 @@ module _ (s : Bytes) (i n p : ℕ) (rep : Repeat) (recs recs′ : Bytes) where
           settled = o;
         }
 
-    pub coded-fault : (q : ℕ) → r ≡ letters.Fault q → CodedRead s i n p rep recs recs′ (parsed.Fault CODE q)
-    unfolding CodesRead LeafRead
-    coded-fault q e = subst (λ r. CodesRead s i r) e read
+    pub codes-fault : (q : ℕ) → r ≡ letters.Fault q → ReadCodesPost s i n p rep recs recs′ (parsed.Fault CODE q)
+    unfolding CodesFromPost LeafPost
+    codes-fault q e = subst (λ r. CodesFromPost s i r) e read
 
-  module _ (text text′ : Bytes) (r : Literal) (read : LiteralRead s i p text text′ r) where
+  module _ (text text′ : Bytes) (r : Literal) (read : QuotedPost s i p text text′ r) where
     pub literal-is : (next : Cursor) (end : ℕ) → r ≡ literals.Value next end → LiteralIs s i p text text′ next end
-    unfolding LiteralRead
-    literal-is next end e = subst (λ r. LiteralRead s i p text text′ r) e read
+    unfolding QuotedPost
+    literal-is next end e = subst (λ r. QuotedPost s i p text text′ r) e read
 
-    pub worded-done : (f : ℕ) (next : Cursor) (end : ℕ) → r ≡ literals.Value next end → f ≡ flag s (next .at)
-        → recs′ ≡ put-records recs n (rec-of literal-kind f rep p (end - p) ∷ []) → WordedRead s i n p rep recs recs′ text text′ (parsed.Done (state next (n + 1) end))
-    unfolding LeafRead records size pool kind-field a-field b-field Settled
-    worded-done f next end e g w =
+    pub literal-done : (f : ℕ) (next : Cursor) (end : ℕ) → r ≡ literals.Value next end → f ≡ flag s (next .at)
+        → recs′ ≡ put-records recs n (rec-of literal-kind f rep p (end - p) ∷ []) → ReadLiteralPost s i n p rep recs recs′ text text′ (parsed.Done (state next (n + 1) end))
+    unfolding LeafPost records size pool kind-field a-field b-field BodyEnds
+    literal-done f next end e g w =
         let v = literal-is next end e in
         let z : end - p ≡ length (v .value) = omega (arith, v .end-is) in
         record {
@@ -76,6 +76,6 @@ module _ (s : Bytes) (i n p : ℕ) (rep : Repeat) (recs recs′ : Bytes) where
           settled = v .rests;
         }
 
-    pub worded-fault : (q : ℕ) → r ≡ literals.Fault q → WordedRead s i n p rep recs recs′ text text′ (parsed.Fault FORM q)
-    unfolding LiteralRead LeafRead
-    worded-fault q e = subst (λ r. LiteralRead s i p text text′ r) e read
+    pub literal-fault : (q : ℕ) → r ≡ literals.Fault q → ReadLiteralPost s i n p rep recs recs′ text text′ (parsed.Fault FORM q)
+    unfolding QuotedPost LeafPost
+    literal-fault q e = subst (λ r. QuotedPost s i p text text′ r) e read

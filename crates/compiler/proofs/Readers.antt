@@ -9,65 +9,65 @@ use lib.ListN.{length}
 use Rattle.pattern.specs.Numbers.{atom-limit, depth-limit, comma-byte, group-kind, FORM, DEPTH}
 use Rattle.pattern.specs.Bytes.{Bytes}
 use Rattle.pattern.specs.Syntax.{pattern, atom, body, branches, Syntax, last, then, repeat, group, only, or, size}
-use Rattle.pattern.specs.Spelling.{quote, opening, starts}
-use Rattle.pattern.specs.Reading.{counting, empty, Around, within, fork, next}
+use Rattle.pattern.specs.Grammar.{quote, opening, body-start}
+use Rattle.pattern.specs.Parser.{counting, empty, Stack, within, fork, next}
 use Rattle.pattern.specs.Scan.{low, high, depth}
-use Rattle.pattern.specs.Table.{pool, choices}
+use Rattle.pattern.specs.Table.{pool, branch-count}
 use Rattle.pattern.specs.declared.repeat.Repeat.{Repeat}
 use Rattle.pattern.proofs.RoundTrip.{some-pattern}
-use Rattle.pattern.proofs.SpeltReads.{ended}
+use Rattle.pattern.proofs.ParserComplete.{ended}
 use Rattle.scanner.specs.declared.cursor.Cursor.{Cursor}
 use Rattle.scanner.specs.declared.cursor.Class.{Class}
 use Rattle.scanner.specs.declared.cursor.Class.the-variants as class
 use Rattle.scanner.specs.declared.cursor.Separator.{Separator}
 use Rattle.scanner.specs.declared.cursor.Separator.the-variants as separator
-use Rattle.scanner.specs.declared.count.Counted.{Counted}
-use Rattle.scanner.specs.declared.count.Counted.the-variants as counted
+use Rattle.scanner.specs.declared.count.CountResult.{CountResult}
+use Rattle.scanner.specs.declared.count.CountResult.the-variants as counted
 use Rattle.compiler.specs.declared.reader.State.{State}
 use Rattle.compiler.specs.declared.reader.Parsed.{Parsed}
 use Rattle.compiler.specs.declared.reader.Parsed.the-variants as parsed
 use Rattle.compiler.specs.declared.reader.Grouped.{Grouped}
 use Rattle.compiler.specs.declared.reader.Grouped.the-variants as grouped
-use Rattle.scanner.specs.Places.{flag, ByteIs, KindIs, LetterIs, ClassRead, SeparatorRead}
+use Rattle.scanner.specs.Places.{flag, ByteIs, ClassIs, LetterIs, ClassPost, SeparatorPost}
 use Rattle.scanner.specs.Scans.{scanned}
-use Rattle.pattern.specs.Stores.{stored}
+use Rattle.pattern.specs.Stores.{store-at}
 use Rattle.table.specs.Write.{rec-of, put-records}
-use Rattle.scanner.specs.Bodies.{Inside, in-codes, in-literal}
-use Rattle.scanner.specs.Counts.{CountIs, CountRefused, CountRead}
-use Rattle.compiler.specs.Readers.{Ready, Settled, tail, LeafRead, CodedRead, WordedRead, Refused, AtomIs, AtomRead, PatternIs, PatternRead, GroupIs, GroupRefused, GroupRead}
+use Rattle.scanner.specs.Bodies.{Inside, after-codes, in-literal}
+use Rattle.scanner.specs.Counts.{CountIs, CountRefused, CountPost}
+use Rattle.compiler.specs.Readers.{ReadPre, BodyEnds, tail, LeafPost, ReadCodesPost, ReadLiteralPost, Refused, AtomIs, ReadAtomPost, PatternIs, ReadPatternPost, GroupIs, GroupRefused, ReadGroupPost}
 use Rattle.compiler.proofs.Leaves.{state}
-use Rattle.pattern.proofs.Stores.{stored-none}
+use Rattle.pattern.proofs.Stores.{store-at-none}
 use Rattle.scanner.proofs.Places.{letter-place, class-letter}
 use Rattle.compiler.proofs.Descent.{codes-enter, literal-enter, group-enter, group-deep, body-form, atom-next, depth-next, flag-count, flag-one, closes, parts, branch-form}
 use Rattle.compiler.proofs.Written.{wrote-leaf, wrote-group, wrote-last, wrote-then, wrote-only, wrote-or}
 
-pub count-is : (s : Bytes) (i n : ℕ) (r : Counted) (rep : Repeat) (next : Cursor) → r ≡ counted.Repeat rep next → CountRead s i n r → CountIs s i n rep next
-unfolding CountRead
-count-is s i n r rep next e h = subst (λ r. CountRead s i n r) e h
+pub count-is : (s : Bytes) (i n : ℕ) (r : CountResult) (rep : Repeat) (next : Cursor) → r ≡ counted.Repeat rep next → CountPost s i n r → CountIs s i n rep next
+unfolding CountPost
+count-is s i n r rep next e h = subst (λ r. CountPost s i n r) e h
 
 -- three times what is left of the source: a pattern's measure is one more, a group's two
 abbrev pub reach : Bytes → State → ℕ
 reach s st = 3 * (length s - st .at .at)
 
-pub quote-is : (s : Bytes) (at : ℕ) (r : Class) (later : Cursor) → r ≡ class.Quote later → ClassRead s at r → KindIs s at (starts quote) later
-unfolding ClassRead
-quote-is s at r later e h = subst (λ r. ClassRead s at r) e h
+pub quote-is : (s : Bytes) (at : ℕ) (r : Class) (later : Cursor) → r ≡ class.Quote later → ClassPost s at r → ClassIs s at (body-start quote) later
+unfolding ClassPost
+quote-is s at r later e h = subst (λ r. ClassPost s at r) e h
 
 pub letter-before : (s : Bytes) (at b : ℕ) (later : Cursor) → LetterIs s at b later → LetterIs s (later .at - 1) b later
 letter-before s at b later x = rw (letter-place s at b later x) x
 
 -- an atom from its count and its body
 module _ (s : Bytes) (st : State) (d : ℕ) (recs text : Bytes) where
-  pub atom-fault : (r : Counted) (f q : ℕ) (recs′ text′ : Bytes) → r ≡ counted.Fault f q → CountRead s (st .at .at) (st .atoms) r → AtomRead s st d recs recs′ text text′ (parsed.Fault f q)
-  unfolding CountRead AtomRead
-  atom-fault r f q recs′ text′ e h = let x : CountRefused s (st .at .at) (st .atoms) f q = subst (λ r. CountRead s (st .at .at) (st .atoms) r) e h in record { scan = λ k z. x .scan k }
+  pub atom-fault : (r : CountResult) (f q : ℕ) (recs′ text′ : Bytes) → r ≡ counted.Fault f q → CountPost s (st .at .at) (st .atoms) r → ReadAtomPost s st d recs recs′ text text′ (parsed.Fault f q)
+  unfolding CountPost ReadAtomPost
+  atom-fault r f q recs′ text′ e h = let x : CountRefused s (st .at .at) (st .atoms) f q = subst (λ r. CountPost s (st .at .at) (st .atoms) r) e h in record { scan = λ k z. x .scan k }
 
-  module _ (ready : Ready s st d) (rep : Repeat) (at : Cursor) (c : CountIs s (st .at .at) (st .atoms) rep at) (r : Class) (h : ClassRead s (at .at) r) where
+  module _ (ready : ReadPre s st d) (rep : Repeat) (at : Cursor) (c : CountIs s (st .at .at) (st .atoms) rep at) (r : Class) (h : ClassPost s (at .at) r) where
     -- a leaf that the scan enters after the count
     atom-leaf : (from : Inside) (P : Bytes → Type 0) (i : ℕ) (recs′ text′ : Bytes) (a : Parsed) → at .at ≤ i
-        → ((k : Around) → scanned s (counting (c .run), k) (at .at) (suc (st .atoms)) ≡ scanned s (from (low (c .run)) (high (c .run)) k) i (suc (st .atoms)))
-        → ((v : Bytes) → P v → text′ ≡ stored text (st .pool) v) → LeafRead s from P i (st .atoms) (st .pool) rep recs recs′ a → AtomRead s st d recs recs′ text text′ a
-    unfolding LeafRead AtomRead
+        → ((k : Stack) → scanned s (counting (c .run), k) (at .at) (suc (st .atoms)) ≡ scanned s (from (low (c .run)) (high (c .run)) k) i (suc (st .atoms)))
+        → ((v : Bytes) → P v → text′ ≡ store-at text (st .pool) v) → LeafPost s from P i (st .atoms) (st .pool) rep recs recs′ a → ReadAtomPost s st d recs recs′ text text′ a
+    unfolding LeafPost ReadAtomPost
     atom-leaf from P i recs′ text′ (parsed.Fault f q) o y w x = record { scan = λ k z. c .scan k ∙ y k ∙ x .scan (low (c .run)) (high (c .run)) k (suc (st .atoms)) }
     atom-leaf from P i recs′ text′ (parsed.Done u) o y w x =
         let l : ℕ = low (c .run) in
@@ -83,52 +83,52 @@ module _ (s : Bytes) (st : State) (d : ℕ) (recs text : Bytes) where
           settled = x .settled;
         }
 
-    pub atom-coded : (b : ℕ) (later : Cursor) (recs′ : Bytes) (a : Parsed) → r ≡ class.Letter b later → CodedRead s (later .at - 1) (st .atoms) (st .pool) rep recs recs′ a → AtomRead s st d recs recs′ text text a
-    atom-coded b later recs′ a e x =
+    pub atom-codes : (b : ℕ) (later : Cursor) (recs′ : Bytes) (a : Parsed) → r ≡ class.Letter b later → ReadCodesPost s (later .at - 1) (st .atoms) (st .pool) rep recs recs′ a → ReadAtomPost s st d recs recs′ text text a
+    atom-codes b later recs′ a e x =
         let y = class-letter s (at .at) r b later e h in
-        atom-leaf (in-codes 0) (λ v. v ≡ []) (at .at) recs′ text a (omega arith)
+        atom-leaf (after-codes 0) (λ v. v ≡ []) (at .at) recs′ text a (omega arith)
         (λ k. codes-enter s (at .at) (suc (st .atoms)) k (c .run) (c .some-run) (y .kind .within) (y .kind .kind))
-        (λ v z. rw z (sym (stored-none text (st .pool)))) (rw (letter-place s (at .at) b later y) at x)
+        (λ v z. rw z (sym (store-at-none text (st .pool)))) (rw (letter-place s (at .at) b later y) at x)
 
-    pub atom-worded : (later : Cursor) (recs′ text′ : Bytes) (a : Parsed) → r ≡ class.Quote later → WordedRead s (later .at) (st .atoms) (st .pool) rep recs recs′ text text′ a → AtomRead s st d recs recs′ text text′ a
-    atom-worded later recs′ text′ a e x =
+    pub atom-literal : (later : Cursor) (recs′ text′ : Bytes) (a : Parsed) → r ≡ class.Quote later → ReadLiteralPost s (later .at) (st .atoms) (st .pool) rep recs recs′ text text′ a → ReadAtomPost s st d recs recs′ text text′ a
+    atom-literal later recs′ text′ a e x =
         let y = quote-is s (at .at) r later e h in
-        atom-leaf (in-literal []) (λ v. text′ ≡ stored text (st .pool) v) (later .at) recs′ text′ a (omega (arith, y .past))
+        atom-leaf (in-literal []) (λ v. text′ ≡ store-at text (st .pool) v) (later .at) recs′ text′ a (omega (arith, y .past))
         (λ k. literal-enter s (at .at) (suc (st .atoms)) k (c .run) (c .some-run) (y .within) (y .kind) ∙ rw (y .past)) (λ v z. z) x
 
-    pub atom-other : (recs′ text′ : Bytes) → r ≡ class.Other → AtomRead s st d recs recs′ text text′ (parsed.Fault FORM (at .at))
-    unfolding ClassRead AtomRead
+    pub atom-other : (recs′ text′ : Bytes) → r ≡ class.Other → ReadAtomPost s st d recs recs′ text text′ (parsed.Fault FORM (at .at))
+    unfolding ClassPost ReadAtomPost
     atom-other recs′ text′ e =
-        let (u, v, w) = subst (λ r. ClassRead s (at .at) r) e h in
+        let (u, v, w) = subst (λ r. ClassPost s (at .at) r) e h in
         record { scan = λ k z. c .scan k ∙ body-form s (at .at) (suc (st .atoms)) k (c .run) (c .some-run) (λ m l y. c .stops m l y) u v w }
 
     -- a group
     module _ (later : Cursor) (e : r ≡ class.Opening later) where
-      pub opening-is : KindIs s (at .at) (starts opening) later
-      unfolding ClassRead
-      opening-is = subst (λ r. ClassRead s (at .at) r) e h
+      pub opening-is : ClassIs s (at .at) (body-start opening) later
+      unfolding ClassPost
+      opening-is = subst (λ r. ClassPost s (at .at) r) e h
 
-      pub atom-deep : (recs′ text′ : Bytes) → depth-limit ≤ d → AtomRead s st d recs recs′ text text′ (parsed.Fault DEPTH (at .at))
-      unfolding AtomRead
+      pub atom-deep : (recs′ text′ : Bytes) → depth-limit ≤ d → ReadAtomPost s st d recs recs′ text text′ (parsed.Fault DEPTH (at .at))
+      unfolding ReadAtomPost
       atom-deep recs′ text′ g = record { scan = λ k z. c .scan k ∙ group-deep s (at .at) (suc (st .atoms)) k (c .run) (c .some-run) (opening-is .within) (opening-is .kind) (rw z g) }
 
       module _ (shallow : d < depth-limit) where
-        opened : (k : Around) → depth k ≡ d → scanned s (counting empty, k) (st .at .at) (st .atoms) ≡ scanned s (counting empty, within k (low (c .run)) (high (c .run)) [] []) (later .at) (st .atoms + 1)
+        opened : (k : Stack) → depth k ≡ d → scanned s (counting empty, k) (st .at .at) (st .atoms) ≡ scanned s (counting empty, within k (low (c .run)) (high (c .run)) [] []) (later .at) (st .atoms + 1)
         opened k z = c .scan k ∙ group-enter s (at .at) (suc (st .atoms)) k (c .run) (c .some-run) (opening-is .within) (opening-is .kind) (rw z shallow) ∙ rw (opening-is .past, add-one)
 
-        pub group-ready : Ready s (state later (st .atoms + 1) (st .pool)) (d + 1)
+        pub group-ready : ReadPre s (state later (st .atoms + 1) (st .pool)) (d + 1)
         group-ready = let o = opening-is in record { within = omega (arith, o .past, o .within); atoms = omega (arith, c .room); pool = omega (arith, ready .pool, c .onward .on, o .past); shallow = omega arith }
 
         pub atom-group-fault : (g : Grouped) (f q : ℕ) (recs′ text′ : Bytes) → g ≡ grouped.Fault f q
-            → GroupRead s (state later (st .atoms + 1) (st .pool)) (d + 1) recs recs′ text text′ g → AtomRead s st d recs recs′ text text′ (parsed.Fault f q)
-        unfolding GroupRead AtomRead
+            → ReadGroupPost s (state later (st .atoms + 1) (st .pool)) (d + 1) recs recs′ text text′ g → ReadAtomPost s st d recs recs′ text text′ (parsed.Fault f q)
+        unfolding ReadGroupPost ReadAtomPost
         atom-group-fault g f q recs′ text′ y x =
-            let v : GroupRefused s (later .at) (st .atoms + 1) (d + 1) f q = subst (λ g. GroupRead s (state later (st .atoms + 1) (st .pool)) (d + 1) recs recs′ text text′ g) y x in
+            let v : GroupRefused s (later .at) (st .atoms + 1) (d + 1) f q = subst (λ g. ReadGroupPost s (state later (st .atoms + 1) (st .pool)) (d + 1) recs recs′ text text′ g) y x in
             record { scan = λ k z. opened k z ∙ v .scan k (low (c .run)) (high (c .run)) [] (omega arith) }
 
         pub atom-group : (u : State) (b f : ℕ) (recs₁ recs₂ text′ : Bytes) → GroupIs s (state later (st .atoms + 1) (st .pool)) (d + 1) recs recs₁ text text′ u b → f ≡ flag s (u .at .at)
-            → recs₂ ≡ put-records recs₁ (st .atoms) (rec-of group-kind f rep b (u .atoms) ∷ []) → AtomRead s st d recs recs₂ text text′ (parsed.Done u)
-        unfolding AtomRead Settled fork
+            → recs₂ ≡ put-records recs₁ (st .atoms) (rec-of group-kind f rep b (u .atoms) ∷ []) → ReadAtomPost s st d recs recs₂ text text′ (parsed.Done u)
+        unfolding ReadAtomPost BodyEnds fork
         atom-group u b f recs₁ recs₂ text′ v g w =
             let m = v .moved in
             let o = opening-is in
@@ -142,27 +142,27 @@ module _ (s : Bytes) (st : State) (d : ℕ) (recs text : Bytes) where
               settled = tt;
             }
 
-pub group-is : (s : Bytes) (st : State) (d : ℕ) (recs recs′ text text′ : Bytes) (g : Grouped) (u : State) (b : ℕ) → g ≡ grouped.Done u b → GroupRead s st d recs recs′ text text′ g → GroupIs s st d recs recs′ text text′ u b
-unfolding GroupRead
-group-is s st d recs recs′ text text′ g u b e h = subst (λ g. GroupRead s st d recs recs′ text text′ g) e h
+pub group-is : (s : Bytes) (st : State) (d : ℕ) (recs recs′ text text′ : Bytes) (g : Grouped) (u : State) (b : ℕ) → g ≡ grouped.Done u b → ReadGroupPost s st d recs recs′ text text′ g → GroupIs s st d recs recs′ text text′ u b
+unfolding ReadGroupPost
+group-is s st d recs recs′ text text′ g u b e h = subst (λ g. ReadGroupPost s st d recs recs′ text text′ g) e h
 
-pub atom-is : (s : Bytes) (st : State) (d : ℕ) (recs recs′ text text′ : Bytes) (a : Parsed) (u : State) → a ≡ parsed.Done u → AtomRead s st d recs recs′ text text′ a → AtomIs s st d recs recs′ text text′ u
-unfolding AtomRead
-atom-is s st d recs recs′ text text′ a u e h = subst (λ a. AtomRead s st d recs recs′ text text′ a) e h
+pub atom-is : (s : Bytes) (st : State) (d : ℕ) (recs recs′ text text′ : Bytes) (a : Parsed) (u : State) → a ≡ parsed.Done u → ReadAtomPost s st d recs recs′ text text′ a → AtomIs s st d recs recs′ text text′ u
+unfolding ReadAtomPost
+atom-is s st d recs recs′ text text′ a u e h = subst (λ a. ReadAtomPost s st d recs recs′ text text′ a) e h
 
-pub pattern-is : (s : Bytes) (st : State) (d : ℕ) (recs recs′ text text′ : Bytes) (a : Parsed) (u : State) → a ≡ parsed.Done u → PatternRead s st d recs recs′ text text′ a → PatternIs s st d recs recs′ text text′ u
-unfolding PatternRead
-pattern-is s st d recs recs′ text text′ a u e h = subst (λ a. PatternRead s st d recs recs′ text text′ a) e h
+pub pattern-is : (s : Bytes) (st : State) (d : ℕ) (recs recs′ text text′ : Bytes) (a : Parsed) (u : State) → a ≡ parsed.Done u → ReadPatternPost s st d recs recs′ text text′ a → PatternIs s st d recs recs′ text text′ u
+unfolding ReadPatternPost
+pattern-is s st d recs recs′ text text′ a u e h = subst (λ a. ReadPatternPost s st d recs recs′ text text′ a) e h
 
 -- a pattern from its first atom
 module _ (s : Bytes) (st : State) (d : ℕ) (recs recs₁ text text₁ : Bytes) where
-  pub pattern-fault : (a : Parsed) (f q : ℕ) → a ≡ parsed.Fault f q → AtomRead s st d recs recs₁ text text₁ a → PatternRead s st d recs recs₁ text text₁ (parsed.Fault f q)
-  unfolding AtomRead PatternRead
-  pattern-fault a f q e h = subst (λ a. AtomRead s st d recs recs₁ text text₁ a) e h
+  pub pattern-fault : (a : Parsed) (f q : ℕ) → a ≡ parsed.Fault f q → ReadAtomPost s st d recs recs₁ text text₁ a → ReadPatternPost s st d recs recs₁ text text₁ (parsed.Fault f q)
+  unfolding ReadAtomPost ReadPatternPost
+  pattern-fault a f q e h = subst (λ a. ReadAtomPost s st d recs recs₁ text text₁ a) e h
 
   module _ (u : State) (a : AtomIs s st d recs recs₁ text text₁ u) (f : ℕ) (g : f ≡ flag s (u .at .at)) where
-    pub pattern-last : ¬ (f ≡ 0) → PatternRead s st d recs recs₁ text text₁ (parsed.Done u)
-    unfolding PatternRead ended tail
+    pub pattern-last : ¬ (f ≡ 0) → ReadPatternPost s st d recs recs₁ text text₁ (parsed.Done u)
+    unfolding ReadPatternPost ended tail
     pattern-last o =
         let y : flag s (u .at .at) ≡ 1 = flag-one s (u .at .at) (λ e. o (g ∙ e)) in
         record {
@@ -174,8 +174,8 @@ module _ (s : Bytes) (st : State) (d : ℕ) (recs recs₁ text text₁ : Bytes) 
           over = y;
         }
 
-    pub pattern-more : (recs₂ text₂ : Bytes) (p : Parsed) → f ≡ 0 → PatternRead s u d recs₁ recs₂ text₁ text₂ p → PatternRead s st d recs recs₂ text text₂ p
-    unfolding PatternRead ended tail
+    pub pattern-more : (recs₂ text₂ : Bytes) (p : Parsed) → f ≡ 0 → ReadPatternPost s u d recs₁ recs₂ text₁ text₂ p → ReadPatternPost s st d recs recs₂ text text₂ p
+    unfolding ReadPatternPost ended tail
     pattern-more recs₂ text₂ (parsed.Fault x q) e h =
         let (y, w, z) = flag-count s (u .at .at) (sym g ∙ e) in
         record { scan = λ k o. a .scan k o ∙ atom-next s (u .at .at) (u .atoms) k (a .low) (a .high) (a .body) y w z ∙ h .scan (next k (repeat (a .low) (a .high) (a .body))) (depth-next k (repeat (a .low) (a .high) (a .body)) ∙ o) }
@@ -195,32 +195,32 @@ module _ (s : Bytes) (st : State) (d : ℕ) (recs recs₁ text text₁ : Bytes) 
 
 -- how far a loop over atoms or branches has come
 pub record Gone (s : Bytes) (d : ℕ) (st now : State) (recs recs₁ text text₁ : Bytes) : Type 0 where
-  pub ready : Ready s now d
+  pub ready : ReadPre s now d
   pub on : st .at .at ≤ now .at .at
   pub recs-size : length recs₁ ≡ length recs
   pub text-size : length text₁ ≡ length text
 
-gone-start : (s : Bytes) (d : ℕ) (st : State) (recs text : Bytes) → Ready s st d → Gone s d st st recs recs text text
+gone-start : (s : Bytes) (d : ℕ) (st : State) (recs text : Bytes) → ReadPre s st d → Gone s d st st recs recs text text
 gone-start s d st recs text r = record { ready = r; on = omega arith; recs-size = refl; text-size = refl }
 
 module _ (s : Bytes) (d : ℕ) (st now : State) (recs recs₁ text text₁ recs₂ text₂ : Bytes) where
-  gone-more : (u : State) → Gone s d st now recs recs₁ text text₁ → Ready s u d → now .at .at ≤ u .at .at → length recs₂ ≡ length recs₁ → length text₂ ≡ length text₁ → Gone s d st u recs recs₂ text text₂
+  gone-more : (u : State) → Gone s d st now recs recs₁ text text₁ → ReadPre s u d → now .at .at ≤ u .at .at → length recs₂ ≡ length recs₁ → length text₂ ≡ length text₁ → Gone s d st u recs recs₂ text text₂
   gone-more u g r o x y = record { ready = r; on = omega (arith, g .on); recs-size = x ∙ g .recs-size; text-size = y ∙ g .text-size }
 
 -- where the loop over a pattern's atoms stands: what is read from there on is read from the start
 pub record Going (s : Bytes) (d : ℕ) (st now : State) (recs recs₁ text text₁ : Bytes) : Type 0 where
   pub gone : Gone s d st now recs recs₁ text text₁
-  pub rest : (recs₂ text₂ : Bytes) (a : Parsed) → PatternRead s now d recs₁ recs₂ text₁ text₂ a → PatternRead s st d recs recs₂ text text₂ a
+  pub rest : (recs₂ text₂ : Bytes) (a : Parsed) → ReadPatternPost s now d recs₁ recs₂ text₁ text₂ a → ReadPatternPost s st d recs recs₂ text text₂ a
 
-pub going-start : (s : Bytes) (d : ℕ) (st : State) (recs text : Bytes) → Ready s st d → Going s d st st recs recs text text
+pub going-start : (s : Bytes) (d : ℕ) (st : State) (recs text : Bytes) → ReadPre s st d → Going s d st st recs recs text text
 going-start s d st recs text r = record { gone = gone-start s d st recs text r; rest = λ recs₂ text₂ a h. h }
 
 module _ (s : Bytes) (d : ℕ) (st now : State) (recs recs₁ text text₁ : Bytes) (g : Going s d st now recs recs₁ text text₁) (recs₂ text₂ : Bytes) where
-  pub going-fault : (a : Parsed) (f q : ℕ) → a ≡ parsed.Fault f q → AtomRead s now d recs₁ recs₂ text₁ text₂ a → PatternRead s st d recs recs₂ text text₂ (parsed.Fault f q)
+  pub going-fault : (a : Parsed) (f q : ℕ) → a ≡ parsed.Fault f q → ReadAtomPost s now d recs₁ recs₂ text₁ text₂ a → ReadPatternPost s st d recs recs₂ text text₂ (parsed.Fault f q)
   going-fault a f q e h = g .rest recs₂ text₂ (parsed.Fault f q) (pattern-fault s now d recs₁ recs₂ text₁ text₂ a f q e h)
 
   module _ (u : State) (a : AtomIs s now d recs₁ recs₂ text₁ text₂ u) (f : ℕ) (e : f ≡ flag s (u .at .at)) where
-    pub going-last : ¬ (f ≡ 0) → PatternRead s st d recs recs₂ text text₂ (parsed.Done u)
+    pub going-last : ¬ (f ≡ 0) → ReadPatternPost s st d recs recs₂ text text₂ (parsed.Done u)
     going-last o = g .rest recs₂ text₂ (parsed.Done u) (pattern-last s now d recs₁ recs₂ text₁ text₂ u a f e o)
 
     pub going-more : f ≡ 0 → length recs₂ ≡ length recs₁ → length text₂ ≡ length text₁ → Going s d st u recs recs₂ text text₂
@@ -233,23 +233,23 @@ module _ (s : Bytes) (d : ℕ) (st now : State) (recs recs₁ text text₁ : Byt
 
 -- the branches of a group from the first
 module _ (s : Bytes) (st : State) (d : ℕ) (recs recs₁ text text₁ : Bytes) where
-  pub group-fault : (a : Parsed) (f q : ℕ) → a ≡ parsed.Fault f q → PatternRead s st d recs recs₁ text text₁ a → GroupRead s st d recs recs₁ text text₁ (grouped.Fault f q)
-  unfolding PatternRead GroupRead depth
+  pub group-fault : (a : Parsed) (f q : ℕ) → a ≡ parsed.Fault f q → ReadPatternPost s st d recs recs₁ text text₁ a → ReadGroupPost s st d recs recs₁ text text₁ (grouped.Fault f q)
+  unfolding ReadPatternPost ReadGroupPost depth
   group-fault a f q e h =
-      let x : Refused s (st .at .at) (st .atoms) d f q = subst (λ a. PatternRead s st d recs recs₁ text text₁ a) e h in
+      let x : Refused s (st .at .at) (st .atoms) d f q = subst (λ a. ReadPatternPost s st d recs recs₁ text text₁ a) e h in
       record { scan = λ k l v others z. x .scan (within k l v others []) z }
 
-  module _ (u : State) (p : PatternIs s st d recs recs₁ text text₁ u) (r : Separator) (h : SeparatorRead s (u .at .at) r) where
-    pub group-other : r ≡ separator.Other → GroupRead s st d recs recs₁ text text₁ (grouped.Fault FORM (u .at .at))
-    unfolding SeparatorRead GroupRead depth
+  module _ (u : State) (p : PatternIs s st d recs recs₁ text text₁ u) (r : Separator) (h : SeparatorPost s (u .at .at) r) where
+    pub group-other : r ≡ separator.Other → ReadGroupPost s st d recs recs₁ text text₁ (grouped.Fault FORM (u .at .at))
+    unfolding SeparatorPost ReadGroupPost depth
     group-other e =
-        let o = subst (λ r. SeparatorRead s (u .at .at) r) e h in
+        let o = subst (λ r. SeparatorPost s (u .at .at) r) e h in
         record { scan = λ k l v others z. p .scan (within k l v others []) z ∙ branch-form s (u .at .at) (u .atoms) (p .tree) k l v others (p .settled) (p .over) o }
 
-    pub group-close : (later : Cursor) → r ≡ separator.Closing later → GroupRead s st d recs recs₁ text text₁ (grouped.Done (state later (u .atoms) (u .pool)) 1)
-    unfolding SeparatorRead GroupRead depth choices
+    pub group-close : (later : Cursor) → r ≡ separator.Closing later → ReadGroupPost s st d recs recs₁ text text₁ (grouped.Done (state later (u .atoms) (u .pool)) 1)
+    unfolding SeparatorPost ReadGroupPost depth branch-count
     group-close later e =
-        let o = subst (λ r. SeparatorRead s (u .at .at) r) e h in
+        let o = subst (λ r. SeparatorPost s (u .at .at) r) e h in
         let m = p .moved in
         record {
           tree = only (p .tree);
@@ -261,23 +261,23 @@ module _ (s : Bytes) (st : State) (d : ℕ) (recs recs₁ text text₁ : Bytes) 
 
     module _ (later : Cursor) (e : r ≡ separator.Comma later) where
       pub comma-is : ByteIs s (u .at .at) comma-byte later
-      unfolding SeparatorRead
-      comma-is = subst (λ r. SeparatorRead s (u .at .at) r) e h
+      unfolding SeparatorPost
+      comma-is = subst (λ r. SeparatorPost s (u .at .at) r) e h
 
-      parted : (k : Around) (l : ℕ) (v : Option ℕ) (others : List (Syntax pattern)) → suc (depth k) ≡ d
+      parted : (k : Stack) (l : ℕ) (v : Option ℕ) (others : List (Syntax pattern)) → suc (depth k) ≡ d
           → scanned s (counting empty, within k l v others []) (st .at .at) (st .atoms) ≡ scanned s (counting empty, within k l v (p .tree ∷ others) []) (later .at) (u .atoms)
       unfolding depth
       parted k l v others z = let o = comma-is in p .scan (within k l v others []) z ∙ parts s (u .at .at) (u .atoms) (p .tree) k l v others (o .within) (o .value) ∙ rw (o .past)
 
       pub group-comma-fault : (recs₂ text₂ : Bytes) (g : Grouped) (f q : ℕ) → g ≡ grouped.Fault f q
-          → GroupRead s (state later (u .atoms) (u .pool)) d recs₁ recs₂ text₁ text₂ g → GroupRead s st d recs recs₂ text text₂ (grouped.Fault f q)
-      unfolding GroupRead
+          → ReadGroupPost s (state later (u .atoms) (u .pool)) d recs₁ recs₂ text₁ text₂ g → ReadGroupPost s st d recs recs₂ text text₂ (grouped.Fault f q)
+      unfolding ReadGroupPost
       group-comma-fault recs₂ text₂ g f q y x =
-          let v : GroupRefused s (later .at) (u .atoms) d f q = subst (λ g. GroupRead s (state later (u .atoms) (u .pool)) d recs₁ recs₂ text₁ text₂ g) y x in
+          let v : GroupRefused s (later .at) (u .atoms) d f q = subst (λ g. ReadGroupPost s (state later (u .atoms) (u .pool)) d recs₁ recs₂ text₁ text₂ g) y x in
           record { scan = λ k l w others z. parted k l w others z ∙ v .scan k l w (p .tree ∷ others) z }
 
-      pub group-comma : (recs₂ text₂ : Bytes) (w : State) (b : ℕ) → GroupIs s (state later (u .atoms) (u .pool)) d recs₁ recs₂ text₁ text₂ w b → GroupRead s st d recs recs₂ text text₂ (grouped.Done w (b + 1))
-      unfolding GroupRead choices fork
+      pub group-comma : (recs₂ text₂ : Bytes) (w : State) (b : ℕ) → GroupIs s (state later (u .atoms) (u .pool)) d recs₁ recs₂ text₁ text₂ w b → ReadGroupPost s st d recs recs₂ text text₂ (grouped.Done w (b + 1))
+      unfolding ReadGroupPost branch-count fork
       group-comma recs₂ text₂ w b x =
           let o = comma-is in
           let m = p .moved in
@@ -299,32 +299,32 @@ later k (grouped.Fault f q) = grouped.Fault f q
 pub record Branching (s : Bytes) (d : ℕ) (st now : State) (recs recs₁ text text₁ : Bytes) (k : ℕ) : Type 0 where
   pub gone : Gone s d st now recs recs₁ text text₁
   pub few : k ≤ now .atoms
-  pub rest : (recs₂ text₂ : Bytes) (g : Grouped) → GroupRead s now d recs₁ recs₂ text₁ text₂ g → GroupRead s st d recs recs₂ text text₂ (later k g)
+  pub rest : (recs₂ text₂ : Bytes) (g : Grouped) → ReadGroupPost s now d recs₁ recs₂ text₁ text₂ g → ReadGroupPost s st d recs recs₂ text text₂ (later k g)
 
-pub branching-start : (s : Bytes) (d : ℕ) (st : State) (recs text : Bytes) → Ready s st d → Branching s d st st recs recs text text 0
+pub branching-start : (s : Bytes) (d : ℕ) (st : State) (recs text : Bytes) → ReadPre s st d → Branching s d st st recs recs text text 0
 branching-start s d st recs text r = record {
   gone = gone-start s d st recs text r;
   few = omega arith;
   rest = λ recs₂ text₂ g h. same recs₂ text₂ g h;
 }
   where
-    same : (recs₂ text₂ : Bytes) (g : Grouped) → GroupRead s st d recs recs₂ text text₂ g → GroupRead s st d recs recs₂ text text₂ (later 0 g)
+    same : (recs₂ text₂ : Bytes) (g : Grouped) → ReadGroupPost s st d recs recs₂ text text₂ g → ReadGroupPost s st d recs recs₂ text text₂ (later 0 g)
     same recs₂ text₂ (grouped.Done u b) h = let e : 0 + b ≡ b = omega arith in rw e h
     same recs₂ text₂ (grouped.Fault f q) h = h
 
 module _ (s : Bytes) (d : ℕ) (st now : State) (recs recs₁ text text₁ : Bytes) (k : ℕ) (g : Branching s d st now recs recs₁ text text₁ k) (recs₂ text₂ : Bytes) where
-  pub branching-fault : (a : Parsed) (f q : ℕ) → a ≡ parsed.Fault f q → PatternRead s now d recs₁ recs₂ text₁ text₂ a → GroupRead s st d recs recs₂ text text₂ (grouped.Fault f q)
+  pub branching-fault : (a : Parsed) (f q : ℕ) → a ≡ parsed.Fault f q → ReadPatternPost s now d recs₁ recs₂ text₁ text₂ a → ReadGroupPost s st d recs recs₂ text text₂ (grouped.Fault f q)
   branching-fault a f q e h = g .rest recs₂ text₂ (grouped.Fault f q) (group-fault s now d recs₁ recs₂ text₁ text₂ a f q e h)
 
-  module _ (u : State) (p : PatternIs s now d recs₁ recs₂ text₁ text₂ u) (r : Separator) (h : SeparatorRead s (u .at .at) r) where
-    pub branching-other : r ≡ separator.Other → GroupRead s st d recs recs₂ text text₂ (grouped.Fault FORM (u .at .at))
+  module _ (u : State) (p : PatternIs s now d recs₁ recs₂ text₁ text₂ u) (r : Separator) (h : SeparatorPost s (u .at .at) r) where
+    pub branching-other : r ≡ separator.Other → ReadGroupPost s st d recs recs₂ text text₂ (grouped.Fault FORM (u .at .at))
     branching-other e = g .rest recs₂ text₂ (grouped.Fault FORM (u .at .at)) (group-other s now d recs₁ recs₂ text₁ text₂ u p r h e)
 
-    pub branching-close : (past : Cursor) → r ≡ separator.Closing past → GroupRead s st d recs recs₂ text text₂ (grouped.Done (state past (u .atoms) (u .pool)) (k + 1))
+    pub branching-close : (past : Cursor) → r ≡ separator.Closing past → ReadGroupPost s st d recs recs₂ text text₂ (grouped.Done (state past (u .atoms) (u .pool)) (k + 1))
     branching-close past e = g .rest recs₂ text₂ (grouped.Done (state past (u .atoms) (u .pool)) 1) (group-close s now d recs₁ recs₂ text₁ text₂ u p r h past e)
 
     module _ (past : Cursor) (e : r ≡ separator.Comma past) where
-      on-with : (r′ t′ : Bytes) (b : Grouped) → GroupRead s (state past (u .atoms) (u .pool)) d recs₂ r′ text₂ t′ b → GroupRead s st d recs r′ text t′ (later (k + 1) b)
+      on-with : (r′ t′ : Bytes) (b : Grouped) → ReadGroupPost s (state past (u .atoms) (u .pool)) d recs₂ r′ text₂ t′ b → ReadGroupPost s st d recs r′ text t′ (later (k + 1) b)
       on-with r′ t′ (grouped.Done w b) x =
           let z : k + 1 + b ≡ k + (b + 1) = omega arith in
           rw z (g .rest r′ t′ (grouped.Done w (b + 1)) (group-comma s now d recs₁ recs₂ text₁ text₂ u p r h past e r′ t′ w b (group-is s (state past (u .atoms) (u .pool)) d recs₂ r′ text₂ t′ (grouped.Done w b) w b refl x)))
@@ -343,10 +343,10 @@ module _ (s : Bytes) (d : ℕ) (st now : State) (recs recs₁ text text₁ : Byt
           }
 
 -- each branch has an atom
-choices-few : (bs : Syntax branches) → choices bs ≤ size bs
-unfolding choices size
-choices-few (only p) = some-pattern p
-choices-few (or p bs) = omega (arith, some-pattern p, choices-few bs)
+branch-count-few : (bs : Syntax branches) → branch-count bs ≤ size bs
+unfolding branch-count size
+branch-count-few (only p) = some-pattern p
+branch-count-few (or p bs) = omega (arith, some-pattern p, branch-count-few bs)
 
 pub count-few : (s : Bytes) (st : State) (d : ℕ) (recs recs′ text text′ : Bytes) (u : State) (b : ℕ) → GroupIs s st d recs recs′ text text′ u b → b ≤ atom-limit
-count-few s st d recs recs′ text text′ u b g = let m = g .moved in let w = g .wrote in omega (arith, g .count, choices-few (g .tree), m .atoms, w .atoms)
+count-few s st d recs recs′ text text′ u b g = let m = g .moved in let w = g .wrote in omega (arith, g .count, branch-count-few (g .tree), m .atoms, w .atoms)

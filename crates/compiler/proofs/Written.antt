@@ -9,15 +9,15 @@ use lib.ListN.{length, length-append}
 use Rattle.pattern.specs.Numbers.{group-kind}
 use Rattle.pattern.specs.Bytes.{Bytes}
 use Rattle.pattern.specs.Syntax.{Sort, pattern, atom, body, branches, Syntax, last, then, repeat, group, only, or, size}
-use Rattle.pattern.specs.Table.{pool, choices, Rec, kind-field, a-field, b-field, rec, records}
+use Rattle.pattern.specs.Table.{pool, branch-count, Rec, kind-field, a-field, b-field, rec, records}
 use Rattle.pattern.specs.Repeats.{repeat-of}
 use Rattle.pattern.specs.declared.repeat.Repeat.{Repeat}
 use Rattle.pattern.proofs.Records.{count-records}
-use Rattle.pattern.specs.Stores.{stored}
+use Rattle.pattern.specs.Stores.{store-at}
 use Rattle.table.specs.Write.{rec-of, put-records}
 use Rattle.table.proofs.Writing.{records-then, records-before}
 use Rattle.compiler.specs.Readers.{Wrote}
-use Rattle.pattern.proofs.Stores.{stored-then}
+use Rattle.pattern.proofs.Stores.{store-at-then}
 
 -- of two trees one after the other
 wrote-both : {o o₁ o₂ : Sort} (e f : ℕ) (x : Syntax o₁) (y : Syntax o₂) (t : Syntax o) (n p m q m′ q′ : ℕ) (recs recs₁ recs₂ text text₁ text₂ : Bytes)
@@ -31,7 +31,7 @@ wrote-both e f x y t n p m q m′ q′ recs recs₁ recs₂ text text₁ text₂
       atoms = omega (arith, a .atoms, b .atoms);
       pooled = omega (arith, a .pooled, b .pooled, ap length v, length-append (pool x) (pool y));
       recs-are = b .recs-are ∙ ap (λ l. put-records l m ys) (a .recs-are) ∙ records-then recs n m xs ys (omega (arith, a .atoms, count-records e x n p)) ∙ rw w;
-      text-is = b .text-is ∙ ap (λ l. stored l q (pool y)) (a .text-is) ∙ stored-then text p q (pool x) (pool y) (a .pooled) ∙ rw v;
+      text-is = b .text-is ∙ ap (λ l. store-at l q (pool y)) (a .text-is) ∙ store-at-then text p q (pool x) (pool y) (a .pooled) ∙ rw v;
     }
 
 -- of an atom and the pattern after it
@@ -69,7 +69,7 @@ any-ends e (or t bs) i p = ap₂ (λ k l. k ++ l) (any-end e t i p) (any-ends e 
 -- a leaf: its own record
 pub wrote-leaf : (e low : ℕ) (high : Option ℕ) (b : Syntax body) (rep : Repeat) (n p m q : ℕ) (recs recs′ text text′ : Bytes)
     → ((f j i : ℕ) → records f b j i ≡ []) → size b ≡ 0 → rep ≡ repeat-of low high → m ≡ n + 1 → q ≡ p + length (pool b)
-    → recs′ ≡ put-records recs n (rec-of (kind-field b) e rep (a-field b p) (b-field b n) ∷ []) → text′ ≡ stored text p (pool b)
+    → recs′ ≡ put-records recs n (rec-of (kind-field b) e rep (a-field b p) (b-field b n) ∷ []) → text′ ≡ store-at text p (pool b)
     → Wrote e (repeat low high b) n p m q recs recs′ text text′
 unfolding size pool records
 wrote-leaf e low high b rep n p m q recs recs′ text text′ alone z f g h r t = record {
@@ -81,7 +81,7 @@ wrote-leaf e low high b rep n p m q recs recs′ text text′ alone z f g h r t 
 
 -- a group: its record goes before those of its contents
 pub wrote-group : (e low : ℕ) (high : Option ℕ) (bs : Syntax branches) (rep : Repeat) (c n p m q : ℕ) (recs recs₁ recs₂ text text′ : Bytes)
-    → rep ≡ repeat-of low high → c ≡ choices bs → Wrote 1 bs (n + 1) p m q recs recs₁ text text′
+    → rep ≡ repeat-of low high → c ≡ branch-count bs → Wrote 1 bs (n + 1) p m q recs recs₁ text text′
     → recs₂ ≡ put-records recs₁ n (rec-of group-kind e rep c m ∷ []) → Wrote e (repeat low high (group bs)) n p m q recs recs₂ text text′
 unfolding size pool records kind-field a-field b-field
 wrote-group e low high bs rep c n p m q recs recs₁ recs₂ text text′ f g w r =

@@ -7,32 +7,32 @@ use lib.ListN.{length}
 use Rattle.pattern.specs.Numbers.{source-limit, atom-limit, depth-limit}
 use Rattle.pattern.specs.Bytes.{Bytes}
 use Rattle.pattern.specs.Syntax.{Sort, pattern, body, branches, Syntax, last, then, repeat, codes, literal, group, size}
-use Rattle.pattern.specs.Spelling.{letter, quote, starts}
-use Rattle.pattern.specs.Reading.{counting, empty, after, Around, within, fork}
+use Rattle.pattern.specs.Grammar.{letter, quote, body-start}
+use Rattle.pattern.specs.Parser.{counting, empty, after, Stack, within, fork}
 use Rattle.pattern.specs.Scan.{depth, refused}
-use Rattle.pattern.specs.Table.{pool, choices, kind-field, a-field, b-field, records}
+use Rattle.pattern.specs.Table.{pool, branch-count, kind-field, a-field, b-field, records}
 use Rattle.pattern.specs.declared.repeat.Repeat.{Repeat}
-use Rattle.pattern.proofs.SpeltReads.{ended}
+use Rattle.pattern.proofs.ParserComplete.{ended}
 use Rattle.compiler.specs.declared.reader.State.{State}
 use Rattle.compiler.specs.declared.reader.Parsed.{Parsed}
 use Rattle.compiler.specs.declared.reader.Parsed.the-variants as parsed
 use Rattle.compiler.specs.declared.reader.Grouped.{Grouped}
 use Rattle.compiler.specs.declared.reader.Grouped.the-variants as grouped
-use Rattle.scanner.specs.Places.{flag, Kind-not}
+use Rattle.scanner.specs.Places.{flag, ClassNot}
 use Rattle.scanner.specs.Scans.{scanned}
-use Rattle.pattern.specs.Stores.{stored}
+use Rattle.pattern.specs.Stores.{store-at}
 use Rattle.table.specs.Write.{rec-of, records-room, put-records}
-use Rattle.scanner.specs.Bodies.{Inside, in-codes, in-literal, Refuses}
+use Rattle.scanner.specs.Bodies.{Inside, after-codes, in-literal, Refuses}
 
 -- where a reader may start, in d groups
-pub record Ready (s : Bytes) (st : State) (d : ℕ) : Type 0 where
+pub record ReadPre (s : Bytes) (st : State) (d : ℕ) : Type 0 where
   pub within : st .at .at ≤ length s
   pub atoms : st .atoms ≤ atom-limit
   pub pool : st .pool ≤ st .at .at
   pub shallow : d ≤ depth-limit
 
 -- room for the records of all atoms and for the text of the whole source
-pub record Room (s recs text : Bytes) : Type 0 where
+pub record BuffersFit (s recs text : Bytes) : Type 0 where
   pub source : length s ≤ source-limit
   pub recs-fit : records-room ≤ length recs
   pub text-fits : length s ≤ length text
@@ -49,13 +49,13 @@ pub record Wrote {o : Sort} (e : ℕ) (t : Syntax o) (n p m q : ℕ) (recs recs�
   pub atoms : m ≡ n + size t
   pub pooled : q ≡ p + length (pool t)
   pub recs-are : recs′ ≡ put-records recs n (records e t n p)
-  pub text-is : text′ ≡ stored text p (pool t)
+  pub text-is : text′ ≡ store-at text p (pool t)
 
 -- a body does not go on at a place
-unfoldable pub Settled : Bytes → ℕ → Syntax body → Type 0
-Settled s j (codes set) = Kind-not s j (starts letter)
-Settled s j (literal value) = Kind-not s j (starts quote)
-Settled s j (group bs) = Unit {0}
+unfoldable pub BodyEnds : Bytes → ℕ → Syntax body → Type 0
+BodyEnds s j (codes set) = ClassNot s j (body-start letter)
+BodyEnds s j (literal value) = ClassNot s j (body-start quote)
+BodyEnds s j (group bs) = Unit {0}
 
 -- the last body of a pattern
 unfoldable pub tail : Syntax pattern → Syntax body
@@ -74,30 +74,30 @@ pub record LeafIs (s : Bytes) (from : Inside) (P : Bytes → Type 0) (i n p : �
   pub pooled : u .pool ≡ p + length (pool body)
   pub recs-are : recs′ ≡ put-records recs n (rec-of (kind-field body) (flag s (u .at .at)) rep (a-field body p) (b-field body n) ∷ [])
   pub text-is : P (pool body)
-  pub scan : (l : ℕ) (h : Option ℕ) (k : Around) (m : ℕ) → scanned s (from l h k) i m ≡ scanned s (after l h body, k) (u .at .at) m
-  pub settled : Settled s (u .at .at) body
+  pub scan : (l : ℕ) (h : Option ℕ) (k : Stack) (m : ℕ) → scanned s (from l h k) i m ≡ scanned s (after l h body, k) (u .at .at) m
+  pub settled : BodyEnds s (u .at .at) body
 
-unfoldable pub LeafRead : Bytes → Inside → (Bytes → Type 0) → (i n p : ℕ) → Repeat → (recs recs′ : Bytes) → Parsed → Type 0
-LeafRead s from P i n p rep recs recs′ (parsed.Done u) = LeafIs s from P i n p rep recs recs′ u
-LeafRead s from P i n p rep recs recs′ (parsed.Fault f q) = Refuses s from i f q
+unfoldable pub LeafPost : Bytes → Inside → (Bytes → Type 0) → (i n p : ℕ) → Repeat → (recs recs′ : Bytes) → Parsed → Type 0
+LeafPost s from P i n p rep recs recs′ (parsed.Done u) = LeafIs s from P i n p rep recs recs′ u
+LeafPost s from P i n p rep recs recs′ (parsed.Fault f q) = Refuses s from i f q
 
 -- where a leaf may start
-pub record LeafReady (s : Bytes) (i n p : ℕ) (recs : Bytes) : Type 0 where
+pub record LeafPre (s : Bytes) (i n p : ℕ) (recs : Bytes) : Type 0 where
   pub within : i ≤ length s
   pub atoms : n < atom-limit
   pub pool : p ≤ i
   pub source : length s ≤ source-limit
   pub recs-fit : records-room ≤ length recs
 
-abbrev pub CodedRead : Bytes → (i n p : ℕ) → Repeat → (recs recs′ : Bytes) → Parsed → Type 0
-CodedRead s i n p rep recs recs′ r = LeafRead s (in-codes 0) (λ v. v ≡ []) i n p rep recs recs′ r
+abbrev pub ReadCodesPost : Bytes → (i n p : ℕ) → Repeat → (recs recs′ : Bytes) → Parsed → Type 0
+ReadCodesPost s i n p rep recs recs′ r = LeafPost s (after-codes 0) (λ v. v ≡ []) i n p rep recs recs′ r
 
-abbrev pub WordedRead : Bytes → (i n p : ℕ) → Repeat → (recs recs′ text text′ : Bytes) → Parsed → Type 0
-WordedRead s i n p rep recs recs′ text text′ r = LeafRead s (in-literal []) (λ v. text′ ≡ stored text p v) i n p rep recs recs′ r
+abbrev pub ReadLiteralPost : Bytes → (i n p : ℕ) → Repeat → (recs recs′ text text′ : Bytes) → Parsed → Type 0
+ReadLiteralPost s i n p rep recs recs′ text text′ r = LeafPost s (in-literal []) (λ v. text′ ≡ store-at text p v) i n p rep recs recs′ r
 
 -- an atom or a pattern in d groups is refused
 pub record Refused (s : Bytes) (i n d f q : ℕ) : Type 0 where
-  pub scan : (k : Around) → depth k ≡ d → scanned s (counting empty, k) i n ≡ refused f q
+  pub scan : (k : Stack) → depth k ≡ d → scanned s (counting empty, k) i n ≡ refused f q
 
 pub record AtomIs (s : Bytes) (st : State) (d : ℕ) (recs recs′ text text′ : Bytes) (u : State) : Type 0 where
   pub low : ℕ
@@ -105,38 +105,38 @@ pub record AtomIs (s : Bytes) (st : State) (d : ℕ) (recs recs′ text text′ 
   pub body : Syntax body
   pub moved : Moved s st u
   pub wrote : Wrote (flag s (u .at .at)) (repeat low high body) (st .atoms) (st .pool) (u .atoms) (u .pool) recs recs′ text text′
-  pub scan : (k : Around) → depth k ≡ d → scanned s (counting empty, k) (st .at .at) (st .atoms) ≡ scanned s (after low high body, k) (u .at .at) (u .atoms)
-  pub settled : Settled s (u .at .at) body
+  pub scan : (k : Stack) → depth k ≡ d → scanned s (counting empty, k) (st .at .at) (st .atoms) ≡ scanned s (after low high body, k) (u .at .at) (u .atoms)
+  pub settled : BodyEnds s (u .at .at) body
 
-unfoldable pub AtomRead : Bytes → State → ℕ → (recs recs′ text text′ : Bytes) → Parsed → Type 0
-AtomRead s st d recs recs′ text text′ (parsed.Done u) = AtomIs s st d recs recs′ text text′ u
-AtomRead s st d recs recs′ text text′ (parsed.Fault f q) = Refused s (st .at .at) (st .atoms) d f q
+unfoldable pub ReadAtomPost : Bytes → State → ℕ → (recs recs′ text text′ : Bytes) → Parsed → Type 0
+ReadAtomPost s st d recs recs′ text text′ (parsed.Done u) = AtomIs s st d recs recs′ text text′ u
+ReadAtomPost s st d recs recs′ text text′ (parsed.Fault f q) = Refused s (st .at .at) (st .atoms) d f q
 
 pub record PatternIs (s : Bytes) (st : State) (d : ℕ) (recs recs′ text text′ : Bytes) (u : State) : Type 0 where
   pub tree : Syntax pattern
   pub moved : Moved s st u
   pub wrote : Wrote 1 tree (st .atoms) (st .pool) (u .atoms) (u .pool) recs recs′ text text′
-  pub scan : (k : Around) → depth k ≡ d → scanned s (counting empty, k) (st .at .at) (st .atoms) ≡ scanned s (ended k tree) (u .at .at) (u .atoms)
-  pub settled : Settled s (u .at .at) (tail tree)
+  pub scan : (k : Stack) → depth k ≡ d → scanned s (counting empty, k) (st .at .at) (st .atoms) ≡ scanned s (ended k tree) (u .at .at) (u .atoms)
+  pub settled : BodyEnds s (u .at .at) (tail tree)
   pub over : flag s (u .at .at) ≡ 1
 
-unfoldable pub PatternRead : Bytes → State → ℕ → (recs recs′ text text′ : Bytes) → Parsed → Type 0
-PatternRead s st d recs recs′ text text′ (parsed.Done u) = PatternIs s st d recs recs′ text text′ u
-PatternRead s st d recs recs′ text text′ (parsed.Fault f q) = Refused s (st .at .at) (st .atoms) d f q
+unfoldable pub ReadPatternPost : Bytes → State → ℕ → (recs recs′ text text′ : Bytes) → Parsed → Type 0
+ReadPatternPost s st d recs recs′ text text′ (parsed.Done u) = PatternIs s st d recs recs′ text text′ u
+ReadPatternPost s st d recs recs′ text text′ (parsed.Fault f q) = Refused s (st .at .at) (st .atoms) d f q
 
 -- the branches of a group, itself in d - 1 groups, with the closing parenthesis
 pub record GroupIs (s : Bytes) (st : State) (d : ℕ) (recs recs′ text text′ : Bytes) (u : State) (c : ℕ) : Type 0 where
   pub tree : Syntax branches
   pub moved : Moved s st u
   pub wrote : Wrote 1 tree (st .atoms) (st .pool) (u .atoms) (u .pool) recs recs′ text text′
-  pub count : c ≡ choices tree
-  pub scan : (k : Around) (l : ℕ) (h : Option ℕ) (others : List (Syntax pattern)) → suc (depth k) ≡ d
+  pub count : c ≡ branch-count tree
+  pub scan : (k : Stack) (l : ℕ) (h : Option ℕ) (others : List (Syntax pattern)) → suc (depth k) ≡ d
       → scanned s (counting empty, within k l h others []) (st .at .at) (st .atoms) ≡ scanned s (after l h (group (fork others tree)), k) (u .at .at) (u .atoms)
 
 pub record GroupRefused (s : Bytes) (i n d f q : ℕ) : Type 0 where
-  pub scan : (k : Around) (l : ℕ) (h : Option ℕ) (others : List (Syntax pattern)) → suc (depth k) ≡ d
+  pub scan : (k : Stack) (l : ℕ) (h : Option ℕ) (others : List (Syntax pattern)) → suc (depth k) ≡ d
       → scanned s (counting empty, within k l h others []) i n ≡ refused f q
 
-unfoldable pub GroupRead : Bytes → State → ℕ → (recs recs′ text text′ : Bytes) → Grouped → Type 0
-GroupRead s st d recs recs′ text text′ (grouped.Done u c) = GroupIs s st d recs recs′ text text′ u c
-GroupRead s st d recs recs′ text text′ (grouped.Fault f q) = GroupRefused s (st .at .at) (st .atoms) d f q
+unfoldable pub ReadGroupPost : Bytes → State → ℕ → (recs recs′ text text′ : Bytes) → Grouped → Type 0
+ReadGroupPost s st d recs recs′ text text′ (grouped.Done u c) = GroupIs s st d recs recs′ text text′ u c
+ReadGroupPost s st d recs recs′ text text′ (grouped.Fault f q) = GroupRefused s (st .at .at) (st .atoms) d f q

@@ -2,7 +2,7 @@
 ghost use Prim.Native.Nat.{_-_, _≤_};
 ghost use lib.ListN.{length};
 ghost use Rattle.scanner.specs.Places.{LetterIs};
-ghost use Rattle.compiler.specs.Readers.{Ready, Room, LeafReady, CodedRead, WordedRead, PatternRead, AtomRead, GroupRead};
+ghost use Rattle.compiler.specs.Readers.{ReadPre, BuffersFit, LeafPre, ReadCodesPost, ReadLiteralPost, ReadPatternPost, ReadAtomPost, ReadGroupPost};
 use pattern::kind;
 use pattern::limits;
 use pattern::refusal;
@@ -11,7 +11,7 @@ use scanner::body::Letters;
 use scanner::body::Literal;
 use scanner::body::codes_from;
 use scanner::body::quoted;
-use scanner::count::Counted;
+use scanner::count::CountResult;
 use scanner::count::count;
 use scanner::cursor::Class;
 use scanner::cursor::Cursor;
@@ -39,9 +39,17 @@ pub enum Grouped {
 }
 
 // An atom of code letters, after its count and its first letter.
-fn coded(s: &[u8], first: u8, c: Cursor, rep: Repeat, n: usize, p: usize, recs: &mut [u8]) -> Parsed
-    requires { ⌜ LetterIs (now s) (c .at - 1) first c × LeafReady (now s) (c .at - 1) n p (now recs) ⌝ }
-    ensures { λ r. ⌜ CodedRead (now (s .entry)) (c .at - 1) n p rep (now (recs .entry)) (now (recs .exit)) r ⌝ }
+fn read_codes(
+    s: &[u8],
+    first: u8,
+    c: Cursor,
+    rep: Repeat,
+    n: usize,
+    p: usize,
+    recs: &mut [u8],
+) -> Parsed
+    requires { ⌜ LetterIs (now s) (c .at - 1) first c × LeafPre (now s) (c .at - 1) n p (now recs) ⌝ }
+    ensures { λ r. ⌜ ReadCodesPost (now (s .entry)) (c .at - 1) n p rep (now (recs .entry)) (now (recs .exit)) r ⌝ }
 {
     match codes_from(s, first, c) {
         Letters::Set(set, next) => {
@@ -57,7 +65,7 @@ fn coded(s: &[u8], first: u8, c: Cursor, rep: Repeat, n: usize, p: usize, recs: 
 }
 
 // An atom that is a literal, after its count and its first quote.
-fn worded(
+fn read_literal(
     s: &[u8],
     c: Cursor,
     rep: Repeat,
@@ -66,8 +74,8 @@ fn worded(
     recs: &mut [u8],
     pool: &mut [u8],
 ) -> Parsed
-    requires { ⌜ LeafReady (now s) (c .at) n p (now recs) × (length (now s) ≤ length (now pool)) ⌝ }
-    ensures { λ r. ⌜ WordedRead (now (s .entry)) (c .at) n p rep (now (recs .entry)) (now (recs .exit)) (now (pool .entry)) (now (pool .exit)) r ⌝ }
+    requires { ⌜ LeafPre (now s) (c .at) n p (now recs) × (length (now s) ≤ length (now pool)) ⌝ }
+    ensures { λ r. ⌜ ReadLiteralPost (now (s .entry)) (c .at) n p rep (now (recs .entry)) (now (recs .exit)) (now (pool .entry)) (now (pool .exit)) r ⌝ }
 {
     match quoted(s, c, p, pool) {
         Literal::Value(next, end) => {
@@ -91,8 +99,8 @@ fn worded(
 }
 
 pub fn read_pattern(s: &[u8], st: State, depth: usize, recs: &mut [u8], pool: &mut [u8]) -> Parsed
-    requires { ⌜ Ready (now s) st depth × Room (now s) (now recs) (now pool) ⌝ }
-    ensures { λ r. ⌜ PatternRead (now (s .entry)) st depth (now (recs .entry)) (now (recs .exit)) (now (pool .entry)) (now (pool .exit)) r ⌝ }
+    requires { ⌜ ReadPre (now s) st depth × BuffersFit (now s) (now recs) (now pool) ⌝ }
+    ensures { λ r. ⌜ ReadPatternPost (now (s .entry)) st depth (now (recs .entry)) (now (recs .exit)) (now (pool .entry)) (now (pool .exit)) r ⌝ }
 {
     let mut from = st;
     loop {
@@ -110,16 +118,16 @@ pub fn read_pattern(s: &[u8], st: State, depth: usize, recs: &mut [u8], pool: &m
 }
 
 fn read_atom(s: &[u8], st: State, depth: usize, recs: &mut [u8], pool: &mut [u8]) -> Parsed
-    requires { ⌜ Ready (now s) st depth × Room (now s) (now recs) (now pool) ⌝ }
-    ensures { λ r. ⌜ AtomRead (now (s .entry)) st depth (now (recs .entry)) (now (recs .exit)) (now (pool .entry)) (now (pool .exit)) r ⌝ }
+    requires { ⌜ ReadPre (now s) st depth × BuffersFit (now s) (now recs) (now pool) ⌝ }
+    ensures { λ r. ⌜ ReadAtomPost (now (s .entry)) st depth (now (recs .entry)) (now (recs .exit)) (now (pool .entry)) (now (pool .exit)) r ⌝ }
 {
     let at = st.at;
     let n = st.atoms;
     let p = st.pool;
     match count(s, at, n) {
-        Counted::Repeat(rep, next) => match next.class(s) {
-            Class::Letter(b, after) => coded(s, b, after, rep, n, p, recs),
-            Class::Quote(after) => worded(s, after, rep, n, p, recs, pool),
+        CountResult::Repeat(rep, next) => match next.class(s) {
+            Class::Letter(b, after) => read_codes(s, b, after, rep, n, p, recs),
+            Class::Quote(after) => read_literal(s, after, rep, n, p, recs, pool),
             Class::Opening(after) => {
                 if limits::DEPTH_LIMIT <= depth {
                     return Parsed::Fault(refusal::DEPTH, next.at);
@@ -148,14 +156,14 @@ fn read_atom(s: &[u8], st: State, depth: usize, recs: &mut [u8], pool: &mut [u8]
             }
             Class::Other => Parsed::Fault(refusal::FORM, next.at),
         },
-        Counted::Fault(no, pos) => Parsed::Fault(no, pos),
+        CountResult::Fault(no, pos) => Parsed::Fault(no, pos),
     }
 }
 
 // The branches of a group, with the closing parenthesis.
 fn read_group(s: &[u8], st: State, depth: usize, recs: &mut [u8], pool: &mut [u8]) -> Grouped
-    requires { ⌜ Ready (now s) st depth × Room (now s) (now recs) (now pool) ⌝ }
-    ensures { λ r. ⌜ GroupRead (now (s .entry)) st depth (now (recs .entry)) (now (recs .exit)) (now (pool .entry)) (now (pool .exit)) r ⌝ }
+    requires { ⌜ ReadPre (now s) st depth × BuffersFit (now s) (now recs) (now pool) ⌝ }
+    ensures { λ r. ⌜ ReadGroupPost (now (s .entry)) st depth (now (recs .entry)) (now (recs .exit)) (now (pool .entry)) (now (pool .exit)) r ⌝ }
 {
     let mut from = st;
     let mut before: usize = 0;

@@ -6,13 +6,13 @@ use Prim.Native.Nat.{ℕ, _+_, _≤_}
 use native.Mathlib.Omega.{arith}
 use lib.ListN.{length, take, drop, replicate}
 use lib.Seq.{slice, length-take-le}
-use Rattle.pattern.specs.Bytes.{Bytes, over, zeroed}
-use Rattle.pattern.proofs.Stores.{over-same, take-over, drop-over, stored-over, puts-none, puts-then, puts-as, puts-length}
+use Rattle.pattern.specs.Bytes.{Bytes, overwrite, zeroed}
+use Rattle.pattern.proofs.Stores.{overwrite-same, take-overwrite, drop-overwrite, store-at-overwrite, puts-none, puts-then, puts-as, puts-length}
 use Rattle.replies.specs.Sizes.{held-limit}
 use Rattle.replies.specs.Reply.{Reply, answer-to}
 use Rattle.replies.specs.Stores.{Replied}
 use Rattle.lines.specs.Output.{prefixed, answers, last-line, LinesIn, lines-in, wiped}
-use Rattle.lines.specs.Taking.{one-line, Took}
+use Rattle.lines.specs.Taking.{one-line, TakeLinePost}
 use Rattle.lines.specs.Chunk.{Buffers, lend, Done}
 use Rattle.lines.specs.declared.chunk.Pending.{Pending}
 use Rattle.lines.specs.declared.line.Taken.{Taken}
@@ -73,28 +73,28 @@ pub take-replied : {end : ℕ} {r : Reply} {out scratch′ out′ : Bytes} → R
 take-replied {r = r} {out} a =
     let w = a .within in
     let n : _ ≡ length (r .text) = w .stores .next ∙ omega arith in
-    ap₂ (λ k v. take k v) n (w .stores .bytes ∙ stored-over out (r .text) (omega (arith, w .short))) ∙ take-over (r .text) out
+    ap₂ (λ k v. take k v) n (w .stores .bytes ∙ store-at-overwrite out (r .text) (omega (arith, w .short))) ∙ take-overwrite (r .text) out
 
 -- the output's other bytes stay
 pub drop-replied : {end : ℕ} {r : Reply} {out scratch′ out′ : Bytes} → Replied (length out) r out 0 scratch′ out′ end → drop end out′ ≡ drop end out
 drop-replied {end} {r} {out} a =
     let w = a .within in
-    ap (drop end) (w .stores .bytes ∙ stored-over out (r .text) (omega (arith, w .short, w .stores .next))) ∙ drop-over end (r .text) out (omega (arith, w .stores .next))
+    ap (drop end) (w .stores .bytes ∙ store-at-overwrite out (r .text) (omega (arith, w .short, w .stores .next))) ∙ drop-overwrite end (r .text) out (omega (arith, w .stores .next))
 
 -- and what is held in the line's bytes
-pub held-over : {l : LinesIn} {b b′ : Buffers} {p : Pending} → Done l b b′ p → take (p .held) (b′ .line) ≡ l .held
-held-over {l} {b} d = ap₂ (λ n s. take n s) (d .held) (d .line) ∙ take-over (l .held) (wiped (l .ended) (b .line))
+pub held-overwrite : {l : LinesIn} {b b′ : Buffers} {p : Pending} → Done l b b′ p → take (p .held) (b′ .line) ≡ l .held
+held-overwrite {l} {b} d = ap₂ (λ n s. take n s) (d .held) (d .line) ∙ take-overwrite (l .held) (wiped (l .ended) (b .line))
 
 -- ---- turns over a chunk
 
 pub done-none : (held : ℕ) (b : Buffers) {from to : ℕ} → held ≤ length (b .line) → held ≤ held-limit → Done (one-line false (take held (b .line))) b b (record { from = from; to = to; held = held; end = 0; last = false })
 unfolding one-line answers wiped
 done-none held b h l =
-    record { replied = replied-none _ _ _ _; line = over-same held (b .line) (b .line) h refl; held = sym (length-take-le held (b .line) h); held-fits = l }
+    record { replied = replied-none _ _ _ _; line = overwrite-same held (b .line) (b .line) h refl; held = sym (length-take-le held (b .line) h); held-fits = l }
 
 -- a line more is taken
 module _ (held₀ : Bytes) (from : ℕ) {b₀ b : Buffers} {p : Pending} {chunk after : Bytes} {r : Taken} (d : Done (lines-in held₀ (slice from (p .from) chunk)) b₀ b p) (f : from ≤ p .from)
-    (t : Took chunk (p .from) (b .line) (p .held) after r) (h : r .held ≤ length after) where
+    (t : TakeLinePost chunk (p .from) (b .line) (p .held) after r) (h : r .held ≤ length after) where
   abbrev before : LinesIn
   before = lines-in held₀ (slice from (p .from) chunk)
 
@@ -104,23 +104,23 @@ module _ (held₀ : Bytes) (from : ℕ) {b₀ b : Buffers} {p : Pending} {chunk 
   more-lines : (e : Bool) → r .ended ≡ e → record { ended = before .ended ++ one-line e line .ended; held = one-line e line .held } ≡ lines-in held₀ (slice from (r .next) chunk)
   more-lines e q =
       let rest = slice (p .from) (r .next) chunk in
-      ap (λ (m : LinesIn). record { ended = before .ended ++ m .ended; held = m .held }) (ap (λ x. one-line x line) (sym q) ∙ sym (t .equal) ∙ ap (λ v. lines-in v rest) (held-over d))
+      ap (λ (m : LinesIn). record { ended = before .ended ++ m .ended; held = m .held }) (ap (λ x. one-line x line) (sym q) ∙ sym (t .equal) ∙ ap (λ v. lines-in v rest) (held-overwrite d))
       ∙ sym (lines-append held₀ (slice from (p .from) chunk) rest) ∙ ap (lines-in held₀) (sym (slice-join chunk from (p .from) (r .next) f (t .forward) (t .next-fits)))
 
   rest-stays : drop (r .held) after ≡ drop (r .held) (wiped (before .ended) (b₀ .line))
-  rest-stays = t .stays ∙ ap (drop (r .held)) (d .line) ∙ drop-over (r .held) (before .held) _ (omega (arith, t .longer, d .held))
+  rest-stays = t .stays ∙ ap (drop (r .held)) (d .line) ∙ drop-overwrite (r .held) (before .held) _ (omega (arith, t .longer, d .held))
 
   -- it did not end
   pub done-held : r .ended ≡ false → Done (lines-in held₀ (slice from (r .next) chunk)) b₀ (lend after (b .scratch) (b .out)) (record { from = r .next; to = p .to; held = r .held; end = p .end; last = false })
   unfolding one-line
   done-held q =
       rw (← more-lines false q, append-nil)
-      (record { replied = d .replied; line = over-same (r .held) after _ h rest-stays; held = sym (length-take-le (r .held) after h); held-fits = t .held-fits })
+      (record { replied = d .replied; line = overwrite-same (r .held) after _ h rest-stays; held = sym (length-take-le (r .held) after h); held-fits = t .held-fits })
 
   -- it ended: the reply stands after those before, and its bytes are zeroed
   pub done-ended : {scratch′ out′ line′ : Bytes} {room j : ℕ} → r .ended ≡ true → Replied room (answer-to line (b .scratch)) (b .out) (p .end) scratch′ out′ j → p .end + room ≤ length (b .out)
       → line′ ≡ zeroed (r .held) after → Done (lines-in held₀ (slice from (r .next) chunk)) b₀ (lend line′ scratch′ out′) (record { from = r .next; to = p .to; held = 0; end = j; last = false })
-  unfolding one-line wiped over
+  unfolding one-line wiped overwrite
   done-ended q a g z =
       rw (← more-lines true q)
       (record {

@@ -22,8 +22,8 @@ use Rattle.lines.specs.declared.session.Next.{Next}
 use Rattle.lines.specs.declared.session.Next.the-variants.{Write, Read, Stop}
 use Rattle.lines.proofs.Lines.{slice-join}
 use Rattle.lines.proofs.Sessions.{apart, not-stop-read, not-stop-write}
-use Rattle.pattern.proofs.Stores.{take-over}
-use Rattle.lines.proofs.Answering.{take-replied, held-over}
+use Rattle.pattern.proofs.Stores.{take-overwrite}
+use Rattle.lines.proofs.Answering.{take-replied, held-overwrite}
 use Rattle.lines.proofs.Chunks.{in-chunks, in-parts, chunks-hold}
 
 -- what is still to be written, if the input goes on with these chunks and nothing fails
@@ -53,7 +53,7 @@ module _ {chunk input : Bytes} {from held : ℕ} {b : Buffers} {s : State} (a : 
       ap (λ x. owed x chunks) (a .state)
       ∙ ap (λ v. take (p .end) (b′ .out) ++ v) (if-false (p .last) [] _ (a .answered .last))
       ∙ ap₂ (λ v s. v ++ in-chunks (take (p .held) (b′ .line)) (drop (p .from) s ∷ chunks) (b′ .scratch)) (take-replied (d .replied)) (ap (λ n. take n input) (a .answered .to) ∙ e)
-      ∙ ap₂ (λ h s. answers (l .ended) (b .scratch) .text ++ in-chunks h (drop (p .from) chunk ∷ chunks) s) (held-over d) (d .replied .works)
+      ∙ ap₂ (λ h s. answers (l .ended) (b .scratch) .text ++ in-chunks h (drop (p .from) chunk ∷ chunks) s) (held-overwrite d) (d .replied .works)
       ∙ sym (in-parts (take held (b .line)) (slice from (p .from) chunk) (drop (p .from) chunk) (b .scratch) chunks)
       ∙ ap (λ s. in-chunks (take held (b .line)) (s ∷ chunks) (b .scratch)) (sym parts)
     where
@@ -155,7 +155,7 @@ step-goes (end held input input′ b s′ a) =
       well = refl;
       pays =
           λ chunks.
-          ap (λ x. owed x chunks) a ∙ append-nil _ ∙ take-over (answers (last-line (take held (b .line))) (b .scratch) .text) (b .out)
+          ap (λ x. owed x chunks) a ∙ append-nil _ ∙ take-overwrite (answers (last-line (take held (b .line))) (b .scratch) .text) (b .out)
           ∙ ap (λ (x : State). in-chunks (take held (b .line)) (ahead (x .next) chunks) (b .scratch)) (sym a);
       keeps = λ chunks. refl;
       awaits = λ chunks. ap (λ (x : State). ahead (x .next) chunks) a;
@@ -239,7 +239,7 @@ module _ (input : Bytes) (b : Buffers) where
   start-owed : Sound (record { next = Stop; input = input; buffers = b }) → (chunks : List Bytes) → owed start chunks ≡ output (joined chunks)
   unfolding started owed zeros joined in-chunks
   start-owed y chunks =
-      ap₂ (λ v s. v ++ in-chunks [] ([] ∷ chunks) s) (take-over first-line (b .out)) (y .tidy .scratch-zero ∙ ap (λ n. replicate n 0) (y .sized .scratch-full)) ∙ chunks-hold ([] ∷ chunks)
+      ap₂ (λ v s. v ++ in-chunks [] ([] ∷ chunks) s) (take-overwrite first-line (b .out)) (y .tidy .scratch-zero ∙ ap (λ n. replicate n 0) (y .sized .scratch-full)) ∙ chunks-hold ([] ∷ chunks)
 
   owes-then : (t : Trace) (s : State) → Going t s → (chunks : List Bytes) → t .text ++ owed s chunks ≡ owed start (t .chunks ++ to-come (t .ended) chunks)
   owes-then t s g chunks = g .owes chunks ∙ ap (λ v. owed start (t .chunks ++ v)) (g .awaits chunks)

@@ -10,7 +10,7 @@ use Rattle.pattern.proofs.Tests.{le-or-lt}
 use Rattle.replies.specs.Sizes.{out-room}
 use Rattle.lines.specs.Output.{answers, LinesIn, lines-in}
 use Rattle.lines.specs.Taking.{one-line}
-use Rattle.lines.specs.Chunk.{Buffers, Answered}
+use Rattle.lines.specs.Chunk.{Buffers, AnswerChunkPost}
 use Rattle.lines.specs.declared.chunk.Pending.{Pending}
 use Rattle.lines.proofs.Lines.{taken-nothing}
 
@@ -20,7 +20,7 @@ unfolding answers one-line
 nothing-written held chunk scratch from = ap (λ (l : LinesIn). length (answers (l .ended) scratch .text)) (taken-nothing held chunk from)
 
 -- and then there is room for a reply, so more would be taken
-pub answers-move : {chunk : Bytes} {from held : ℕ} {b b′ : Buffers} {p : Pending} → Answered chunk from held b b′ p → out-room ≤ length (b .out) → from < length chunk → from < p .from
+pub answers-move : {chunk : Bytes} {from held : ℕ} {b b′ : Buffers} {p : Pending} → AnswerChunkPost chunk from held b b′ p → out-room ≤ length (b .out) → from < length chunk → from < p .from
 answers-move {chunk} {from} {held} {b} {b′} {p} a o h = ⊎-elim stands (λ l. l) (le-or-lt (p .from) from)
   where
     stands : p .from ≤ from → from < p .from

@@ -9,11 +9,11 @@ use lib.ListN.{length}
 use lib.Signed.{ltZ, nonNeg}
 use borrow.Author.Tests.{ltb-true}
 use Rattle.pattern.specs.Bytes.{Bytes, zeroed}
-use Rattle.pattern.proofs.Stores.{stored-over}
+use Rattle.pattern.proofs.Stores.{store-at-overwrite}
 use Rattle.replies.specs.Reply.{Reply}
 use Rattle.replies.specs.Stores.{Replied}
 use Rattle.lines.specs.Chunk.{Buffers, lend}
-use Rattle.lines.specs.Session.{reading-of, State, started, Starts, finished, AfterRead, PendingIn, AfterWrite}
+use Rattle.lines.specs.Session.{reading-of, State, started, StartPost, finished, AfterRead, PendingIn, AfterWrite}
 use Rattle.lines.specs.Trace.{read, end, write, read-fails, write-fails, Moves}
 use Rattle.lines.specs.declared.session.Input.{Input}
 use Rattle.lines.specs.declared.session.Next.{Next}
@@ -94,7 +94,7 @@ pub state-by : {next : Next} {i i′ l l′ w w′ o o′ : Bytes} → i ≡ i�
 state-by a b c d = cc
 
 -- the first state
-pub started-by : (input line scratch : Bytes) {out out′ : Bytes} {r : Next} → Starts out out′ r → record { next = r; input = input; buffers = lend line scratch out′ } ≡ started input (lend line scratch out)
+pub started-by : (input line scratch : Bytes) {out out′ : Bytes} {r : Next} → StartPost out out′ r → record { next = r; input = input; buffers = lend line scratch out′ } ≡ started input (lend line scratch out)
 unfolding started
 started-by input line scratch a = ap₂ (λ n o. record { next = n; input = input; buffers = lend line scratch o }) (a .next) (a .bytes)
 
@@ -105,4 +105,4 @@ unfolding finished
 finished-by held b {last = last} a w =
     let r = a .within in
     let e : _ ≡ length (last .text) = r .stores .next ∙ omega arith in
-    rw e (state-by refl w (a .works) (r .stores .bytes ∙ stored-over (b .out) (last .text) (omega (arith, r .short, r .stores .next))))
+    rw e (state-by refl w (a .works) (r .stores .bytes ∙ store-at-overwrite (b .out) (last .text) (omega (arith, r .short, r .stores .next))))

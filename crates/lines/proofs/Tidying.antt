@@ -7,7 +7,7 @@ use native.Mathlib.Omega.{arith}
 use lib.Dec.{eqb, ltb}
 use lib.ListN.{length, take, drop, length-append}
 use lib.Seq.{slice, drop-length, drop-drop, length-take-le}
-use Rattle.pattern.specs.Bytes.{Bytes, over, bytes, zeroed}
+use Rattle.pattern.specs.Bytes.{Bytes, overwrite, bytes, zeroed}
 use Rattle.pattern.proofs.Stores.{puts-length}
 use Rattle.replies.specs.Sizes.{newline-byte}
 use Rattle.replies.specs.Stores.{Zero}
@@ -20,7 +20,7 @@ use Rattle.lines.specs.Invariant.{NextIn, Tidy, Sized, Sound}
 use Rattle.lines.specs.declared.chunk.Pending.{Pending}
 use Rattle.lines.specs.declared.session.Next.the-variants.{Write, Stop}
 use Rattle.lines.proofs.Lines.{hold-longer}
-use Rattle.pattern.proofs.Stores.{drop-over}
+use Rattle.pattern.proofs.Stores.{drop-overwrite}
 use Rattle.lines.proofs.Answering.{drop-replied}
 use Rattle.lines.proofs.Chunks.{answers-same}
 use Rattle.lines.proofs.Sessions.{not-stop-read, not-stop-write}
@@ -36,8 +36,8 @@ all-zeroed : (s : Bytes) → Zero (zeroed (length s) s)
 all-zeroed s = rest-zeroed (length s) s (subst Zero (sym (drop-length s)) refl)
 
 -- past a text that is over zeros
-past-zero : (v s : Bytes) → Zero s → Zero (drop (length v) (over v s))
-past-zero v s z = subst Zero (sym (drop-over (length v) v s (omega arith))) (drop-zero (length v) s z)
+past-zero : (v s : Bytes) → Zero s → Zero (drop (length v) (overwrite v s))
+past-zero v s z = subst Zero (sym (drop-overwrite (length v) v s (omega arith))) (drop-zero (length v) s z)
 
 -- past what is held of a line there are zeros, if there were
 abbrev Blank : LinesIn → Bytes → Type 0
@@ -86,7 +86,7 @@ module _ (held : ℕ) (input : Bytes) (b : Buffers) (line-zero : Zero (drop held
         tidy =
             record {
               line-zero =
-                  subst Zero (sym (ap (drop (p .held)) (d .line) ∙ drop-over (p .held) (l .held) _ (omega (arith, d .held)) ∙ ap (λ n. drop n (wiped (l .ended) (b .line))) (d .held)))
+                  subst Zero (sym (ap (drop (p .held)) (d .line) ∙ drop-overwrite (p .held) (l .held) _ (omega (arith, d .held)) ∙ ap (λ n. drop n (wiped (l .ended) (b .line))) (d .held)))
                   (wiped-zero (take held (b .line)) (slice from (p .from) chunk) (b .line) begun);
               scratch-zero = subst Zero (sym (d .replied .works ∙ answers-same (l .ended) (b .scratch) scratch-zero)) scratch-zero;
               out-zero = subst Zero (sym (drop-replied (d .replied))) (drop-zero (p .end) (b .out) out-zero);
@@ -97,7 +97,7 @@ module _ (held : ℕ) (input : Bytes) (b : Buffers) (line-zero : Zero (drop held
       z
 
   finished-sound : (lines : Bytes) → Sized (finished (answers (last-line lines) (b .scratch)) held input b) → Sound (finished (answers (last-line lines) (b .scratch)) held input b)
-  unfolding finished over NextIn
+  unfolding finished overwrite NextIn
   finished-sound lines z =
       let r = answers (last-line lines) (b .scratch) in
       record {
@@ -153,7 +153,7 @@ sized-as z i l w o = record { input-some = omega (arith, z .input-some); line-si
 
 -- at first, from buffers of zeros
 pub start-sound : {input : Bytes} {b : Buffers} → Sound (record { next = Stop; input = input; buffers = b }) → Sized (started input b) → Sound (started input b)
-unfolding started NextIn first-line bytes over
+unfolding started NextIn first-line bytes overwrite
 start-sound {input} {b} y z =
     record {
       ready = record { from-fits = omega arith; to-fits = omega arith; end-fits = omega (arith, y .sized .out-size, z .out-size); lent = record { line-size = z .line-size; held-fits = omega arith; out-size = z .out-size } };

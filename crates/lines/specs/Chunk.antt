@@ -4,7 +4,7 @@ use mathlib.Core.Bool.{false}
 use Prim.Native.Nat.{ℕ, _+_, _≤_, _<_}
 use lib.ListN.{length, take}
 use lib.Seq.{slice}
-use Rattle.pattern.specs.Bytes.{Bytes, over}
+use Rattle.pattern.specs.Bytes.{Bytes, overwrite}
 use Rattle.replies.specs.Sizes.{held-limit, out-room}
 use Rattle.replies.specs.Stores.{Replied}
 use Rattle.lines.specs.Output.{answers, LinesIn, lines-in, wiped}
@@ -28,12 +28,12 @@ pub record Lent (held : ℕ) (b : Buffers) : Type 0 where
 -- lines are answered: the replies to those that ended stand at the output's start, their bytes are zero, and the held one stands there
 pub record Done (l : LinesIn) (b b′ : Buffers) (p : Pending) : Type 0 where
   pub replied : Replied (length (b .out)) (answers (l .ended) (b .scratch)) (b .out) 0 (b′ .scratch) (b′ .out) (p .end)
-  pub line : b′ .line ≡ over (l .held) (wiped (l .ended) (b .line))
+  pub line : b′ .line ≡ overwrite (l .held) (wiped (l .ended) (b .line))
   pub held : p .held ≡ length (l .held)
   pub held-fits : p .held ≤ held-limit
 
 -- the lines of a chunk from one place to another are answered; if the chunk has more, no line is held and the rest of the output may be short of a reply
-pub record Answered (chunk : Bytes) (from held : ℕ) (b b′ : Buffers) (p : Pending) : Type 0 where
+pub record AnswerChunkPost (chunk : Bytes) (from held : ℕ) (b b′ : Buffers) (p : Pending) : Type 0 where
   pub done : Done (lines-in (take held (b .line)) (slice from (p .from) chunk)) b b′ p
   pub forward : from ≤ p .from
   pub from-fits : p .from ≤ p .to

@@ -5,10 +5,10 @@ use Prim.Native.Nat.{ℕ, zero, suc, min, _≤_}
 use lib.Dec.{ltb}
 use lib.IntN.{ℤ, pos, negsuc}
 use lib.ListN.{length, take}
-use Rattle.pattern.specs.Bytes.{Bytes, over, zeroed}
+use Rattle.pattern.specs.Bytes.{Bytes, overwrite, zeroed}
 use Rattle.replies.specs.Reply.{Reply}
 use Rattle.lines.specs.Output.{answers, last-line, first-line}
-use Rattle.lines.specs.Chunk.{Buffers, lend, Lent, Answered}
+use Rattle.lines.specs.Chunk.{Buffers, lend, Lent, AnswerChunkPost}
 use Rattle.lines.specs.declared.chunk.Pending.{Pending}
 use Rattle.lines.specs.declared.session.Input.{Input}
 use Rattle.lines.specs.declared.session.Input.the-variants.{Failed, Ended, Chunk}
@@ -35,11 +35,11 @@ abbrev first-pending : Pending
 first-pending = record { from = 0; to = 0; held = 0; end = length first-line; last = false }
 
 unfoldable pub started : (input : Bytes) → Buffers → State
-started input b = record { next = Write first-pending; input = input; buffers = record { line = b .line; scratch = b .scratch; out = over first-line (b .out) } }
+started input b = record { next = Write first-pending; input = input; buffers = record { line = b .line; scratch = b .scratch; out = overwrite first-line (b .out) } }
 
-pub record Starts (out out′ : Bytes) (r : Next) : Type 0 where
+pub record StartPost (out out′ : Bytes) (r : Next) : Type 0 where
   pub next : r ≡ Write first-pending
-  pub bytes : out′ ≡ over first-line out
+  pub bytes : out′ ≡ overwrite first-line out
 
 -- zeros over all of them
 abbrev blanked : Bytes → Bytes
@@ -53,7 +53,7 @@ halted input b = record { next = Stop; input = blanked input; buffers = record {
 pub record Continues (chunk : Bytes) (from held : ℕ) (input : Bytes) (b : Buffers) (s : State) : Type 0 where
   pub part : Pending
   pub after : Buffers
-  pub answered : Answered chunk from held b after part
+  pub answered : AnswerChunkPost chunk from held b after part
   pub state : s ≡ record { next = Write part; input = input; buffers = after }
 
 -- ---- after a read
@@ -64,7 +64,7 @@ finished last held input b =
     record {
       next = Write (record { from = 0; to = 0; held = 0; end = length (last .text); last = true });
       input = input;
-      buffers = record { line = zeroed held (b .line); scratch = last .scratch; out = over (last .text) (b .out) };
+      buffers = record { line = zeroed held (b .line); scratch = last .scratch; out = overwrite (last .text) (b .out) };
     }
 
 -- failed: nothing is answered of what is held; ended: it is the last line; else the chunk is answered

@@ -16,7 +16,7 @@ one-line true line = record { ended = line ∷ []; held = [] }
 one-line false line = record { ended = []; held = line }
 
 -- the bytes of a chunk up to a place give these bytes of a line, in a buffer before and after; its bytes past those held stay
-pub record Took (chunk : Bytes) (from : ℕ) (line : Bytes) (held : ℕ) (after : Bytes) (r : Taken) : Type 0 where
+pub record TakeLinePost (chunk : Bytes) (from : ℕ) (line : Bytes) (held : ℕ) (after : Bytes) (r : Taken) : Type 0 where
   pub equal : lines-in (take held line) (slice from (r .next) chunk) ≡ one-line (r .ended) (take (r .held) after)
   pub stays : drop (r .held) after ≡ drop (r .held) line
   pub size : length after ≡ length line

@@ -4,7 +4,7 @@ ghost use lib.ListN.{length};
 ghost use Rattle.replies.specs.Sizes.{out-room};
 ghost use Rattle.replies.specs.Stores.{Replied};
 ghost use Rattle.lines.specs.Output.{answers, last-line};
-ghost use Rattle.lines.specs.Chunk.{lend, Lent, Answered};
+ghost use Rattle.lines.specs.Chunk.{lend, Lent, AnswerChunkPost};
 use crate::line::take_line;
 use replies::reply::answer_line;
 use replies::sizes::OUT_ROOM;
@@ -30,7 +30,7 @@ pub fn answer_chunk(
     out: &mut [u8],
 ) -> Pending
     requires { ⌜ from ≤ length (now chunk) ⌝ ∗ ⌜ Lent held (lend (now line) (now scratch) (now out)) ⌝ }
-    ensures { λ r. ⌜ Answered (now (chunk .entry)) from held (lend (now (line .entry)) (now (scratch .entry)) (now (out .entry))) (lend (now (line .exit)) (now (scratch .exit)) (now (out .exit))) r ⌝ }
+    ensures { λ r. ⌜ AnswerChunkPost (now (chunk .entry)) from held (lend (now (line .entry)) (now (scratch .entry)) (now (out .entry))) (lend (now (line .exit)) (now (scratch .exit)) (now (out .exit))) r ⌝ }
 {
     let mut next = from;
     let mut n = held;

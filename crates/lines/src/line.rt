@@ -3,7 +3,7 @@ ghost use mathlib.Core.Path.{_≡_};
 ghost use Prim.Native.Nat.{_≤_};
 ghost use lib.ListN.{length};
 ghost use Rattle.replies.specs.Sizes.{held-limit};
-ghost use Rattle.lines.specs.Taking.{Took};
+ghost use Rattle.lines.specs.Taking.{TakeLinePost};
 use replies::sizes::HELD_LIMIT;
 use replies::sizes::NEWLINE;
 
@@ -17,7 +17,7 @@ pub struct Taken {
 // The bytes of a chunk up to a newline, put after the held ones of a line.
 pub fn take_line(chunk: &[u8], from: usize, line: &mut [u8], held: usize) -> Taken
     requires { ⌜ (from ≤ length (now chunk)) × (length (now line) ≡ held-limit) × (held ≤ held-limit) ⌝ }
-    ensures { λ r. ⌜ Took (now (chunk .entry)) from (now (line .entry)) held (now (line .exit)) r ⌝ }
+    ensures { λ r. ⌜ TakeLinePost (now (chunk .entry)) from (now (line .entry)) held (now (line .exit)) r ⌝ }
 {
     let mut at = from;
     let mut n = held;

@@ -6,7 +6,7 @@ ghost use Prim.Native.Nat.{_≤_};
 ghost use lib.ListN.{length};
 ghost use Rattle.replies.specs.Sizes.{out-room};
 ghost use Rattle.lines.specs.Chunk.{lend, Lent};
-ghost use Rattle.lines.specs.Session.{reading-of, state-of, Starts, halted, AfterRead, PendingIn, AfterWrite};
+ghost use Rattle.lines.specs.Session.{reading-of, state-of, StartPost, halted, AfterRead, PendingIn, AfterWrite};
 use crate::chunk::Pending;
 use crate::chunk::answer_chunk;
 use crate::chunk::answer_last;
@@ -52,7 +52,7 @@ pub fn reading(got: isize, room: usize) -> Input
 // At first: the line that the output begins with is to be written.
 pub fn start(out: &mut [u8]) -> Next
     requires { ⌜ out-room ≤ length (now out) ⌝ }
-    ensures { λ r. ⌜ Starts (now (out .entry)) (now (out .exit)) r ⌝ }
+    ensures { λ r. ⌜ StartPost (now (out .entry)) (now (out .exit)) r ⌝ }
 {
     let line = FIRST_LINE;
     copy(&line, FIRST_SIZE, out, 0);

@@ -5,21 +5,21 @@ use mathlib.Core.List.{[], _++_, append-assoc, append-nil}
 use Prim.Native.Nat.{ℕ, zero, suc, _+_, _*_, _-_, _≤_, _<_}
 use native.Mathlib.Omega.{arith}
 use lib.ListN.{length}
-use Rattle.pattern.specs.Bytes.{Bytes, word, over}
+use Rattle.pattern.specs.Bytes.{Bytes, le16, overwrite}
 use Rattle.pattern.specs.Syntax.{pattern, atom, Syntax, last, then, size, top-size}
 use Rattle.pattern.specs.Decision.{trial, decide}
 use Rattle.pattern.specs.Parts.{longest, end, parts}
 use Rattle.pattern.specs.Decode.{tree-of}
 use Rattle.pattern.specs.Answers.{part-bytes}
 use Rattle.pattern.specs.Stores.{Puts}
-use Rattle.pattern.proofs.Stores.{stored-over, puts-none, puts-then, puts-length}
+use Rattle.pattern.proofs.Stores.{store-at-overwrite, puts-none, puts-then, puts-length}
 use Rattle.pattern.proofs.RoundTrip.{some-pattern}
 use Rattle.pattern.proofs.Longest.{longest-le}
 use Rattle.table.specs.declared.record.Record.{Record}
 use Rattle.atoms.specs.Records.{RecordOf}
 use Rattle.planes.specs.Cells.{Plane, Readable, on}
 use Rattle.atoms.specs.Atoms.{atoms, node, head}
-use Rattle.matcher.specs.Parted.{Parting, Parted}
+use Rattle.matcher.specs.WriteParts.{WritePartsPre, WritePartsPost}
 use Rattle.atoms.proofs.Views.{node-first}
 use Rattle.planes.proofs.Planes.{plane-on, plane-flags}
 use Rattle.planes.proofs.Relations.{trial-same}
@@ -74,15 +74,15 @@ unfolding top-size
 some-top (last a) = omega arith
 some-top (then a p) = omega arith
 
-parts-last : (l : Bytes) (p : Syntax pattern) (a : Syntax atom) (i : ℕ) → p ≡ last a → (part-bytes (parts l p i) ≡ word (length l) []) × (top-size p ≡ 1)
+parts-last : (l : Bytes) (p : Syntax pattern) (a : Syntax atom) (i : ℕ) → p ≡ last a → (part-bytes (parts l p i) ≡ le16 (length l) []) × (top-size p ≡ 1)
 unfolding parts part-bytes top-size
 parts-last l p a i e = (ap (λ (q : Syntax pattern). part-bytes (parts l q i)) e, ap top-size e)
 
-parts-then : (l : Bytes) (p : Syntax pattern) (a : Syntax atom) (q : Syntax pattern) (i : ℕ) → p ≡ then a q → (part-bytes (parts l p i) ≡ word (end l a q i) (part-bytes (parts l q (end l a q i)))) × (top-size p ≡ suc (top-size q))
+parts-then : (l : Bytes) (p : Syntax pattern) (a : Syntax atom) (q : Syntax pattern) (i : ℕ) → p ≡ then a q → (part-bytes (parts l p i) ≡ le16 (end l a q i) (part-bytes (parts l q (end l a q i)))) × (top-size p ≡ suc (top-size q))
 unfolding parts part-bytes top-size
 parts-then l p a q i e = (ap (λ (y : Syntax pattern). part-bytes (parts l y i)) e, ap top-size e)
 
-module _ (table label s : Bytes) (w : ℕ) (lent₀ : Bytes) (ok : Parting table label s w lent₀) where
+module _ (table label s : Bytes) (w : ℕ) (lent₀ : Bytes) (ok : WritePartsPre table label s w lent₀) where
   pub parts-start : PartsAt table label lent₀ lent₀ 0 0 0
   parts-start = record {
     there = omega (arith, some-pattern (tree-of table));
@@ -98,12 +98,12 @@ module _ (table label s : Bytes) (w : ℕ) (lent₀ : Bytes) (ok : Parting table
     parts-room = omega (arith, inv .room, puts-length (inv .puts), some-top (node table x))
 
     module _ (r : Record) (is : RecordOf table x r) where
-      pub parts-end : r .ends ≡ 1 → (lent′ : Bytes) (k : ℕ) → Puts lent at (word (length label) []) lent′ k → Parted table label lent₀ lent′
+      pub parts-end : r .ends ≡ 1 → (lent′ : Bytes) (k : ℕ) → Puts lent at (le16 (length label) []) lent′ k → WritePartsPost table label lent₀ lent′
       parts-end e lent′ k got =
           let (l, n) = parts-last label _ _ i (is .is-last e) in
-          let whole : part-bytes (parts label (tree-of table) 0) ≡ inv .done ++ word (length label) [] = inv .left ∙ ap (λ (y : Bytes). inv .done ++ y) l in
+          let whole : part-bytes (parts label (tree-of table) 0) ≡ inv .done ++ le16 (length label) [] = inv .left ∙ ap (λ (y : Bytes). inv .done ++ y) l in
           let p = puts-then (inv .puts) got in
-          record { written = p .bytes ∙ stored-over lent₀ (inv .done ++ word (length label) []) (omega (arith, p .next, got .next, parts-room, puts-length (inv .puts))) ∙ ap (λ (v : Bytes). over v lent₀) (sym whole) }
+          record { written = p .bytes ∙ store-at-overwrite lent₀ (inv .done ++ le16 (length label) []) (omega (arith, p .next, got .next, parts-room, puts-length (inv .puts))) ∙ ap (λ (v : Bytes). overwrite v lent₀) (sym whole) }
 
       module _ (n : r .ends ≡ 1 → ⊥) (next : ℕ) (e : next ≡ x + size (head (node table x))) where
         then-is : node table x ≡ then (head (node table x)) (node table next)
@@ -137,15 +137,15 @@ module _ (table label s : Bytes) (w : ℕ) (lent₀ : Bytes) (ok : Parting table
               let wide = ok .work .wide in
               found ∙ ap (λ (k : ℕ). i + k) (longest-same _ _ (suc (length label) - i) (trial-same w _ _ _ _ (plane-on own) (plane-on rest) i (length label) (inv .inner) (omega arith)))
 
-          pub parts-step : (lent′ : Bytes) (k : ℕ) → Puts lent at (word m []) lent′ k → PartsAt table label lent₀ lent′ next m k
+          pub parts-step : (lent′ : Bytes) (k : ℕ) → Puts lent at (le16 m []) lent′ k → PartsAt table label lent₀ lent′ next m k
           parts-step lent′ k got =
               let (l, z) = parts-then label _ _ _ i then-is in
-              let whole : part-bytes (parts label (node table x) i) ≡ word m (part-bytes (parts label (node table next) m)) = rw end-is l in
+              let whole : part-bytes (parts label (node table x) i) ≡ le16 m (part-bytes (parts label (node table next) m)) = rw end-is l in
               record {
                 there = parts-next;
                 inner = parts-in;
                 room = omega (arith, inv .room, got .next);
-                done = inv .done ++ word m [];
+                done = inv .done ++ le16 m [];
                 puts = puts-then (inv .puts) got;
-                left = inv .left ∙ ap (λ (y : Bytes). inv .done ++ y) whole ∙ sym (append-assoc (inv .done) (word m []) _);
+                left = inv .left ∙ ap (λ (y : Bytes). inv .done ++ y) whole ∙ sym (append-assoc (inv .done) (le16 m []) _);
               }

@@ -14,11 +14,11 @@ use Rattle.atoms.proofs.Views.{branches-last, branches-more, branches-some}
 use Rattle.planes.specs.declared.fill.Content.{Content}
 use Rattle.planes.specs.declared.fill.Content.the-variants.{Codes, Literal}
 use Rattle.planes.specs.Cells.{InRoom, Plane, Kept, Others, on}
-use Rattle.planes.specs.Whole.{Blanked, Addable, Added}
-use Rattle.planes.specs.Filled.{held-in, Fit, Fillable, Filled}
-use Rattle.atoms.specs.Atoms.{atoms, node, branches-from, head, inside}
-use Rattle.matcher.specs.Work.{Work, Settled}
-use Rattle.matcher.specs.Bodied.{Bodying, UnitePre, Bodied}
+use Rattle.planes.specs.Whole.{BlankPost, AddPre, AddPost}
+use Rattle.planes.specs.Fill.{held-in, Fit, FillPre, FillPost}
+use Rattle.atoms.specs.Atoms.{atoms, node, branches-from, head, body-of}
+use Rattle.matcher.specs.Settled.{StepPre, Settled}
+use Rattle.matcher.specs.FillBody.{FillBodyPre, UnionBranchesPre, FillBodyPost}
 use Rattle.planes.proofs.Planes.{Same, kept-all, kept-then, plane-on, plane-same, plane-flags, plane-kept, room-of, planes-le}
 
 -- settled planes stay settled where they are kept
@@ -30,42 +30,42 @@ settled-kept k f h = record {
 }
 
 -- room is a matter of length
-pub work-long : {table label s s′ : Bytes} {w : ℕ} → length s′ ≡ length s → Work table label s w → Work table label s′ w
+pub work-long : {table label s s′ : Bytes} {w : ℕ} → length s′ ≡ length s → StepPre table label s w → StepPre table label s′ w
 work-long e h = record { good = h .good; short = h .short; wide = h .wide; room = rw e (h .room) }
 
-pub work-room : {table label s : Bytes} {w : ℕ} → Work table label s w → (p : ℕ) → p < 2 * atoms table + 4 → InRoom s w p
+pub work-room : {table label s : Bytes} {w : ℕ} → StepPre table label s w → (p : ℕ) → p < 2 * atoms table + 4 → InRoom s w p
 work-room {table} {label} {s} {w} h p l = room-of s w p (2 * atoms table + 4) l (h .room)
 
-pub work-few : {table label s : Bytes} {w : ℕ} → Work table label s w → 2 * atoms table + 4 ≤ length s
+pub work-few : {table label s : Bytes} {w : ℕ} → StepPre table label s w → 2 * atoms table + 4 ≤ length s
 work-few {table} {label} {s} {w} h = omega (arith, planes-le w (2 * atoms table + 4) (omega (arith, h .wide)), h .room)
 
-module _ (table label s : Bytes) (w top x : ℕ) (ok : Bodying table label s w top x) where
-  pub body-blank : (1 ≤ w) × InRoom s w top
-  body-blank = (omega (arith, ok .work .wide), work-room (ok .work) top (omega (arith, ok .topmost)))
+module _ (table label s : Bytes) (w temp x : ℕ) (ok : FillBodyPre table label s w temp x) where
+  pub body-blank : (1 ≤ w) × InRoom s w temp
+  body-blank = (omega (arith, ok .work .wide), work-room (ok .work) temp (omega (arith, ok .temp-is)))
 
-  -- plane top can be filled with what lies where it should
-  pub body-fill : (content : Content) → Fit table content → Fillable table label s w content top
+  -- plane temp can be filled with what lies where it should
+  pub body-fill : (content : Content) → Fit table content → FillPre table label s w content temp
   body-fill content f = record { wide = ok .work .wide; fit = f; into = body-blank .1 }
 
-  pub body-codes : {s′ : Bytes} {r : Record} → RecordOf table x r → r .kind ≡ 1 → Filled table label s s′ w (Codes (r .a)) top → Bodied table label s s′ w top x
+  pub body-codes : {s′ : Bytes} {r : Record} → RecordOf table x r → r .kind ≡ 1 → FillPost table label s s′ w (Codes (r .a)) temp → FillBodyPost table label s s′ w temp x
   unfolding held-in decide
   body-codes got e f = let z = got .is-codes e in record { plane = plane-same (f .plane) (λ i j hi hj. rw z); kept = f .kept }
 
-  pub body-literal : {s′ : Bytes} {from len : ℕ} → LiteralAt table x from len → Filled table label s s′ w (Literal from len) top → Bodied table label s s′ w top x
+  pub body-literal : {s′ : Bytes} {from len : ℕ} → LiteralAt table x from len → FillPost table label s s′ w (Literal from len) temp → FillBodyPost table label s s′ w temp x
   unfolding held-in decide
   body-literal v f = record { plane = plane-same (f .plane) (λ i j hi hj. rw (v .is)); kept = f .kept }
 
 -- ---- the branches of a group
 
--- plane top and the branches that are left, from atom first on, say what the group says
-pub record UniteAt (table label s₁ : Bytes) (w top x : ℕ) (s : Bytes) (first more : ℕ) : Type 0 where
+-- plane temp and the branches that are left, from atom first on, say what the group says
+pub record UnionBranchesAt (table label s₁ : Bytes) (w temp x : ℕ) (s : Bytes) (first more : ℕ) : Type 0 where
   pub long : length s ≡ length s₁
-  pub kept : Kept s₁ s w (top + 1) (Others top)
+  pub kept : Kept s₁ s w (temp + 1) (Others temp)
   pub settled : Settled table label s w (suc x)
   pub ahead : x < first
   pub within : first + size (branches-from table more first) ≤ atoms table
-  pub flags : Plane s w top (on s w top)
-  pub both : Same w (λ i j. on s w top i j || decide label (branches-from table more first) i j) (decide label (inside (head (node table x))))
+  pub flags : Plane s w temp (on s w temp)
+  pub both : Same w (λ i j. on s w temp i j || decide label (branches-from table more first) i j) (decide label (body-of (head (node table x))))
 
 or-assoc : (a b c : Bool) → (a || b) || c ≡ a || (b || c)
 or-assoc true b c = refl
@@ -89,17 +89,17 @@ decide-group : (l : Bytes) {b : Syntax body} (bs : Syntax branches) → b ≡ gr
 unfolding decide
 decide-group l bs e = ap (λ (y : Syntax body). decide l y) e
 
-module _ (table label s₀ s₁ : Bytes) (w top x count : ℕ) (pre : UnitePre table label s₀ w top x count) (len : length s₁ ≡ length s₀) (blank : Blanked s₀ s₁ w top) where
-  ok : Bodying table label s₀ w top x
+module _ (table label s₀ s₁ : Bytes) (w temp x count : ℕ) (pre : UnionBranchesPre table label s₀ w temp x count) (len : length s₁ ≡ length s₀) (blank : BlankPost s₀ s₁ w temp) where
+  ok : FillBodyPre table label s₀ w temp x
   ok = pre .body
 
-  away : (q i j : ℕ) → 2 * suc x ≤ q → q < 2 * atoms table → Others top q i j
-  away q i j l m e = omega (arith, ok .topmost)
+  away : (q i j : ℕ) → 2 * suc x ≤ q → q < 2 * atoms table → Others temp q i j
+  away q i j l m e = omega (arith, ok .temp-is)
 
-  pub unite-start : UniteAt table label s₁ w top x s₁ (x + 1) (count - 1)
-  unite-start = record {
+  pub union-start : UnionBranchesAt table label s₁ w temp x s₁ (x + 1) (count - 1)
+  union-start = record {
     long = refl;
-    kept = kept-all s₁ w (top + 1) (Others top);
+    kept = kept-all s₁ w (temp + 1) (Others temp);
     settled = settled-kept (blank .kept) away (ok .settled);
     ahead = omega arith;
     within = pre .group .within;
@@ -107,40 +107,40 @@ module _ (table label s₀ s₁ : Bytes) (w top x count : ℕ) (pre : UnitePre t
     both = λ i j hi hj. rw (plane-on (blank .plane) i j hi hj, decide-group label _ (pre .group .is));
   }
 
-  module _ (s : Bytes) (first more : ℕ) (inv : UniteAt table label s₁ w top x s first more) where
-    work : Work table label s w
+  module _ (s : Bytes) (first more : ℕ) (inv : UnionBranchesAt table label s₁ w temp x s first more) where
+    work : StepPre table label s w
     work = work-long (inv .long ∙ len) (ok .work)
 
-    pub unite-there : first < atoms table
-    unite-there = omega (arith, inv .within, branches-some table more first, some-pattern (node table first))
+    pub union-there : first < atoms table
+    union-there = omega (arith, inv .within, branches-some table more first, some-pattern (node table first))
 
-    pub unite-add : Addable s w (2 * first + 1) top
-    unite-add = record {
+    pub union-add : AddPre s w (2 * first + 1) temp
+    union-add = record {
       wide = omega (arith, work .wide);
-      added = record { room = work-room work (2 * first + 1) (omega (arith, unite-there)); flags = plane-flags (inv .settled .rest first (inv .ahead) unite-there) };
-      into = record { room = work-room work top (omega (arith, ok .topmost)); flags = inv .flags };
+      added = record { room = work-room work (2 * first + 1) (omega (arith, union-there)); flags = plane-flags (inv .settled .rest first (inv .ahead) union-there) };
+      into = record { room = work-room work temp (omega (arith, ok .temp-is)); flags = inv .flags };
     }
 
-    module _ (s′ : Bytes) (len′ : length s′ ≡ length s) (f : Added s s′ w (2 * first + 1) top) where
-      -- plane top has the first branch besides
-      joined : Plane s′ w top (λ i j. on s w top i j || decide label (node table first) i j)
+    module _ (s′ : Bytes) (len′ : length s′ ≡ length s) (f : AddPost s s′ w (2 * first + 1) temp) where
+      -- plane temp has the first branch besides
+      joined : Plane s′ w temp (λ i j. on s w temp i j || decide label (node table first) i j)
       joined =
-          plane-same (f .plane) (λ i j hi hj. rw (plane-on (inv .settled .rest first (inv .ahead) unite-there) i j hi hj) (or-comm (decide label (node table first) i j) (on s w top i j)))
+          plane-same (f .plane) (λ i j hi hj. rw (plane-on (inv .settled .rest first (inv .ahead) union-there) i j hi hj) (or-comm (decide label (node table first) i j) (on s w temp i j)))
 
-      kept-on : Kept s₁ s′ w (top + 1) (Others top)
+      kept-on : Kept s₁ s′ w (temp + 1) (Others temp)
       kept-on = kept-then (inv .kept) (f .kept) (λ q i j n. n) (λ q i j n. n)
 
-      pub unite-end : more ≡ 0 → Bodied table label s₀ s′ w top x
-      unite-end e =
+      pub union-end : more ≡ 0 → FillBodyPost table label s₀ s′ w temp x
+      union-end e =
           let z = decide-only label _ (branches-last table more first e) in
           record {
-            plane = plane-same joined (λ i j hi hj. ap (λ (R : Rel). on s w top i j || R i j) (sym z) ∙ inv .both i j hi hj);
+            plane = plane-same joined (λ i j hi hj. ap (λ (R : Rel). on s w temp i j || R i j) (sym z) ∙ inv .both i j hi hj);
             kept = kept-then (blank .kept) kept-on (λ q i j n. n) (λ q i j n. n);
           }
 
-      pub unite-step : (more ≡ 0 → ⊥) → (next : ℕ) → next ≡ first + size (node table first) → UniteAt table label s₁ w top x s′ next (more - 1)
+      pub union-step : (more ≡ 0 → ⊥) → (next : ℕ) → next ≡ first + size (node table first) → UnionBranchesAt table label s₁ w temp x s′ next (more - 1)
       unfolding size
-      unite-step n next e =
+      union-step n next e =
           let z = branches-more table more first n in
           record {
             long = len′ ∙ inv .long;
@@ -150,6 +150,6 @@ module _ (table label s₀ s₁ : Bytes) (w top x count : ℕ) (pre : UnitePre t
             within = rw e (omega (arith, inv .within, ap (λ (y : Syntax branches). size y) z));
             flags = plane-flags joined;
             both = λ i j hi hj. rw (plane-on joined i j hi hj, e)
-                (or-assoc (on s w top i j) (decide label (node table first) i j) (decide label (branches-from table (more - 1) (first + size (node table first))) i j)
-                ∙ ap (λ (b : Bool). on s w top i j || b) (sym (decide-or label _ _ z i j)) ∙ inv .both i j hi hj);
+                (or-assoc (on s w temp i j) (decide label (node table first) i j) (decide label (branches-from table (more - 1) (first + size (node table first))) i j)
+                ∙ ap (λ (b : Bool). on s w temp i j || b) (sym (decide-or label _ _ z i j)) ∙ inv .both i j hi hj);
           }

@@ -7,9 +7,9 @@ use native.Mathlib.Omega.{arith}
 use borrow.Author.Tests.{eq-eqb}
 use lib.Dec.{leb}
 use lib.Seq.{slice-empty}
-use Rattle.pattern.specs.Bytes.{Bytes, same}
+use Rattle.pattern.specs.Bytes.{Bytes, equal}
 use Rattle.pattern.specs.Syntax.{Sort, Syntax, last, then, repeat, codes, literal, group, only, or}
-use Rattle.pattern.specs.Decision.{Rel, any, trial, join, made, most, repeated, one, decide}
+use Rattle.pattern.specs.Decision.{Rel, any, trial, join, power, max-count, repeated, single, decide}
 use Rattle.planes.proofs.Relations.{any-same}
 
 abbrev Level : Rel → Type 0
@@ -23,24 +23,24 @@ module _ (R S : Rel) where
   join-level : Level R → Level S → Level (join R S)
   join-level r s i = join-empty i ∙ rw (r i, s i) (sym (join-empty 0))
 
-made-level : (R : Rel) → Level R → (k : ℕ) → Level (made R k)
-unfolding made
-made-level R r zero i = eq-eqb i i refl
-made-level R r (suc k) i = join-level R (made R k) r (made-level R r k) i
+power-level : (R : Rel) → Level R → (k : ℕ) → Level (power R k)
+unfolding power
+power-level R r zero i = eq-eqb i i refl
+power-level R r (suc k) i = join-level R (power R k) r (power-level R r k) i
 
 repeated-level : (n low : ℕ) (high : Option ℕ) (R : Rel) → Level R → Level (repeated n low high R)
 unfolding repeated
 repeated-level n low high R r i =
-    let enough : ℕ → ℕ → Bool = λ i k. leb (min low n) k && made R k i i in
-    rw (r i, any-same (enough i) (enough 0) (suc (most n high)) (λ k h. ap (λ (b : Bool). leb (min low n) k && b) (made-level R r k i)))
+    let enough : ℕ → ℕ → Bool = λ i k. leb (min low n) k && power R k i i in
+    rw (r i, any-same (enough i) (enough 0) (suc (max-count n high)) (λ k h. ap (λ (b : Bool). leb (min low n) k && b) (power-level R r k i)))
 
 pub decide-level : (l : Bytes) {s : Sort} (x : Syntax s) → Level (decide l x)
 unfolding decide
 decide-level l (last a) i = decide-level l a i
 decide-level l (then a p) i = join-level (decide l a) (decide l p) (decide-level l a) (decide-level l p) i
 decide-level l (repeat low high b) i = repeated-level _ low high (decide l b) (decide-level l b) i
-decide-level l (codes set) i = ap (one set) (slice-empty i l ∙ sym (slice-empty 0 l))
-decide-level l (literal value) i = ap (λ (v : Bytes). same v value) (slice-empty i l ∙ sym (slice-empty 0 l))
+decide-level l (codes set) i = ap (single set) (slice-empty i l ∙ sym (slice-empty 0 l))
+decide-level l (literal value) i = ap (λ (v : Bytes). equal v value) (slice-empty i l ∙ sym (slice-empty 0 l))
 decide-level l (group bs) i = decide-level l bs i
 decide-level l (only p) i = decide-level l p i
 decide-level l (or p bs) i = rw (decide-level l p i, decide-level l bs i)

@@ -15,17 +15,17 @@ use Rattle.pattern.specs.Decision.{decide}
 use Rattle.pattern.specs.Parts.{parts, verdict}
 use Rattle.pattern.specs.Trials.{trials}
 use Rattle.pattern.specs.Decode.{tree-of}
-use Rattle.pattern.specs.Answers.{result, work, ended, Matched as Outcome}
+use Rattle.pattern.specs.Answers.{result, scratch-needed, ended, Matched as Outcome}
 use Rattle.pattern.proofs.Tests.{if-true, if-false}
 use Rattle.pattern.proofs.Calls.{ending-within, ending-beyond}
 use Rattle.pattern.proofs.RoundTrip.{some-pattern}
 use Rattle.planes.specs.declared.join.Tally.{Tally}
 use Rattle.planes.specs.Cells.{InRoom, on}
 use Rattle.atoms.specs.Atoms.{atoms}
-use Rattle.matcher.specs.Work.{Work}
-use Rattle.matcher.specs.Steps.{AllSettled}
-use Rattle.matcher.specs.Parted.{Parting, Parted}
-use Rattle.matcher.specs.Answered.{Running, unrefused}
+use Rattle.matcher.specs.Settled.{StepPre}
+use Rattle.matcher.specs.Steps.{SettleAllPost}
+use Rattle.matcher.specs.WriteParts.{WritePartsPre, WritePartsPost}
+use Rattle.matcher.specs.Answered.{RunPre, unrefused}
 use Rattle.planes.proofs.Planes.{plane-on}
 use Rattle.planes.proofs.Counting.{counted-room, counted-all, counted-past}
 use Rattle.matcher.proofs.Groups.{work-long, work-room}
@@ -36,7 +36,7 @@ drop-same : (s s′ : Bytes) (q : ℕ) → length s′ ≡ length s → ((x : �
 drop-same s s′ q e h =
     ext-getD 0 (drop q s′) (drop q s) (simp (length-drop, e)) (λ i l. getD-drop q s′ i 0 ∙ h (q + i) (omega arith) ∙ sym (getD-drop q s i 0))
 
-module _ (table label scratch lent : Bytes) (count : ℕ) (ok : Running table label scratch lent count) where
+module _ (table label scratch lent : Bytes) (count : ℕ) (ok : RunPre table label scratch lent count) where
   abbrev t : Syntax pattern
   t = tree-of table
 
@@ -46,7 +46,7 @@ module _ (table label scratch lent : Bytes) (count : ℕ) (ok : Running table la
   abbrev len : ℕ
   len = (2 * count + 4) * w * w
 
-  len-is : len ≡ work t (length label)
+  len-is : len ≡ scratch-needed t (length label)
   len-is = ap (λ (k : ℕ). (2 * k + 4) * w * w) (ok .counted)
 
   pub run-room : len ≤ length scratch
@@ -58,7 +58,7 @@ module _ (table label scratch lent : Bytes) (count : ℕ) (ok : Running table la
   pub run-few : 2 * count + 4 ≤ length scratch
   run-few = let one : 1 ≤ w = omega arith in omega (arith, run-rows, mul-le-mul-left (2 * count + 4) one, mul-one (2 * count + 4))
 
-  pub run-work : Work table label scratch w
+  pub run-work : StepPre table label scratch w
   run-work = record { good = ok .good; short = ok .short; wide = refl; room = ok .room }
 
   -- what a list as long as scratch has room for
@@ -72,9 +72,9 @@ module _ (table label scratch lent : Bytes) (count : ℕ) (ok : Running table la
   pub run-top : 2 * count ≡ 2 * atoms table
   run-top = ap (λ (k : ℕ). 2 * k) (ok .counted)
 
-  module _ (budget : ℕ) (s : Bytes) (long : length s ≡ length scratch) (r : Tally) (got : AllSettled table label scratch s w (2 * count) budget r) where
+  module _ (budget : ℕ) (s : Bytes) (long : length s ≡ length scratch) (r : Tally) (got : SettleAllPost table label scratch s w (2 * count) budget r) where
     -- the planes' bytes are zero, the others as they were
-    cleared-is : (s′ : Bytes) → s′ ≡ zeroed len s → s′ ≡ zeroed (work t (length label)) scratch
+    cleared-is : (s′ : Bytes) → s′ ≡ zeroed len s → s′ ≡ zeroed (scratch-needed t (length label)) scratch
     cleared-is s′ e = e ∙ ap (λ (l : Bytes). replicate len 0 ++ l) (drop-same scratch s len long (got .kept .rest)) ∙ ap (λ (k : ℕ). zeroed k scratch) len-is
 
     pub run-stop : r .stopped ≡ true → (s′ : Bytes) → s′ ≡ zeroed len s
@@ -89,10 +89,10 @@ module _ (table label scratch lent : Bytes) (count : ℕ) (ok : Running table la
           plane-on (got .whole e .rest 0 (omega arith) (omega (arith, some-pattern t))) 0 (length label) (omega arith) (omega arith)
           ∙ ap (λ (p : Syntax pattern). decide label p 0 (length label)) (node-first table)
 
-      pub run-parting : Parting table label s w lent
+      pub run-parting : WritePartsPre table label s w lent
       run-parting = record { work = work-long long run-work; settled = got .whole e; fits = ok .fits }
 
-      pub run-yes : on s w 1 0 (length label) ≡ true → (lent′ : Bytes) → Parted table label lent lent′ → (s′ : Bytes) → s′ ≡ zeroed len s
+      pub run-yes : on s w 1 0 (length label) ≡ true → (lent′ : Bytes) → WritePartsPost table label lent lent′ → (s′ : Bytes) → s′ ≡ zeroed len s
           → _≡_ {A = Outcome} record { answer = result 1 (r .trials); scratch = s′; parts = lent′ } (ended (unrefused table label budget) scratch lent)
       unfolding verdict ended
       run-yes h lent′ p s′ c =

@@ -10,7 +10,7 @@ use lib.ListN.{length}
 use Rattle.pattern.specs.Numbers.{label-limit, open-high}
 use Rattle.pattern.specs.Bytes.{Bytes}
 use Rattle.pattern.specs.Syntax.{atom, body, Syntax, repeat}
-use Rattle.pattern.specs.Decision.{Rel, made, most, repeated, decide}
+use Rattle.pattern.specs.Decision.{Rel, power, max-count, repeated, decide}
 use Rattle.pattern.specs.Trials.{sum, joins, repeats}
 use Rattle.pattern.specs.Decode.{high-of}
 use Rattle.table.specs.declared.record.Record.{Record}
@@ -18,44 +18,44 @@ use Rattle.atoms.specs.Records.{RecordOf}
 use Rattle.planes.specs.declared.join.Tally.{Tally}
 use Rattle.planes.specs.declared.fill.Content.the-variants.{Empty}
 use Rattle.planes.specs.Cells.{InRoom, Plane, Kept, on}
-use Rattle.planes.specs.Joined.{join-trials}
-use Rattle.planes.specs.Whole.{Blanked}
-use Rattle.planes.specs.Filled.{held-in, Fit, Fillable, Filled}
-use Rattle.planes.specs.Made.{fewer, body-trials, MadeOf}
-use Rattle.atoms.specs.Atoms.{node, head, inside}
-use Rattle.matcher.specs.Bodied.{Bodying, Bodied}
-use Rattle.matcher.specs.Steps.{Later, Begun, Owned}
+use Rattle.planes.specs.Join.{join-trials}
+use Rattle.planes.specs.Whole.{BlankPost}
+use Rattle.planes.specs.Fill.{held-in, Fit, FillPre, FillPost}
+use Rattle.planes.specs.RepeatBody.{fewer, body-trials, RepeatBodyPost}
+use Rattle.atoms.specs.Atoms.{node, head, body-of}
+use Rattle.matcher.specs.FillBody.{FillBodyPre, FillBodyPost}
+use Rattle.matcher.specs.Steps.{Later, BeginPost, FillAtomPost}
 use Rattle.planes.proofs.Planes.{Same, kept-then, kept-less, plane-on, plane-same, plane-flags, plane-kept}
-use Rattle.planes.proofs.Relations.{any-same, sum-same, join-trials-same, joins-all, made-same}
+use Rattle.planes.proofs.Relations.{any-same, sum-same, join-trials-same, joins-all, power-same}
 use Rattle.matcher.proofs.Levels.{decide-level}
 use Rattle.matcher.proofs.Groups.{work-long, work-room}
 
 -- ---- the planes to start from
 
-module _ (table label s : Bytes) (w top x : ℕ) (ok : Bodying table label s w top x) (s₁ : Bytes) (l₁ : length s₁ ≡ length s) (body : Bodied table label s s₁ w top x) where
-  room₁ : (p : ℕ) → p < top + 4 → InRoom s₁ w p
-  room₁ p h = work-room {s = s₁} (work-long l₁ (ok .work)) p (omega (arith, ok .topmost))
+module _ (table label s : Bytes) (w temp x : ℕ) (ok : FillBodyPre table label s w temp x) (s₁ : Bytes) (l₁ : length s₁ ≡ length s) (body : FillBodyPost table label s s₁ w temp x) where
+  room₁ : (p : ℕ) → p < temp + 4 → InRoom s₁ w p
+  room₁ p h = work-room {s = s₁} (work-long l₁ (ok .work)) p (omega (arith, ok .temp-is))
 
-  pub begin-empty : Fillable table label s₁ w Empty (top + 1)
+  pub begin-empty : FillPre table label s₁ w Empty (temp + 1)
   unfolding Fit
-  begin-empty = record { wide = ok .work .wide; fit = tt; into = room₁ (top + 1) (omega arith) }
+  begin-empty = record { wide = ok .work .wide; fit = tt; into = room₁ (temp + 1) (omega arith) }
 
-  module _ (s₂ : Bytes) (l₂ : length s₂ ≡ length s₁) (empty : Filled table label s₁ s₂ w Empty (top + 1)) where
-    room₂ : (p : ℕ) → p < top + 4 → InRoom s₂ w p
-    room₂ p h = work-room {s = s₂} (work-long (l₂ ∙ l₁) (ok .work)) p (omega (arith, ok .topmost))
+  module _ (s₂ : Bytes) (l₂ : length s₂ ≡ length s₁) (empty : FillPost table label s₁ s₂ w Empty (temp + 1)) where
+    room₂ : (p : ℕ) → p < temp + 4 → InRoom s₂ w p
+    room₂ p h = work-room {s = s₂} (work-long (l₂ ∙ l₁) (ok .work)) p (omega (arith, ok .temp-is))
 
     pub begin-blank : (1 ≤ w) × InRoom s₂ w (2 * x)
-    begin-blank = (omega (arith, ok .work .wide), room₂ (2 * x) (omega (arith, ok .topmost, ok .there)))
+    begin-blank = (omega (arith, ok .work .wide), room₂ (2 * x) (omega (arith, ok .temp-is, ok .there)))
 
-    pub begin-end : (s₃ : Bytes) → length s₃ ≡ length s₂ → Blanked s₂ s₃ w (2 * x) → Begun table label s s₃ w top x
+    pub begin-end : (s₃ : Bytes) → length s₃ ≡ length s₂ → BlankPost s₂ s₃ w (2 * x) → BeginPost table label s s₃ w temp x
     unfolding held-in
     begin-end s₃ l₃ nothing =
-        let below : 2 * x < top = omega (arith, ok .topmost, ok .there) in
-        let b : Plane s₃ w top (decide label (inside (head (node table x)))) = plane-kept (nothing .kept) (λ i j e. omega arith) (plane-kept (empty .kept) (λ i j e. omega arith) (body .plane)) in
+        let below : 2 * x < temp = omega (arith, ok .temp-is, ok .there) in
+        let b : Plane s₃ w temp (decide label (body-of (head (node table x)))) = plane-kept (nothing .kept) (λ i j e. omega arith) (plane-kept (empty .kept) (λ i j e. omega arith) (body .plane)) in
         record {
           making = record {
             wide = omega (arith, ok .work .wide);
-            room = rw (l₃ ∙ l₂ ∙ l₁, ok .topmost) (ok .work .room);
+            room = rw (l₃ ∙ l₂ ∙ l₁, ok .temp-is) (ok .work .room);
             below = below;
             body = plane-flags b;
             empty = plane-kept (nothing .kept) (λ i j e. omega arith) (empty .plane);
@@ -63,19 +63,19 @@ module _ (table label s : Bytes) (w top x : ℕ) (ok : Bodying table label s w t
           };
           body = b;
           kept = kept-then
-              (kept-less (top + 1) (top + 4) (omega arith) (body .kept) (λ q i j n. n))
-              (kept-then (kept-less (top + 1 + 1) (top + 4) (omega arith) (empty .kept) (λ q i j n. n)) (kept-less (2 * x + 1) (top + 4) (omega arith) (nothing .kept) (λ q i j n. n)) (λ q i j n e. omega arith) (λ q i j (m, n) e. omega arith))
+              (kept-less (temp + 1) (temp + 4) (omega arith) (body .kept) (λ q i j n. n))
+              (kept-then (kept-less (temp + 1 + 1) (temp + 4) (omega arith) (empty .kept) (λ q i j n. n)) (kept-less (2 * x + 1) (temp + 4) (omega arith) (nothing .kept) (λ q i j n. n)) (λ q i j n e. omega arith) (λ q i j (m, n) e. omega arith))
               (λ q i j (m, n) e. omega arith) (λ q i j n. n);
         }
 
 -- ---- an atom's own plane
 
 -- the count of bodies that is tried is the paper's K
-most-min : (n h : ℕ) → n ≤ label-limit → min n h ≡ most n (high-of h)
-unfolding most high-of
-most-min n h l = go (eqb h open-high) refl
+max-count-min : (n h : ℕ) → n ≤ label-limit → min n h ≡ max-count n (high-of h)
+unfolding max-count high-of
+max-count-min n h l = go (eqb h open-high) refl
   where
-    go : (b : Bool) → eqb h open-high ≡ b → min n h ≡ most n (elim b [ true ↦ none | false ↦ some h ])
+    go : (b : Bool) → eqb h open-high ≡ b → min n h ≡ max-count n (elim b [ true ↦ none | false ↦ some h ])
     go true e = omega (arith, eqb-true h open-high e)
     go false e = refl
 
@@ -93,59 +93,59 @@ and-unset true true e = sym e
 and-unset true false e = refl
 and-unset false b e = refl
 
-repeats-is : (l : Bytes) (a : Syntax atom) (low : ℕ) (high : Option ℕ) → a ≡ repeat low high (inside a)
-    → repeats l a ≡ sum (most (length l) high) (λ k. joins (length l) (decide l (inside a)) (made (decide l (inside a)) k))
-unfolding repeats inside
+repeats-is : (l : Bytes) (a : Syntax atom) (low : ℕ) (high : Option ℕ) → a ≡ repeat low high (body-of a)
+    → repeats l a ≡ sum (max-count (length l) high) (λ k. joins (length l) (decide l (body-of a)) (power (decide l (body-of a)) k))
+unfolding repeats body-of
 repeats-is l a low high e = ap (repeats l) e
 
-decide-is : (l : Bytes) (a : Syntax atom) (low : ℕ) (high : Option ℕ) → a ≡ repeat low high (inside a) → decide l a ≡ repeated (length l) low high (decide l (inside a))
-unfolding decide inside
+decide-is : (l : Bytes) (a : Syntax atom) (low : ℕ) (high : Option ℕ) → a ≡ repeat low high (body-of a) → decide l a ≡ repeated (length l) low high (decide l (body-of a))
+unfolding decide body-of
 decide-is l a low high e = ap (λ (z : Syntax atom). decide l z) e
 
-module _ (table label s : Bytes) (w top x budget spent : ℕ) (ok : Bodying table label s w top x) (s₁ : Bytes) (l₁ : length s₁ ≡ length s) (got : Begun table label s s₁ w top x)
+module _ (table label s : Bytes) (w temp x budget spent : ℕ) (ok : FillBodyPre table label s w temp x) (s₁ : Bytes) (l₁ : length s₁ ≡ length s) (got : BeginPost table label s s₁ w temp x)
     (r : Record) (is : RecordOf table x r) (s₂ : Bytes) (l₂ : length s₂ ≡ length s₁) (low times : ℕ) (low-is : low ≡ min (r .low) (length label)) (times-is : times ≡ min (length label) (r .high))
-    (t : Tally) (made-of : MadeOf s₁ s₂ w top (2 * x) low times budget spent t) where
+    (t : Tally) (made-of : RepeatBodyPost s₁ s₂ w temp (2 * x) low times budget spent t) where
   abbrev a : Syntax atom
   a = head (node table x)
 
   abbrev R : Rel
-  R = decide label (inside a)
+  R = decide label (body-of a)
 
-  bodies : Same w (on s₁ w top) R
+  bodies : Same w (on s₁ w temp) R
   bodies = plane-on (got .body)
 
-  tried : sum times (body-trials w (on s₁ w top)) ≡ repeats label a
+  tried : sum times (body-trials w (on s₁ w temp)) ≡ repeats label a
   tried =
       let high : Option ℕ = high-of (r .high) in
-      let m : times ≡ most (length label) high = times-is ∙ most-min (length label) (r .high) (ok .work .short) in
+      let m : times ≡ max-count (length label) high = times-is ∙ max-count-min (length label) (r .high) (ok .work .short) in
       let z : w ≡ suc (length label) = omega (arith, ok .work .wide) in
-      ap (λ (k : ℕ). sum k (body-trials w (on s₁ w top))) m
-      ∙ sum-same (most (length label) high) _ _ (λ k h. join-trials-same w _ _ _ _ bodies (made-same w _ _ bodies k) ∙ ap (λ (v : ℕ). join-trials v R (made R k)) z ∙ sym (joins-all (length label) R (made R k)))
+      ap (λ (k : ℕ). sum k (body-trials w (on s₁ w temp))) m
+      ∙ sum-same (max-count (length label) high) _ _ (λ k h. join-trials-same w _ _ _ _ bodies (power-same w _ _ bodies k) ∙ ap (λ (v : ℕ). join-trials v R (power R k)) z ∙ sym (joins-all (length label) R (power R k)))
       ∙ sym (repeats-is label a (r .low) high (is .count))
 
   -- the stretches made of enough bodies, numbers cut to the label's length
   enough : t .stopped ≡ false → Plane s₂ w (2 * x) (fewer R low (suc times))
-  enough e = plane-same (made-of .whole e) (λ i j hi hj. any-same _ _ (suc times) (λ k h. ap (λ (b : Bool). leb low k && b) (made-same w _ _ bodies k i j hi hj)))
+  enough e = plane-same (made-of .whole e) (λ i j hi hj. any-same _ _ (suc times) (λ k h. ap (λ (b : Bool). leb low k && b) (power-same w _ _ bodies k i j hi hj)))
 
   decided : (i j : ℕ) → decide label a i j ≡ fewer R low (suc times) i j && (leb (r .low) (length label) || R i i)
   unfolding repeated
   decided i j =
       let high : Option ℕ = high-of (r .high) in
-      let m : times ≡ most (length label) high = times-is ∙ most-min (length label) (r .high) (ok .work .short) in
+      let m : times ≡ max-count (length label) high = times-is ∙ max-count-min (length label) (r .high) (ok .work .short) in
       ap (λ (S : Rel). S i j) (decide-is label a (r .low) high (is .count)) ∙ rw (low-is, m)
 
-  later : Kept s s₂ w (top + 4) (Later top x)
+  later : Kept s s₂ w (temp + 4) (Later temp x)
   later = kept-then (got .kept) (made-of .kept) (λ q i j n. n) (λ q i j (m, n). (λ e. omega arith, λ e. omega arith, λ e. omega arith))
 
-  pub own-stop : t .stopped ≡ true → Owned table label s s₂ w top x budget spent t
-  own-stop e = record {
+  pub atom-stop : t .stopped ≡ true → FillAtomPost table label s s₂ w temp x budget spent t
+  atom-stop e = record {
     counted = rw (← tried) (made-of .counted);
     whole = λ f. absurd (let z : _≡_ {A = ℕ} 0 1 = cc in omega arith);
     kept = later;
   }
 
-  pub own-low : t .stopped ≡ false → r .low ≤ length label → Owned table label s s₂ w top x budget spent t
-  own-low e h = record {
+  pub atom-low : t .stopped ≡ false → r .low ≤ length label → FillAtomPost table label s s₂ w temp x budget spent t
+  atom-low e h = record {
     counted = rw (← tried) (made-of .counted);
     whole = λ f. plane-same (enough e) (λ i j hi hj. sym (decided i j ∙ rw (le-leb (r .low) (length label) h) (and-true (fewer R low (suc times) i j))));
     kept = later;
@@ -153,31 +153,31 @@ module _ (table label s : Bytes) (w top x budget spent : ℕ) (ok : Bodying tabl
 
   -- where low is beyond the label's length: whether a body can be empty is the same everywhere
   module _ (e : t .stopped ≡ false) (h : length label < r .low) where
-    room : (p : ℕ) → p < top + 4 → InRoom s₂ w p
-    room p l = work-room {s = s₂} (work-long (l₂ ∙ l₁) (ok .work)) p (omega (arith, ok .topmost))
+    room : (p : ℕ) → p < temp + 4 → InRoom s₂ w p
+    room p l = work-room {s = s₂} (work-long (l₂ ∙ l₁) (ok .work)) p (omega (arith, ok .temp-is))
 
-    pub own-top : InRoom s₂ w top
-    own-top = room top (omega arith)
+    pub atom-top : InRoom s₂ w temp
+    atom-top = room temp (omega arith)
 
-    pub own-blank : (1 ≤ w) × InRoom s₂ w (2 * x)
-    own-blank = (omega (arith, ok .work .wide), room (2 * x) (omega (arith, got .making .below)))
+    pub atom-blank : (1 ≤ w) × InRoom s₂ w (2 * x)
+    atom-blank = (omega (arith, ok .work .wide), room (2 * x) (omega (arith, got .making .below)))
 
-    level : (i j : ℕ) → decide label a i j ≡ fewer R low (suc times) i j && on s₂ w top 0 0
+    level : (i j : ℕ) → decide label a i j ≡ fewer R low (suc times) i j && on s₂ w temp 0 0
     level i j =
         let below = got .making .below in
-        let c : Plane s₂ w top R = plane-kept (made-of .kept) (λ i j. (λ y. omega arith, λ y. omega arith, λ y. omega arith)) (got .body) in
-        decided i j ∙ rw (lt-leb (r .low) (length label) h, decide-level label (inside a) i ∙ sym (plane-on c 0 0 (omega arith) (omega (arith, ok .work .wide))))
+        let c : Plane s₂ w temp R = plane-kept (made-of .kept) (λ i j. (λ y. omega arith, λ y. omega arith, λ y. omega arith)) (got .body) in
+        decided i j ∙ rw (lt-leb (r .low) (length label) h, decide-level label (body-of a) i ∙ sym (plane-on c 0 0 (omega arith) (omega (arith, ok .work .wide))))
 
-    pub own-empty : not (on s₂ w top 0 0) ≡ false → Owned table label s s₂ w top x budget spent t
-    own-empty is = record {
+    pub atom-empty : not (on s₂ w temp 0 0) ≡ false → FillAtomPost table label s s₂ w temp x budget spent t
+    atom-empty is = record {
       counted = rw (← tried) (made-of .counted);
-      whole = λ f. plane-same (enough e) (λ i j hi hj. sym (level i j ∙ and-set (fewer R low (suc times) i j) (on s₂ w top 0 0) is));
+      whole = λ f. plane-same (enough e) (λ i j hi hj. sym (level i j ∙ and-set (fewer R low (suc times) i j) (on s₂ w temp 0 0) is));
       kept = later;
     }
 
-    pub own-none : not (on s₂ w top 0 0) ≡ true → (s₃ : Bytes) → Blanked s₂ s₃ w (2 * x) → Owned table label s s₃ w top x budget spent t
-    own-none is s₃ f = record {
+    pub atom-none : not (on s₂ w temp 0 0) ≡ true → (s₃ : Bytes) → BlankPost s₂ s₃ w (2 * x) → FillAtomPost table label s s₃ w temp x budget spent t
+    atom-none is s₃ f = record {
       counted = rw (← tried) (made-of .counted);
-      whole = λ _. plane-same (f .plane) (λ i j hi hj. sym (level i j ∙ and-unset (fewer R low (suc times) i j) (on s₂ w top 0 0) is));
-      kept = let below = got .making .below in kept-then later (kept-less (2 * x + 1) (top + 4) (omega arith) (f .kept) (λ q i j n. n)) (λ q i j n. n) (λ q i j (m, n) y. omega arith);
+      whole = λ _. plane-same (f .plane) (λ i j hi hj. sym (level i j ∙ and-unset (fewer R low (suc times) i j) (on s₂ w temp 0 0) is));
+      kept = let below = got .making .below in kept-then later (kept-less (2 * x + 1) (temp + 4) (omega arith) (f .kept) (λ q i j n. n)) (λ q i j n. n) (λ q i j (m, n) y. omega arith);
     }

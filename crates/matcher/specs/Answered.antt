@@ -9,7 +9,7 @@ use Rattle.pattern.specs.Syntax.{top-size}
 use Rattle.pattern.specs.Parts.{verdict}
 use Rattle.pattern.specs.Trials.{trials}
 use Rattle.pattern.specs.Decode.{tree-of}
-use Rattle.pattern.specs.Answers.{Answer, refusal, result, work, Ending, ending, matchOf, Matched as Outcome}
+use Rattle.pattern.specs.Answers.{Answer, refusal, result, scratch-needed, Ending, ending, matchOf, Matched as Outcome}
 use Rattle.matcher.specs.declared.Matched.{Matched}
 use Rattle.matcher.specs.declared.Matched.the-variants.{Table, Label, Work, Parts, Budget, No, Yes}
 use Rattle.atoms.specs.Atoms.{GoodTable, atoms}
@@ -29,17 +29,17 @@ abbrev pub outcome-of : (budget : ℕ) → Matched → (scratch parts : Bytes) �
 outcome-of budget r scratch parts = record { answer = answer-of budget r; scratch = scratch; parts = parts }
 
 -- what `match_label` promises of its answer, and of scratch and parts afterwards
-abbrev pub Promised : (table label scratch parts : Bytes) → (budget : ℕ) → Matched → (scratch′ parts′ : Bytes) → Type 0
-Promised table label scratch parts budget r scratch′ parts′ = outcome-of budget r scratch′ parts′ ≡ matchOf table label scratch parts budget
+abbrev pub MatchPost : (table label scratch parts : Bytes) → (budget : ℕ) → Matched → (scratch′ parts′ : Bytes) → Type 0
+MatchPost table label scratch parts budget r scratch′ parts′ = outcome-of budget r scratch′ parts′ ≡ matchOf table label scratch parts budget
 
 -- how a match ends where 11 to 14 do not apply
 abbrev pub unrefused : (table label : Bytes) → (budget : ℕ) → Ending
-unrefused table label budget = ending none (work (tree-of table) (length label)) (trials label (tree-of table)) budget (verdict label (tree-of table))
+unrefused table label budget = ending none (scratch-needed (tree-of table) (length label)) (trials label (tree-of table)) budget (verdict label (tree-of table))
 
 -- a good table, and a label and lent slices that fit it
-pub record Running (table label scratch parts : Bytes) (count : ℕ) : Type 0 where
+pub record RunPre (table label scratch parts : Bytes) (count : ℕ) : Type 0 where
   pub good : GoodTable table
   pub counted : count ≡ atoms table
   pub short : length label ≤ label-limit
-  pub room : work (tree-of table) (length label) ≤ length scratch
+  pub room : scratch-needed (tree-of table) (length label) ≤ length scratch
   pub fits : 2 * top-size (tree-of table) ≤ length parts

@@ -1,5 +1,5 @@
-pub mod Work
-pub mod Bodied
+pub mod Settled
+pub mod FillBody
 pub mod Steps
-pub mod Parted
+pub mod WriteParts
 pub mod Answered

@@ -2,9 +2,9 @@
 ghost use mathlib.Core.Path.{_≡_};
 ghost use Prim.Native.Nat.{_*_, _≤_, min};
 ghost use Rattle.atoms.specs.Atoms.{atoms};
-ghost use Rattle.matcher.specs.Work.{Work};
-ghost use Rattle.matcher.specs.Bodied.{Bodying};
-ghost use Rattle.matcher.specs.Steps.{Begun, Owned, Following, Followed, Stepped, AllSettled};
+ghost use Rattle.matcher.specs.Settled.{StepPre};
+ghost use Rattle.matcher.specs.FillBody.{FillBodyPre};
+ghost use Rattle.matcher.specs.Steps.{BeginPost, FillAtomPost, JoinFollowersPre, JoinFollowersPost, SettlePost, SettleAllPost};
 use crate::body::fill_body;
 use atoms::next_atom;
 use atoms::record_at;
@@ -15,7 +15,7 @@ use planes::fill::Content;
 use planes::fill::fill;
 use planes::join::Tally;
 use planes::join::join;
-use planes::made::make;
+use planes::repeat::repeat_body;
 
 fn lesser(a: usize, b: usize) -> usize
     ensures { λ r. ⌜ r ≡ min a b ⌝ }
@@ -23,41 +23,41 @@ fn lesser(a: usize, b: usize) -> usize
     if a < b { a } else { b }
 }
 
-// The planes that making bodies starts from: the body in top, the empty stretches in top + 1, nothing in 2 x.
-fn begin(table: &[u8], label: &[u8], scratch: &mut [u8], w: usize, top: usize, x: usize)
-    requires { ⌜ Bodying (now table) (now label) (now scratch) w top x ⌝ }
-    ensures { λ _. ⌜ Begun (now (table .entry)) (now (label .entry)) (now (scratch .entry)) (now (scratch .exit)) w top x ⌝ }
+// The planes that making bodies starts from: the body in temp, the empty stretches in temp + 1, nothing in 2 x.
+fn begin(table: &[u8], label: &[u8], scratch: &mut [u8], w: usize, temp: usize, x: usize)
+    requires { ⌜ FillBodyPre (now table) (now label) (now scratch) w temp x ⌝ }
+    ensures { λ _. ⌜ BeginPost (now (table .entry)) (now (label .entry)) (now (scratch .entry)) (now (scratch .exit)) w temp x ⌝ }
 {
-    fill_body(table, label, scratch, w, top, x);
-    fill(table, label, scratch, w, Content::Empty, top + 1);
+    fill_body(table, label, scratch, w, temp, x);
+    fill(table, label, scratch, w, Content::Empty, temp + 1);
     blank(scratch, w, 2 * x);
 }
 
 // Plane 2 x: the stretches that satisfy atom x. Where low is beyond the label's length, some body is empty, and
 // whether it can be is the same at every place.
-fn settle_own(
+fn fill_atom(
     table: &[u8],
     label: &[u8],
     scratch: &mut [u8],
     w: usize,
-    top: usize,
+    temp: usize,
     x: usize,
     budget: u64,
     trials: u64,
 ) -> Tally
-    requires { ⌜ trials ≤ budget ⌝ ∗ ⌜ Bodying (now table) (now label) (now scratch) w top x ⌝ }
-    ensures { λ r. ⌜ Owned (now (table .entry)) (now (label .entry)) (now (scratch .entry)) (now (scratch .exit)) w top x budget trials r ⌝ }
+    requires { ⌜ trials ≤ budget ⌝ ∗ ⌜ FillBodyPre (now table) (now label) (now scratch) w temp x ⌝ }
+    ensures { λ r. ⌜ FillAtomPost (now (table .entry)) (now (label .entry)) (now (scratch .entry)) (now (scratch .exit)) w temp x budget trials r ⌝ }
 {
     let own = 2 * x;
-    begin(table, label, scratch, w, top, x);
+    begin(table, label, scratch, w, temp, x);
     let r = record_at(table, x);
     let n = label.len();
     let low = r.low as usize;
     let high = r.high as usize;
-    let t = make(
+    let t = repeat_body(
         scratch,
         w,
-        top,
+        temp,
         own,
         lesser(low, n),
         lesser(n, high),
@@ -68,15 +68,15 @@ fn settle_own(
         return t;
     }
     if n < low {
-        if !holds(scratch, w, top, 0, 0) {
+        if !holds(scratch, w, temp, 0, 0) {
             blank(scratch, w, own);
         }
     }
     t
 }
 
-// Plane 2 x + 1: the stretches that satisfy atom x and all that follow it in its branch.
-fn follow(
+// Plane 2 x + 1: the stretches that satisfy atom x and all that join_followers it in its branch.
+fn join_followers(
     table: &[u8],
     label: &[u8],
     scratch: &mut [u8],
@@ -85,8 +85,8 @@ fn follow(
     budget: u64,
     trials: u64,
 ) -> Tally
-    requires { ⌜ trials ≤ budget ⌝ ∗ ⌜ Following (now table) (now label) (now scratch) w x ⌝ }
-    ensures { λ r. ⌜ Followed (now (table .entry)) (now (label .entry)) (now (scratch .entry)) (now (scratch .exit)) w x budget trials r ⌝ }
+    requires { ⌜ trials ≤ budget ⌝ ∗ ⌜ JoinFollowersPre (now table) (now label) (now scratch) w x ⌝ }
+    ensures { λ r. ⌜ JoinFollowersPost (now (table .entry)) (now (label .entry)) (now (scratch .entry)) (now (scratch .exit)) w x budget trials r ⌝ }
 {
     let r = record_at(table, x);
     if r.ends == 1 {
@@ -107,19 +107,19 @@ fn settle(
     label: &[u8],
     scratch: &mut [u8],
     w: usize,
-    top: usize,
+    temp: usize,
     x: usize,
     budget: u64,
     trials: u64,
 ) -> Tally
-    requires { ⌜ trials ≤ budget ⌝ ∗ ⌜ Bodying (now table) (now label) (now scratch) w top x ⌝ }
-    ensures { λ r. ⌜ Stepped (now (table .entry)) (now (label .entry)) (now (scratch .entry)) (now (scratch .exit)) w top x budget trials r ⌝ }
+    requires { ⌜ trials ≤ budget ⌝ ∗ ⌜ FillBodyPre (now table) (now label) (now scratch) w temp x ⌝ }
+    ensures { λ r. ⌜ SettlePost (now (table .entry)) (now (label .entry)) (now (scratch .entry)) (now (scratch .exit)) w temp x budget trials r ⌝ }
 {
-    let t = settle_own(table, label, scratch, w, top, x, budget, trials);
+    let t = fill_atom(table, label, scratch, w, temp, x, budget, trials);
     if t.stopped {
         return t;
     }
-    follow(table, label, scratch, w, x, budget, t.trials)
+    join_followers(table, label, scratch, w, x, budget, t.trials)
 }
 
 // Both planes of every atom.
@@ -128,17 +128,17 @@ pub fn settle_all(
     label: &[u8],
     scratch: &mut [u8],
     w: usize,
-    top: usize,
+    temp: usize,
     budget: u64,
 ) -> Tally
-    requires { ⌜ Work (now table) (now label) (now scratch) w ⌝ ∗ ⌜ top ≡ 2 * atoms (now table) ⌝ }
-    ensures { λ r. ⌜ AllSettled (now (table .entry)) (now (label .entry)) (now (scratch .entry)) (now (scratch .exit)) w top budget r ⌝ }
+    requires { ⌜ StepPre (now table) (now label) (now scratch) w ⌝ ∗ ⌜ temp ≡ 2 * atoms (now table) ⌝ }
+    ensures { λ r. ⌜ SettleAllPost (now (table .entry)) (now (label .entry)) (now (scratch .entry)) (now (scratch .exit)) w temp budget r ⌝ }
 {
-    let mut x = top / 2;
+    let mut x = temp / 2;
     let mut spent = 0;
     while 0 < x {
         x -= 1;
-        let t = settle(table, label, scratch, w, top, x, budget, spent);
+        let t = settle(table, label, scratch, w, temp, x, budget, spent);
         if t.stopped {
             return t;
         }

@@ -1,5 +1,5 @@
 // The plane of an atom's body, from the table, the label, and the planes of the atoms inside.
-ghost use Rattle.matcher.specs.Bodied.{Bodying, Bodied, UnitePre};
+ghost use Rattle.matcher.specs.FillBody.{FillBodyPre, FillBodyPost, UnionBranchesPre};
 use atoms::branch_end;
 use atoms::literal_at;
 use atoms::record_at;
@@ -9,24 +9,24 @@ use planes::cells::blank;
 use planes::fill::Content;
 use planes::fill::fill;
 
-// Plane top for the group x: what satisfies one of its branches.
-fn unite(
+// Plane temp for the group x: what satisfies one of its branches.
+fn union_branches(
     table: &[u8],
     label: &[u8],
     scratch: &mut [u8],
     w: usize,
-    top: usize,
+    temp: usize,
     x: usize,
     branches: usize,
 )
-    requires { ⌜ UnitePre (now table) (now label) (now scratch) w top x branches ⌝ }
-    ensures { λ _. ⌜ Bodied (now (table .entry)) (now (label .entry)) (now (scratch .entry)) (now (scratch .exit)) w top x ⌝ }
+    requires { ⌜ UnionBranchesPre (now table) (now label) (now scratch) w temp x branches ⌝ }
+    ensures { λ _. ⌜ FillBodyPost (now (table .entry)) (now (label .entry)) (now (scratch .entry)) (now (scratch .exit)) w temp x ⌝ }
 {
-    blank(scratch, w, top);
+    blank(scratch, w, temp);
     let mut first = x + 1;
     let mut more = branches - 1;
     loop {
-        add(scratch, w, 2 * first + 1, top);
+        add(scratch, w, 2 * first + 1, temp);
         if more == 0 {
             return;
         }
@@ -35,21 +35,21 @@ fn unite(
     }
 }
 
-// Plane top for the body of atom x.
-pub fn fill_body(table: &[u8], label: &[u8], scratch: &mut [u8], w: usize, top: usize, x: usize)
-    requires { ⌜ Bodying (now table) (now label) (now scratch) w top x ⌝ }
-    ensures { λ _. ⌜ Bodied (now (table .entry)) (now (label .entry)) (now (scratch .entry)) (now (scratch .exit)) w top x ⌝ }
+// Plane temp for the body of atom x.
+pub fn fill_body(table: &[u8], label: &[u8], scratch: &mut [u8], w: usize, temp: usize, x: usize)
+    requires { ⌜ FillBodyPre (now table) (now label) (now scratch) w temp x ⌝ }
+    ensures { λ _. ⌜ FillBodyPost (now (table .entry)) (now (label .entry)) (now (scratch .entry)) (now (scratch .exit)) w temp x ⌝ }
 {
     let r = record_at(table, x);
     if r.kind == kind::CODES {
-        fill(table, label, scratch, w, Content::Codes(r.a), top);
+        fill(table, label, scratch, w, Content::Codes(r.a), temp);
         return;
     }
     if r.kind == kind::LITERAL {
         let v = literal_at(table, x);
         let value = Content::Literal(v.from, v.len);
-        fill(table, label, scratch, w, value, top);
+        fill(table, label, scratch, w, value, temp);
         return;
     }
-    unite(table, label, scratch, w, top, x, r.a as usize);
+    union_branches(table, label, scratch, w, temp, x, r.a as usize);
 }

@@ -4,7 +4,7 @@ ghost use Rattle.pattern.specs.Decode.{decode};
 ghost use Rattle.pattern.specs.Answers.{ended};
 ghost use Rattle.table.specs.declared.Tested.the-variants.{Good};
 ghost use Rattle.table.specs.Walk.{tested};
-ghost use Rattle.matcher.specs.Answered.{answer-of, outcome-of, Running, unrefused, Promised};
+ghost use Rattle.matcher.specs.Answered.{answer-of, outcome-of, RunPre, unrefused, MatchPost};
 
 mod atom;
 mod body;
@@ -86,14 +86,14 @@ fn run(
     atoms: usize,
     budget: u64,
 ) -> Matched
-    requires { ⌜ Running (now table) (now label) (now scratch) (now parts) atoms ⌝ }
+    requires { ⌜ RunPre (now table) (now label) (now scratch) (now parts) atoms ⌝ }
     ensures { λ r. ⌜ outcome-of budget r (now (scratch .exit)) (now (parts .exit)) ≡ ended (unrefused (now (table .entry)) (now (label .entry)) budget) (now (scratch .entry)) (now (parts .entry)) ⌝ }
 {
     let n = label.len();
     let w = n + 1;
-    let top = 2 * atoms;
-    let len = (top + 4) * w * w;
-    let t = settle_all(table, label, scratch, w, top, budget);
+    let temp = 2 * atoms;
+    let len = (temp + 4) * w * w;
+    let t = settle_all(table, label, scratch, w, temp, budget);
     if t.stopped {
         clear(scratch, len); // on 15 too
         return Matched::Budget;
@@ -117,7 +117,7 @@ pub fn match_good(
     budget: u64,
 ) -> Matched
     requires { ⌜ Good sizes ≡ tested (decode (now table)) ⌝ }
-    ensures { λ r. ⌜ Promised (now (table .entry)) (now (label .entry)) (now (scratch .entry)) (now (parts .entry)) budget r (now (scratch .exit)) (now (parts .exit)) ⌝ }
+    ensures { λ r. ⌜ MatchPost (now (table .entry)) (now (label .entry)) (now (scratch .entry)) (now (parts .entry)) budget r (now (scratch .exit)) (now (parts .exit)) ⌝ }
 {
     let atoms = sizes.atoms;
     let n = label.len();
@@ -141,7 +141,7 @@ pub fn match_label(
     parts: &mut [u8],
     budget: u64,
 ) -> Matched
-    ensures { λ r. ⌜ Promised (now (table .entry)) (now (label .entry)) (now (scratch .entry)) (now (parts .entry)) budget r (now (scratch .exit)) (now (parts .exit)) ⌝ }
+    ensures { λ r. ⌜ MatchPost (now (table .entry)) (now (label .entry)) (now (scratch .entry)) (now (parts .entry)) budget r (now (scratch .exit)) (now (parts .exit)) ⌝ }
 {
     match table::test(table) {
         Tested::Bad => Matched::Table,

@@ -4,7 +4,7 @@ ghost use Prim.Native.Nat.{suc, _+_, _-_, _*_, _<_, _≤_};
 ghost use Rattle.pattern.specs.Decision.{trial};
 ghost use Rattle.pattern.specs.Parts.{longest};
 ghost use Rattle.planes.specs.Cells.{on, Readable};
-ghost use Rattle.matcher.specs.Parted.{Parting, Parted};
+ghost use Rattle.matcher.specs.WriteParts.{WritePartsPre, WritePartsPost};
 use atoms::next_atom;
 use atoms::record_at;
 use planes::cells::byte;
@@ -27,8 +27,8 @@ fn last_end(scratch: &[u8], w: usize, left: usize, right: usize, i: usize, n: us
 
 // The ends of the stretches of the top-level atoms.
 pub fn write_parts(table: &[u8], label: &[u8], scratch: &[u8], w: usize, parts: &mut [u8])
-    requires { ⌜ Parting (now table) (now label) (now scratch) w (now parts) ⌝ }
-    ensures { λ _. ⌜ Parted (now (table .entry)) (now (label .entry)) (now (parts .entry)) (now (parts .exit)) ⌝ }
+    requires { ⌜ WritePartsPre (now table) (now label) (now scratch) w (now parts) ⌝ }
+    ensures { λ _. ⌜ WritePartsPost (now (table .entry)) (now (label .entry)) (now (parts .entry)) (now (parts .exit)) ⌝ }
 {
     let n = label.len();
     let mut x = 0;

@@ -4,7 +4,7 @@ use Prim.Native.Nat.{ℕ}
 use lib.Dec.{leb}
 use lib.ListN.{length}
 use Rattle.pattern.specs.Numbers.{ANSWER}
-use Rattle.pattern.specs.Bytes.{Bytes, over}
+use Rattle.pattern.specs.Bytes.{Bytes, overwrite}
 use Rattle.pattern.specs.Answers.{Output, compileOf, writeOf, Matched, matchOf}
 use Rattle.mpt.specs.Area.{area-size, area}
 
@@ -16,7 +16,7 @@ pub record Called : Type 0 where
 
 -- with an area that is long enough, and with a shorter one: ANSWER, "the area stays as it was"
 unfoldable pub called : Bool → Output → (lent answer : Bytes) → Called
-called true o lent answer = record { number = o .answer .number; bytes = o .bytes; answer = over (area (o .answer)) answer }
+called true o lent answer = record { number = o .answer .number; bytes = o .bytes; answer = overwrite (area (o .answer)) answer }
 called false o lent answer = record { number = ANSWER; bytes = lent; answer = answer }
 
 unfoldable pub compile-call : (source table answer : Bytes) → Called
@@ -33,7 +33,7 @@ pub record MatchCalled : Type 0 where
   pub answer : Bytes
 
 unfoldable pub match-called : Bool → Matched → (scratch parts answer : Bytes) → MatchCalled
-match-called true m scratch parts answer = record { number = m .answer .number; scratch = m .scratch; parts = m .parts; answer = over (area (m .answer)) answer }
+match-called true m scratch parts answer = record { number = m .answer .number; scratch = m .scratch; parts = m .parts; answer = overwrite (area (m .answer)) answer }
 match-called false m scratch parts answer = record { number = ANSWER; scratch = scratch; parts = parts; answer = answer }
 
 unfoldable pub match-call : (table label scratch parts : Bytes) → (budget : ℕ) → (answer : Bytes) → MatchCalled

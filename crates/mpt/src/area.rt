@@ -2,7 +2,7 @@
 ghost use mathlib.Core.Path.{_≡_};
 ghost use Prim.Native.Nat.{_≤_};
 ghost use lib.ListN.{length};
-ghost use Rattle.pattern.specs.Bytes.{over};
+ghost use Rattle.pattern.specs.Bytes.{overwrite};
 ghost use Rattle.mpt.specs.Area.{area-size, area};
 use stores::put64;
 
@@ -11,7 +11,7 @@ pub const AREA_SIZE: usize = 32;
 // The numbers of an answer at the start of the area.
 pub fn put_answer(answer: &mut [u8], position: u64, value: u64, trials: u64)
     requires { ⌜ area-size ≤ length (now answer) ⌝ }
-    ensures { λ r. ⌜ now (answer .exit) ≡ over (area record { number = 0; position = position; value = value; trials = trials }) (now (answer .entry)) ⌝ }
+    ensures { λ r. ⌜ now (answer .exit) ≡ overwrite (area record { number = 0; position = position; value = value; trials = trials }) (now (answer .entry)) ⌝ }
 {
     let second = put64(answer, 0, position);
     let third = put64(answer, second, value);

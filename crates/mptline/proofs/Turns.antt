@@ -13,7 +13,7 @@ use Rattle.lines.specs.Invariant.{Sized, Sound}
 use Rattle.lines.specs.declared.session.Next.the-variants.{Stop}
 use Rattle.lines.proofs.Owed.{runs-begin, runs-hold}
 use Rattle.lines.proofs.Tidying.{steps-sound}
-use Rattle.mptline.specs.Run.{turn-limit, Ran}
+use Rattle.mptline.specs.Run.{turn-limit, RunPost}
 
 -- the run so far, with so many turns left
 pub record SoFar (first s : State) (left : ℕ) : Type 0 where
@@ -38,15 +38,15 @@ module _ {first s : State} {left : ℕ} (g : SoFar first s left) where
       }
 
   -- it was told to stop, or no turn is left
-  pub so-far-stop : s .next ≡ Stop → Ran first s
+  pub so-far-stop : s .next ≡ Stop → RunPost first s
   so-far-stop e = record { turns = g .turns; trace = g .trace; runs = g .runs; until = λ f. absurd (f e); sound = g .sound }
 
-  pub so-far-all : left ≡ 0 → Ran first s
+  pub so-far-all : left ≡ 0 → RunPost first s
   so-far-all e = record { turns = g .turns; trace = g .trace; runs = g .runs; until = λ f. omega (arith, g .all); sound = g .sound }
 
 -- the program's run, from buffers of zeros: what its trace has as written is a beginning of the output, however the input goes on; and where nothing failed
 -- and it was told to stop, the input had ended and it is the output
-module _ (input : Bytes) (b : Buffers) (fresh : Sound (record { next = Stop; input = input; buffers = b })) {s : State} (r : Ran (started input b) s) where
+module _ (input : Bytes) (b : Buffers) (fresh : Sound (record { next = Stop; input = input; buffers = b })) {s : State} (r : RunPost (started input b) s) where
   pub ran-begins : (chunks : List Bytes) → (rest : Bytes) × (r .trace .text ++ rest ≡ output (joined (r .trace .chunks ++ to-come (r .trace .ended) chunks)))
   ran-begins = runs-begin input b fresh (r .runs)
 

@@ -11,7 +11,7 @@ abbrev pub turn-limit : ℕ
 turn-limit = 18_446_744_073_709_551_615
 
 -- it reads and writes, step by step, until it is told to stop
-pub record Ran (first s : State) : Type 0 where
+pub record RunPost (first s : State) : Type 0 where
   pub turns : ℕ
   pub trace : Trace
   pub runs : Runs first turns trace s

@@ -4,7 +4,7 @@ ghost use Rattle.lines.specs.Chunk.{lend};
 ghost use Rattle.lines.specs.Session.{state-of, started};
 ghost use Rattle.lines.specs.Trace.{Moves};
 ghost use Rattle.lines.specs.Invariant.{Sound};
-ghost use Rattle.mptline.specs.Run.{Ran};
+ghost use Rattle.mptline.specs.Run.{RunPost};
 ghost use Rattle.lines.specs.declared.session.Next.the-variants.{Write, Read, Stop};
 use libc::STDIN_FILENO;
 use libc::STDOUT_FILENO;
@@ -39,7 +39,7 @@ fn read(held: usize, buf: &mut [u8], line: &mut [u8], scratch: &mut [u8], out: &
 // run uses up in practice; what is answered says which it was.
 fn run(first: Next, buf: &mut [u8], line: &mut [u8], scratch: &mut [u8], out: &mut [u8]) -> Next
     requires { ⌜ Sound (state-of first (now buf) (now line) (now scratch) (now out)) ⌝ }
-    ensures { λ r. ⌜ Ran (state-of first (now (buf .entry)) (now (line .entry)) (now (scratch .entry)) (now (out .entry))) (state-of r (now (buf .exit)) (now (line .exit)) (now (scratch .exit)) (now (out .exit))) ⌝ }
+    ensures { λ r. ⌜ RunPost (state-of first (now (buf .entry)) (now (line .entry)) (now (scratch .entry)) (now (out .entry))) (state-of r (now (buf .exit)) (now (line .exit)) (now (scratch .exit)) (now (out .exit))) ⌝ }
 {
     let mut next = first;
     let mut turns = u64::MAX;
@@ -63,7 +63,7 @@ fn run(first: Next, buf: &mut [u8], line: &mut [u8], scratch: &mut [u8], out: &m
 // All of it, from buffers of zeros.
 fn answer_input(buf: &mut [u8], line: &mut [u8], scratch: &mut [u8], out: &mut [u8]) -> Next
     requires { ⌜ Sound (state-of Stop (now buf) (now line) (now scratch) (now out)) ⌝ }
-    ensures { λ r. ⌜ Ran (started (now (buf .entry)) (lend (now (line .entry)) (now (scratch .entry)) (now (out .entry)))) (state-of r (now (buf .exit)) (now (line .exit)) (now (scratch .exit)) (now (out .exit))) ⌝ }
+    ensures { λ r. ⌜ RunPost (started (now (buf .entry)) (lend (now (line .entry)) (now (scratch .entry)) (now (out .entry)))) (state-of r (now (buf .exit)) (now (line .exit)) (now (scratch .exit)) (now (out .exit))) ⌝ }
 {
     let first = session::start(out);
     run(first, buf, line, scratch, out)

@@ -14,18 +14,18 @@ use Rattle.pattern.specs.Bytes.{Bytes}
 use Rattle.pattern.specs.Codes.{bit}
 use Rattle.pattern.specs.Syntax.{pattern, atom, body, branches, Syntax, last, then, repeat, codes, literal, group, only, or, size}
 use Rattle.pattern.specs.Meaning.{UpTo}
-use Rattle.pattern.specs.Spelling.{Starter, letter, quote, opening, Ender, closing, comma, neither, Mark, digit, point, Kind, counts, starts, ends, kind, Text, plain, quoting, barred, text, Spells}
-use Rattle.pattern.specs.Reading.{Run, empty, first, pointed, second, Place, counting, inside, after, Around, top, within, chain, fork, next, State, enter, extend, leave, quoted, grow, counted, move, step, finish, read-from, start, read}
-use Rattle.pattern.specs.Places.{before-size, others-size, around-size, begun-at}
-use Rattle.pattern.specs.Scan.{low, high, ahead, depth, body-begins, an-atom, begins, begun, large, falls, refuse, atom-fault, fault, Outcome, refused, accepted, scan, outcome}
-use Rattle.pattern.specs.Within.{Small, Fits, Good, Limited}
+use Rattle.pattern.specs.Grammar.{BodyStart, letter, quote, opening, BranchEnd, closing, comma, neither, CountChar, digit, point, CharClass, count-char, body-start, branch-end, char-class, LiteralClass, plain, quoting, barred, literal-class, Derives}
+use Rattle.pattern.specs.Parser.{CountState, empty, first, pointed, second, Phase, counting, inside, after, Stack, top, within, chain, fork, next, ParserState, enter, extend, leave, quoted, grow, counted, move, step, finish, read-from, start, read}
+use Rattle.pattern.specs.ParserInvariant.{before-size, others-size, stack-size, begun-at}
+use Rattle.pattern.specs.Scan.{low, high, longest-count, depth, body-begins, an-atom, begins, begun, large, falls, refuse, atom-fault, fault, Outcome, refused, accepted, scan, outcome}
+use Rattle.pattern.specs.Within.{Small, Fits, InLimits, Limited}
 use Rattle.pattern.proofs.Tests.{Decides, On, le-or-lt, leb-decides, both, no-test}
 use Rattle.pattern.proofs.Begun.{chain-size, next-size, leave-count, move-count}
-use Rattle.pattern.proofs.Form.{form}
+use Rattle.pattern.proofs.ParserCorrect.{form}
 use Rattle.pattern.proofs.TableRows.{atom-fault-is}
 
 -- how far the count at a place was looked at: its longest run has no fault yet, none but perhaps a large second number, or none
-Looked : Run → Run → Type 0
+Looked : CountState → CountState → Type 0
 Looked empty r = Unit {0}
 Looked (first n) r = (low r ≤ number-limit) × UpTo (high r) (low r)
 Looked (pointed n) r = (low r ≤ number-limit) × UpTo (high r) (low r)
@@ -34,38 +34,38 @@ Looked (second n m) r = Fits (low r) (high r)
 -- all that stands before is good
 Befores : ℕ → List (Syntax atom) → Type 0
 Befores d [] = Unit {0}
-Befores d (a ∷ before) = Befores d before × Good d a
+Befores d (a ∷ before) = Befores d before × InLimits d a
 
 Forks : ℕ → List (Syntax pattern) → Type 0
 Forks d [] = Unit {0}
-Forks d (p ∷ others) = Forks d others × Good d p
+Forks d (p ∷ others) = Forks d others × InLimits d p
 
-Holding : Around → Type 0
+Holding : Stack → Type 0
 Holding (top before) = Befores 0 before
 Holding (within k l h others before) = Holding k × Fits l h × (depth k < depth-limit) × Forks (suc (depth k)) others × Befores (suc (depth k)) before
 
-Placed : Place → Around → Bytes → Type 0
-Placed (counting r) k s = Looked r (ahead r s)
-Placed (inside l h value) k s = Fits l h
-Placed (after l h b) k s = Fits l h × Good (depth k) b
+PhaseHolds : Phase → Stack → Bytes → Type 0
+PhaseHolds (counting r) k s = Looked r (longest-count r s)
+PhaseHolds (inside l h value) k s = Fits l h
+PhaseHolds (after l h b) k s = Fits l h × InLimits (depth k) b
 
 -- what is good at a place with the source s from there on
-abbrev Holds : State → Bytes → Type 0
-Holds q s = (begun-at (q .0) (q .1) ≤ atom-limit) × Holding (q .1) × Placed (q .0) (q .1) s
+abbrev Holds : ParserState → Bytes → Type 0
+Holds q s = (begun-at (q .0) (q .1) ≤ atom-limit) × Holding (q .1) × PhaseHolds (q .0) (q .1) s
 
-chain-good : (d : ℕ) (before : List (Syntax atom)) (p : Syntax pattern) → (Befores d before × Good d p) ↔ Good d (chain before p)
-unfolding Befores chain Good
+chain-good : (d : ℕ) (before : List (Syntax atom)) (p : Syntax pattern) → (Befores d before × InLimits d p) ↔ InLimits d (chain before p)
+unfolding Befores chain InLimits
 chain-good d [] p = (λ h. h .1, λ h. (tt, h))
 chain-good d (a ∷ before) p =
     (λ ((x, y), z). chain-good d before (then a p) .0 (x, (y, z)), λ h. let (x, (y, z)) = chain-good d before (then a p) .1 h in ((x, y), z))
 
-fork-good : (d : ℕ) (others : List (Syntax pattern)) (bs : Syntax branches) → (Forks d others × Good d bs) ↔ Good d (fork others bs)
-unfolding Forks fork Good
+fork-good : (d : ℕ) (others : List (Syntax pattern)) (bs : Syntax branches) → (Forks d others × InLimits d bs) ↔ InLimits d (fork others bs)
+unfolding Forks fork InLimits
 fork-good d [] bs = (λ h. h .1, λ h. (tt, h))
 fork-good d (p ∷ others) bs =
     (λ ((x, y), z). fork-good d others (or p bs) .0 (x, (y, z)), λ h. let (x, (y, z)) = fork-good d others (or p bs) .1 h in ((x, y), z))
 
-next-holding : (k : Around) (a : Syntax atom) → (Holding k × Good (depth k) a) ↔ Holding (next k a)
+next-holding : (k : Stack) (a : Syntax atom) → (Holding k × InLimits (depth k) a) ↔ Holding (next k a)
 unfolding Holding next Befores depth
 next-holding (top before) a = (λ h. h, λ h. h)
 next-holding (within k l h others before) a = (λ ((x, y, z, u, v), g). (x, y, z, u, (v, g)), λ (x, y, z, u, (v, g)). ((x, y, z, u, v), g))
@@ -109,7 +109,7 @@ unfolding Small
 small-stable none f = tt
 small-stable (some m) f = ⊎-elim (λ u. u) (λ u. absurd (f (λ v. omega arith))) (le-or-lt m number-limit)
 
-atom-pass : (n : ℕ) (r : Run) → (atom-fault n r ≡ none) ↔ ((low r ≤ number-limit) × UpTo (high r) (low r) × (n < atom-limit))
+atom-pass : (n : ℕ) (r : CountState) → (atom-fault n r ≡ none) ↔ ((low r ≤ number-limit) × UpTo (high r) (low r) × (n < atom-limit))
 atom-pass n r =
     rw (atom-fault-is n r) (
     let u = pass (leb-decides (suc number-limit) (low r)) NUMBER ((leb (low r) number-limit && falls (low r) (high r), RANGE) ∷ (leb atom-limit n, ATOMS) ∷ []) in
@@ -124,68 +124,68 @@ atom-pass n r =
 
 -- ---- the longest run
 
-ahead-next : (r : Run) (m : Mark) (c : ℕ) (s : Bytes) → kind c ≡ counts m → On (grow r m c) (λ r′. ahead r (c ∷ s) ≡ ahead r′ s)
-unfolding ahead
-ahead-next r m c s e = go (grow r m c) refl
+longest-count-next : (r : CountState) (m : CountChar) (c : ℕ) (s : Bytes) → char-class c ≡ count-char m → On (grow r m c) (λ r′. longest-count r (c ∷ s) ≡ longest-count r′ s)
+unfolding longest-count
+longest-count-next r m c s e = go (grow r m c) refl
   where
-    go : (o : Option Run) → grow r m c ≡ o → On o (λ r′. ahead r (c ∷ s) ≡ ahead r′ s)
+    go : (o : Option CountState) → grow r m c ≡ o → On o (λ r′. longest-count r (c ∷ s) ≡ longest-count r′ s)
     go none g = tt
-    go (some r′) g = rw (e, ahead) (rw g)
+    go (some r′) g = rw (e, longest-count) (rw g)
 
-ahead-stop : (r : Run) (b : Starter) (c : ℕ) (s : Bytes) → kind c ≡ starts b → ahead r (c ∷ s) ≡ r
-unfolding ahead
-ahead-stop r b c s e = rw (e, ahead)
+longest-count-stop : (r : CountState) (b : BodyStart) (c : ℕ) (s : Bytes) → char-class c ≡ body-start b → longest-count r (c ∷ s) ≡ r
+unfolding longest-count
+longest-count-stop r b c s e = rw (e, longest-count)
 
 -- a count begins or goes on
-grow-looks : (r : Run) (m : Mark) (c : ℕ) (s : Bytes) (d n : ℕ) → kind c ≡ counts m
-    → On (grow r m c) (λ r′. ((n ≤ atom-limit) × Looked r (ahead r (c ∷ s)) × (fault (begins (counting r) (counts m)) d n c s ≡ none))
-    ↔ ((begun (begins (counting r) (counts m)) n ≤ atom-limit) × Looked r′ (ahead r′ s)))
+grow-looks : (r : CountState) (m : CountChar) (c : ℕ) (s : Bytes) (d n : ℕ) → char-class c ≡ count-char m
+    → On (grow r m c) (λ r′. ((n ≤ atom-limit) × Looked r (longest-count r (c ∷ s)) × (fault (begins (counting r) (count-char m)) d n c s ≡ none))
+    ↔ ((begun (begins (counting r) (count-char m)) n ≤ atom-limit) × Looked r′ (longest-count r′ s)))
 unfolding grow Looked begins begun fault
 grow-looks empty digit c s d n e =
-    let u = atom-pass n (ahead (first (c - 48)) s) in
-    rw (ahead-next empty digit c s e) (λ (a, x, g). let (p, q, z) = u .0 g in (z, (p, q)), λ (z, (p, q)). (omega arith, tt, u .1 (p, q, z)))
+    let u = atom-pass n (longest-count (first (c - 48)) s) in
+    rw (longest-count-next empty digit c s e) (λ (a, x, g). let (p, q, z) = u .0 g in (z, (p, q)), λ (z, (p, q)). (omega arith, tt, u .1 (p, q, z)))
 grow-looks empty point c s d n e =
-    let u = atom-pass n (ahead (pointed 0) s) in
-    rw (ahead-next empty point c s e) (λ (a, x, g). let (p, q, z) = u .0 g in (z, (p, q)), λ (z, (p, q)). (omega arith, tt, u .1 (p, q, z)))
-grow-looks (first x) digit c s d n e = rw (ahead-next (first x) digit c s e) (λ (a, y, g). (a, y), λ (a, y). (a, y, refl))
-grow-looks (first x) point c s d n e = rw (ahead-next (first x) point c s e) (λ (a, y, g). (a, y), λ (a, y). (a, y, refl))
+    let u = atom-pass n (longest-count (pointed 0) s) in
+    rw (longest-count-next empty point c s e) (λ (a, x, g). let (p, q, z) = u .0 g in (z, (p, q)), λ (z, (p, q)). (omega arith, tt, u .1 (p, q, z)))
+grow-looks (first x) digit c s d n e = rw (longest-count-next (first x) digit c s e) (λ (a, y, g). (a, y), λ (a, y). (a, y, refl))
+grow-looks (first x) point c s d n e = rw (longest-count-next (first x) point c s e) (λ (a, y, g). (a, y), λ (a, y). (a, y, refl))
 grow-looks (pointed x) digit c s d n e =
-    let r : Run = ahead (second x (c - 48)) s in
+    let r : CountState = longest-count (second x (c - 48)) s in
     let u = pass-last (large-decides (high r)) NUMBER in
-    rw (ahead-next (pointed x) digit c s e) (λ (a, (p, q), g). (a, (p, small-stable (high r) (u .0 g), q)), λ (a, (p, z, q)). (a, (p, q), u .1 (λ f. f z)))
+    rw (longest-count-next (pointed x) digit c s e) (λ (a, (p, q), g). (a, (p, small-stable (high r) (u .0 g), q)), λ (a, (p, z, q)). (a, (p, q), u .1 (λ f. f z)))
 grow-looks (pointed x) point c s d n e = tt
-grow-looks (second x y) digit c s d n e = rw (ahead-next (second x y) digit c s e) (λ (a, y, g). (a, y), λ (a, y). (a, y, refl))
+grow-looks (second x y) digit c s d n e = rw (longest-count-next (second x y) digit c s e) (λ (a, y, g). (a, y), λ (a, y). (a, y, refl))
 grow-looks (second x y) point c s d n e = tt
 
 -- the same at a place
-counted-holds : (o : Option Run) (k : Around) (s : Bytes) (n n′ : ℕ) (X G : Type 0) → On o (λ r. ((n ≤ atom-limit) × X × G) ↔ ((n′ ≤ atom-limit) × Looked r (ahead r s)))
+counted-holds : (o : Option CountState) (k : Stack) (s : Bytes) (n n′ : ℕ) (X G : Type 0) → On o (λ r. ((n ≤ atom-limit) × X × G) ↔ ((n′ ≤ atom-limit) × Looked r (longest-count r s)))
     → On (counted k o) (λ q. begun-at (q .0) (q .1) ≡ n′) → On (counted k o) (λ q. (((n ≤ atom-limit) × Holding k × X) × G) ↔ Holds q s)
-unfolding counted Placed
+unfolding counted PhaseHolds
 counted-holds none k s n n′ X G e c = tt
 counted-holds (some r) k s n n′ X G e c =
     (λ ((a, h, x), g). let (b, y) = e .0 (a, x, g) in (rw c b, h, y), λ (b, h, y). let (a, x, g) = e .1 (rw c at b, y) in ((a, h, x), g))
 
 -- a count ends where a body begins
-first-fits : (n : ℕ) (b : Starter) (c : ℕ) (s : Bytes) → kind c ≡ starts b → Looked (first n) (ahead (first n) (c ∷ s)) ↔ Fits n (some n)
+first-fits : (n : ℕ) (b : BodyStart) (c : ℕ) (s : Bytes) → char-class c ≡ body-start b → Looked (first n) (longest-count (first n) (c ∷ s)) ↔ Fits n (some n)
 unfolding Looked low high Small UpTo
-first-fits n b c s e = rw (ahead-stop (first n) b c s e) (λ (x, y). (x, x, y), λ (x, z, y). (x, y))
+first-fits n b c s e = rw (longest-count-stop (first n) b c s e) (λ (x, y). (x, x, y), λ (x, z, y). (x, y))
 
-pointed-fits : (n : ℕ) (b : Starter) (c : ℕ) (s : Bytes) → kind c ≡ starts b → Looked (pointed n) (ahead (pointed n) (c ∷ s)) ↔ Fits n none
+pointed-fits : (n : ℕ) (b : BodyStart) (c : ℕ) (s : Bytes) → char-class c ≡ body-start b → Looked (pointed n) (longest-count (pointed n) (c ∷ s)) ↔ Fits n none
 unfolding Looked low high Small UpTo
-pointed-fits n b c s e = rw (ahead-stop (pointed n) b c s e) (λ (x, y). (x, tt, y), λ (x, z, y). (x, y))
+pointed-fits n b c s e = rw (longest-count-stop (pointed n) b c s e) (λ (x, y). (x, tt, y), λ (x, z, y). (x, y))
 
-second-fits : (n m : ℕ) (b : Starter) (c : ℕ) (s : Bytes) → kind c ≡ starts b → Looked (second n m) (ahead (second n m) (c ∷ s)) ↔ Fits n (some m)
+second-fits : (n m : ℕ) (b : BodyStart) (c : ℕ) (s : Bytes) → char-class c ≡ body-start b → Looked (second n m) (longest-count (second n m) (c ∷ s)) ↔ Fits n (some m)
 unfolding Looked low high
-second-fits n m b c s e = rw (ahead-stop (second n m) b c s e) (λ x. x, λ x. x)
+second-fits n m b c s e = rw (longest-count-stop (second n m) b c s e) (λ x. x, λ x. x)
 
 -- ---- one byte
 
 or-small : (a b : ℕ) → ((a < set-limit) × (b < set-limit)) ↔ (bitOr a b < set-limit)
 or-small a b = (λ (x, y). or-lt 7 a b x y, λ h. (omega (arith, or-add-and a b, and-le-r a b), omega (arith, or-add-and a b, and-le-l a b)))
 
-enter-holds : (l : ℕ) (h : Option ℕ) (k : Around) (b : Starter) (c n : ℕ) (s : Bytes)
-    → (((suc (around-size k) ≤ atom-limit) × Holding k × Fits l h) × (fault (body-begins b) (depth k) n c s ≡ none)) ↔ Holds (enter l h k b c) s
-unfolding enter fault body-begins begun-at around-size before-size others-size size Holding Placed Looked Good Forks Befores
+enter-holds : (l : ℕ) (h : Option ℕ) (k : Stack) (b : BodyStart) (c n : ℕ) (s : Bytes)
+    → (((suc (stack-size k) ≤ atom-limit) × Holding k × Fits l h) × (fault (body-begins b) (depth k) n c s ≡ none)) ↔ Holds (enter l h k b c) s
+unfolding enter fault body-begins begun-at stack-size before-size others-size size Holding PhaseHolds Looked InLimits Forks Befores
 enter-holds l h k letter c n s =
     let u = below set-limit (bit c) CODE in
     (λ ((n, x, y), g). (omega arith, x, (y, u .0 g)), λ (n, x, (y, z)). ((omega arith, x, y), u .1 z))
@@ -194,9 +194,9 @@ enter-holds l h k opening c n s =
     let u = below depth-limit (depth k) DEPTH in
     (λ ((n, x, y), g). (omega arith, (x, y, u .0 g, tt, tt), tt), λ (n, (x, y, z, v, w), i). ((omega arith, x, y), u .1 z))
 
-extend-holds : (l : ℕ) (h : Option ℕ) (b : Syntax body) (k : Around) (x : Starter) (c n : ℕ) (s : Bytes)
-    → On (extend l h b k x c) (λ q. (((begun-at (after l h b) k ≤ atom-limit) × Holding k × (Fits l h × Good (depth k) b)) × (fault (body-begins x) (depth k) n c s ≡ none)) ↔ Holds q s)
-unfolding extend fault body-begins begun-at size Placed Good
+extend-holds : (l : ℕ) (h : Option ℕ) (b : Syntax body) (k : Stack) (x : BodyStart) (c n : ℕ) (s : Bytes)
+    → On (extend l h b k x c) (λ q. (((begun-at (after l h b) k ≤ atom-limit) × Holding k × (Fits l h × InLimits (depth k) b)) × (fault (body-begins x) (depth k) n c s ≡ none)) ↔ Holds q s)
+unfolding extend fault body-begins begun-at size PhaseHolds InLimits
 extend-holds l h (codes set) k letter c n s =
     let u = below set-limit (bit c) CODE in
     let v = or-small set (bit c) in
@@ -208,9 +208,9 @@ extend-holds l h (literal value) k quote c n s = (λ ((n, x, (y, z)), g). (omega
 extend-holds l h (literal value) k opening c n s = tt
 extend-holds l h (group bs) k x c n s = tt
 
-leave-holds : (k : Around) (l : ℕ) (h : Option ℕ) (b : Syntax body) (x : Ender) (s : Bytes)
-    → On (leave k (repeat l h b) x) (λ q. ((begun-at (after l h b) k ≤ atom-limit) × Holding k × (Fits l h × Good (depth k) b)) ↔ Holds q s)
-unfolding leave Holding Placed Looked Good Forks Befores depth
+leave-holds : (k : Stack) (l : ℕ) (h : Option ℕ) (b : Syntax body) (x : BranchEnd) (s : Bytes)
+    → On (leave k (repeat l h b) x) (λ q. ((begun-at (after l h b) k ≤ atom-limit) × Holding k × (Fits l h × InLimits (depth k) b)) ↔ Holds q s)
+unfolding leave Holding PhaseHolds Looked InLimits Forks Befores depth
 leave-holds (top before) l h b x s = tt
 leave-holds (within k u v others before) l h b closing s =
     let a : Syntax pattern = last (repeat l h b) in
@@ -232,16 +232,16 @@ leave-holds (within k u v others before) l h b comma s =
     )
 leave-holds (within k u v others before) l h b neither s = tt
 
-quoted-holds : (l : ℕ) (h : Option ℕ) (value : Bytes) (k : Around) (x : Text) (c : ℕ) (s : Bytes)
-    → On (quoted l h value k x c) (λ q. ((suc (around-size k) ≤ atom-limit) × Holding k × Fits l h) ↔ Holds q s)
-unfolding quoted begun-at size Placed Good
+quoted-holds : (l : ℕ) (h : Option ℕ) (value : Bytes) (k : Stack) (x : LiteralClass) (c : ℕ) (s : Bytes)
+    → On (quoted l h value k x c) (λ q. ((suc (stack-size k) ≤ atom-limit) × Holding k × Fits l h) ↔ Holds q s)
+unfolding quoted begun-at size PhaseHolds InLimits
 quoted-holds l h value k plain c s = (λ x. x, λ x. x)
 quoted-holds l h value k quoting c s = (λ (n, x, y). (omega arith, x, (y, tt)), λ (n, x, (y, z)). (omega arith, x, y))
 quoted-holds l h value k barred c s = tt
 
 -- an atom is over
-next-holds : (k : Around) (l : ℕ) (h : Option ℕ) (b : Syntax body) (s : Bytes) → Holds (after l h b, k) s ↔ Holds (counting empty, next k (repeat l h b)) s
-unfolding begun-at Placed Looked size Good
+next-holds : (k : Stack) (l : ℕ) (h : Option ℕ) (b : Syntax body) (s : Bytes) → Holds (after l h b, k) s ↔ Holds (counting empty, next k (repeat l h b)) s
+unfolding begun-at PhaseHolds Looked size InLimits
 next-holds k l h b s =
     let i = next-holding k (repeat l h b) in
     let e = next-size k (repeat l h b) in
@@ -254,18 +254,18 @@ by-fits e f = (λ ((n, h, x), g). f .0 ((n, h, e .0 x), g), λ z. let ((n, h, y)
 no-fault : {X : Type 0} → (X × (_≡_ {A = Option ℕ} none none)) ↔ X
 no-fault = (λ (x, g). x, λ y. (y, refl))
 
-on-via : (o : Option State) (s : Bytes) {X Z : Type 0} → Z ↔ X → On o (λ q. X ↔ Holds q s) → On o (λ q. Z ↔ Holds q s)
+on-via : (o : Option ParserState) (s : Bytes) {X Z : Type 0} → Z ↔ X → On o (λ q. X ↔ Holds q s) → On o (λ q. Z ↔ Holds q s)
 on-via none s e h = tt
 on-via (some a) s e h = (λ z. h .0 (e .0 z), λ y. e .1 (h .1 y))
 
-counting-holds : (r : Run) (k : Around) (m : Mark) (c : ℕ) (s : Bytes) → kind c ≡ counts m
-    → On (counted k (grow r m c)) (λ q. (Holds (counting r, k) (c ∷ s) × (fault (begins (counting r) (counts m)) (depth k) (begun-at (counting r) k) c s ≡ none)) ↔ Holds q s)
-unfolding Placed move
+counting-holds : (r : CountState) (k : Stack) (m : CountChar) (c : ℕ) (s : Bytes) → char-class c ≡ count-char m
+    → On (counted k (grow r m c)) (λ q. (Holds (counting r, k) (c ∷ s) × (fault (begins (counting r) (count-char m)) (depth k) (begun-at (counting r) k) c s ≡ none)) ↔ Holds q s)
+unfolding PhaseHolds move
 counting-holds r k m c s e =
     let n : ℕ = begun-at (counting r) k in
-    counted-holds (grow r m c) k s n (begun (begins (counting r) (counts m)) n) _ _ (grow-looks r m c s (depth k) n e) (move-count (counting r) k (counts m) c)
+    counted-holds (grow r m c) k s n (begun (begins (counting r) (count-char m)) n) _ _ (grow-looks r m c s (depth k) n e) (move-count (counting r) k (count-char m) c)
 
-after-holds : (m : Mark) (c : ℕ) (s : Bytes) (k : Around) (l : ℕ) (h : Option ℕ) (b : Syntax body) → kind c ≡ counts m
+after-holds : (m : CountChar) (c : ℕ) (s : Bytes) (k : Stack) (l : ℕ) (h : Option ℕ) (b : Syntax body) → char-class c ≡ count-char m
     → On (counted (next k (repeat l h b)) (grow empty m c)) (λ q. (Holds (after l h b, k) (c ∷ s) × (fault an-atom (depth k) (begun-at (after l h b) k) c s ≡ none)) ↔ Holds q s)
 unfolding begins fault
 after-holds m c s k l h b e =
@@ -274,27 +274,27 @@ after-holds m c s k l h b e =
     on-via (counted (next k (repeat l h b)) (grow empty m c)) s (λ (x, g). (i .0 x, rw f at g), λ (y, g). (i .1 y, rw f g)) (counting-holds empty (next k (repeat l h b)) m c s e)
 
 -- a byte brings no fault, and all before is good, just where all is good after it
-move-holds : (p : Place) (k : Around) (x : Kind) (c : ℕ) (s : Bytes) → kind c ≡ x
+move-holds : (p : Phase) (k : Stack) (x : CharClass) (c : ℕ) (s : Bytes) → char-class c ≡ x
     → On (move p k x c) (λ q. (Holds (p, k) (c ∷ s) × (fault (begins p x) (depth k) (begun-at p k) c s ≡ none)) ↔ Holds q s)
-unfolding move begins fault begun-at Placed
-move-holds (counting empty) k (counts m) c s e = counting-holds empty k m c s e
-move-holds (counting (first n)) k (counts m) c s e = counting-holds (first n) k m c s e
-move-holds (counting (pointed n)) k (counts m) c s e = counting-holds (pointed n) k m c s e
-move-holds (counting (second n x)) k (counts m) c s e = counting-holds (second n x) k m c s e
-move-holds (counting empty) k (starts b) c s e = tt
-move-holds (counting (first n)) k (starts b) c s e = by-fits (first-fits n b c s e) (enter-holds n (some n) k b c (suc (around-size k)) s)
-move-holds (counting (pointed n)) k (starts b) c s e = by-fits (pointed-fits n b c s e) (enter-holds n none k b c (suc (around-size k)) s)
-move-holds (counting (second n m)) k (starts b) c s e = by-fits (second-fits n m b c s e) (enter-holds n (some m) k b c (suc (around-size k)) s)
-move-holds (counting r) k (ends b) c s e = tt
-move-holds (inside l h value) k x c s e = on-via (quoted l h value k (text c) c) s no-fault (quoted-holds l h value k (text c) c s)
-move-holds (after l h b) k (counts m) c s e = after-holds m c s k l h b e
-move-holds (after l h b) k (starts x) c s e = extend-holds l h b k x c (suc (size b) + around-size k) s
-move-holds (after l h b) k (ends x) c s e = on-via (leave k (repeat l h b) x) s no-fault (leave-holds k l h b x s)
+unfolding move begins fault begun-at PhaseHolds
+move-holds (counting empty) k (count-char m) c s e = counting-holds empty k m c s e
+move-holds (counting (first n)) k (count-char m) c s e = counting-holds (first n) k m c s e
+move-holds (counting (pointed n)) k (count-char m) c s e = counting-holds (pointed n) k m c s e
+move-holds (counting (second n x)) k (count-char m) c s e = counting-holds (second n x) k m c s e
+move-holds (counting empty) k (body-start b) c s e = tt
+move-holds (counting (first n)) k (body-start b) c s e = by-fits (first-fits n b c s e) (enter-holds n (some n) k b c (suc (stack-size k)) s)
+move-holds (counting (pointed n)) k (body-start b) c s e = by-fits (pointed-fits n b c s e) (enter-holds n none k b c (suc (stack-size k)) s)
+move-holds (counting (second n m)) k (body-start b) c s e = by-fits (second-fits n m b c s e) (enter-holds n (some m) k b c (suc (stack-size k)) s)
+move-holds (counting r) k (branch-end b) c s e = tt
+move-holds (inside l h value) k x c s e = on-via (quoted l h value k (literal-class c) c) s no-fault (quoted-holds l h value k (literal-class c) c s)
+move-holds (after l h b) k (count-char m) c s e = after-holds m c s k l h b e
+move-holds (after l h b) k (body-start x) c s e = extend-holds l h b k x c (suc (size b) + stack-size k) s
+move-holds (after l h b) k (branch-end x) c s e = on-via (leave k (repeat l h b) x) s no-fault (leave-holds k l h b x s)
 
 -- ---- the whole source
 
-finish-holds : (p : Place) (k : Around) → On (finish p k) (λ t. Holds (p, k) [] ↔ Limited t)
-unfolding finish begun-at around-size size Holding Placed Good depth
+finish-holds : (p : Phase) (k : Stack) → On (finish p k) (λ t. Holds (p, k) [] ↔ Limited t)
+unfolding finish begun-at stack-size size Holding PhaseHolds InLimits depth
 finish-holds (counting r) k = tt
 finish-holds (inside l h value) k = tt
 finish-holds (after l h b) (top before) =
@@ -308,7 +308,7 @@ finish-holds (after l h b) (within k u v others before) = tt
 
 module _ (t : Syntax pattern) where
   -- no fault is found from a place on, and all before is good, just where the source is read as a tree within the limits
-  Agrees : State → ℕ → Bytes → Type 0
+  Agrees : ParserState → ℕ → Bytes → Type 0
   Agrees q i s = ((scan q i (begun-at (q .0) (q .1)) s ≡ accepted t) × Holds q s) ↔ ((read-from q s ≡ some t) × Limited t)
 
   at-end : (o : Option (Syntax pattern)) (i : ℕ) (X : Type 0) → On o (λ u. X ↔ Limited u)
@@ -317,7 +317,7 @@ module _ (t : Syntax pattern) where
   at-end (some u) i X h =
       (λ (e, x). let f : u ≡ t = cc in (ap some f, rw f at (h .0 x)), λ (e, x). let f : u ≡ t = cc in (ap accepted f, h .1 (rw f x)))
 
-  at-byte : (o : Option State) (f : Option ℕ) (i n : ℕ) (s : Bytes) (X : Type 0) → On o (λ q. (X × (f ≡ none)) ↔ Holds q s) → On o (λ q. begun-at (q .0) (q .1) ≡ n) → ((q : State) → Agrees q (suc i) s)
+  at-byte : (o : Option ParserState) (f : Option ℕ) (i n : ℕ) (s : Bytes) (X : Type 0) → On o (λ q. (X × (f ≡ none)) ↔ Holds q s) → On o (λ q. begun-at (q .0) (q .1) ≡ n) → ((q : ParserState) → Agrees q (suc i) s)
       → ((_≡_ {A = Outcome} (elim o [ none ↦ refused FORM i | some q ↦ elim f [ some x ↦ refused x i | none ↦ scan q (suc i) n s ] ]) (accepted t)) × X)
       ↔ ((_≡_ {A = Option (Syntax pattern)} (elim o [ none ↦ none | some q ↦ read-from q s ]) (some t)) × Limited t)
   unfolding Agrees
@@ -331,24 +331,24 @@ module _ (t : Syntax pattern) where
     λ r. absurd (Option·some-ne-none x (h .1 (g q .1 r .1) .1)),
   )
 
-  agrees : (s : Bytes) (q : State) (i : ℕ) → Agrees q i s
+  agrees : (s : Bytes) (q : ParserState) (i : ℕ) → Agrees q i s
   unfolding Agrees scan read-from step
   agrees [] q i = at-end (finish (q .0) (q .1)) i (Holds q []) (finish-holds (q .0) (q .1))
   agrees (c ∷ s) q i =
       let n : ℕ = begun-at (q .0) (q .1) in
-      at-byte (move (q .0) (q .1) (kind c) c) (fault (begins (q .0) (kind c)) (depth (q .1)) n c s) i (begun (begins (q .0) (kind c)) n) s
-      (Holds q (c ∷ s)) (move-holds (q .0) (q .1) (kind c) c s refl) (move-count (q .0) (q .1) (kind c) c) (λ q′. agrees s q′ (suc i))
+      at-byte (move (q .0) (q .1) (char-class c) c) (fault (begins (q .0) (char-class c)) (depth (q .1)) n c s) i (begun (begins (q .0) (char-class c)) n) s
+      (Holds q (c ∷ s)) (move-holds (q .0) (q .1) (char-class c) c s refl) (move-count (q .0) (q .1) (char-class c) c) (λ q′. agrees s q′ (suc i))
 
 -- no fault is found just where the source is read as a tree within the limits
 pub no-faults : (s : Bytes) (t : Syntax pattern) → (scan start 0 0 s ≡ accepted t) ↔ ((read s ≡ some t) × Limited t)
-unfolding begun-at around-size before-size Holding Placed Befores Looked Agrees read
+unfolding begun-at stack-size before-size Holding PhaseHolds Befores Looked Agrees read
 no-faults s t = let a = agrees t s start 0 in (λ e. a .0 (e, (omega arith, tt, tt)), λ r. a .1 r .0)
 
 -- accepted exactly: a source is accepted with a tree just where it is not too long and spells the tree, and the tree is within the limits
-pub accepted-exactly : (s : Bytes) (t : Syntax pattern) → (outcome s ≡ accepted t) ↔ ((length s ≤ source-limit) × Spells t s × Limited t)
+pub accepted-exactly : (s : Bytes) (t : Syntax pattern) → (outcome s ≡ accepted t) ↔ ((length s ≤ source-limit) × Derives t s × Limited t)
 unfolding outcome
 accepted-exactly s t = go (leb (length s) source-limit) (leb-decides (length s) source-limit)
   where
-    go : (b : Bool) → Decides b (length s ≤ source-limit) → (cond b (scan start 0 0 s) (refused LONG source-limit) ≡ accepted t) ↔ ((length s ≤ source-limit) × Spells t s × Limited t)
+    go : (b : Bool) → Decides b (length s ≤ source-limit) → (cond b (scan start 0 0 s) (refused LONG source-limit) ≡ accepted t) ↔ ((length s ≤ source-limit) × Derives t s × Limited t)
     go true u = (λ e. let (f, x) = no-faults s t .0 e in (u .sound tt, form s t .0 f, x), λ (h, x, y). no-faults s t .1 (form s t .1 x, y))
     go false u = (λ e. absurd (let z : _≡_ {A = ℕ} 0 1 = cc in omega arith), λ (h, x, y). absurd (u .complete h))

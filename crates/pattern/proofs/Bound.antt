@@ -9,8 +9,8 @@ use mathlib.Core.Option.{Option, none, some}
 use lib.ListN.{length, length-append}
 use Rattle.pattern.specs.Bytes.{Bytes}
 use Rattle.pattern.specs.Syntax.{Sort, pattern, atom, body, branches, Syntax, last, then, repeat, codes, literal, group, only, or, size, nodes}
-use Rattle.pattern.specs.Decision.{Rel, most, trial, made, decide}
-use Rattle.pattern.specs.Trials.{tries, sum, stretches, joins, repeats, own, total, trials, trial-bound}
+use Rattle.pattern.specs.Decision.{Rel, max-count, trial, power, decide}
+use Rattle.pattern.specs.Trials.{tries, sum, stretches, joins, repeats, atom-trials, total, trials, trial-bound}
 use Rattle.pattern.proofs.Tests.{cond-case}
 
 tries-le : (c : ℕ) (p : ℕ → Bool) → tries c p ≤ c
@@ -28,10 +28,10 @@ unfolding sum
 sum-const zero x = omega arith
 sum-const (suc c) x = omega (arith, sum-const c x)
 
-most-le : (n : ℕ) (high : Option ℕ) → most n high ≤ n
-unfolding most
-most-le n none = omega arith
-most-le n (some m) = omega arith
+max-count-le : (n : ℕ) (high : Option ℕ) → max-count n high ≤ n
+unfolding max-count
+max-count-le n none = omega arith
+max-count-le n (some m) = omega arith
 
 -- the most trials of a join: every place of every stretch of n bytes
 all-places : ℕ → ℕ
@@ -83,12 +83,12 @@ module _ (l : Bytes) where
   unfolding repeats
   repeats-le (repeat low high b) =
       let n : ℕ = length l in
-      let f : ℕ → ℕ = λ k. joins n (decide l b) (made (decide l b) k) in
-      let below : most n high ≤ n = most-le n high in
-      omega (arith, sum-le (most n high) f (λ k. all-places n) (λ k h. joins-le n (decide l b) (made (decide l b) k)), sum-const (most n high) (all-places n), mul-le-mul-right (all-places n) below)
+      let f : ℕ → ℕ = λ k. joins n (decide l b) (power (decide l b) k) in
+      let below : max-count n high ≤ n = max-count-le n high in
+      omega (arith, sum-le (max-count n high) f (λ k. all-places n) (λ k h. joins-le n (decide l b) (power (decide l b) k)), sum-const (max-count n high) (all-places n), mul-le-mul-right (all-places n) below)
 
-  own-le : (x : Syntax pattern) → own l x ≤ suc (length l) * all-places (length l)
-  unfolding own
+  own-le : (x : Syntax pattern) → atom-trials l x ≤ suc (length l) * all-places (length l)
+  unfolding atom-trials
   own-le (last a) = omega (arith, repeats-le a)
   own-le (then a p) = omega (arith, repeats-le a, joins-le (length l) (decide l a) (decide l p))
 
@@ -97,4 +97,4 @@ module _ (l : Bytes) where
   unfolding all-places stretches trials trial-bound
   bound p =
       rw (← nodes-size p)
-      (omega (arith, total-le (own l) (suc (length l) * all-places (length l)) own-le (nodes p), ap (λ x. length (nodes p) * suc (length l) * x) (rows (suc (length l)))))
+      (omega (arith, total-le (atom-trials l) (suc (length l) * all-places (length l)) own-le (nodes p), ap (λ x. length (nodes p) * suc (length l) * x) (rows (suc (length l)))))

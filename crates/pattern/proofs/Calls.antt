@@ -12,19 +12,19 @@ use lib.ListN.{length, take}
 use lib.Seq.{take-append-seam, take-length}
 use borrow.Author.Tests.{le-leb, lt-leb, leb-true, leb-false}
 use Rattle.pattern.specs.Numbers.{source-limit, atom-limit, label-limit, LONG, DEPTH, ROOM, TABLE, LABEL, PARTS, BUDGET}
-use Rattle.pattern.specs.Bytes.{Bytes, over, zeroed}
+use Rattle.pattern.specs.Bytes.{Bytes, overwrite, zeroed}
 use Rattle.pattern.specs.Syntax.{Sort, pattern, Syntax, last, then, repeat, codes, literal, group, only, or, size, top-size}
 use Rattle.pattern.specs.Meaning.{Satisfies}
-use Rattle.pattern.specs.Parts.{Means, verdict}
+use Rattle.pattern.specs.Parts.{IsVerdict, verdict}
 use Rattle.pattern.specs.Trials.{trials, trial-bound}
-use Rattle.pattern.specs.Spelling.{Spells}
+use Rattle.pattern.specs.Grammar.{Derives}
 use Rattle.pattern.specs.Scan.{Outcome, refused, accepted, outcome}
-use Rattle.pattern.specs.Within.{Ordered, Good, Limited}
+use Rattle.pattern.specs.Within.{Ordered, InLimits, Limited}
 use Rattle.pattern.specs.Faults.{rows-at, Applies, Least}
 use Rattle.pattern.specs.Print.{print}
 use Rattle.pattern.specs.Table.{encode}
 use Rattle.pattern.specs.Decode.{decode}
-use Rattle.pattern.specs.Answers.{Answer, refusal, result, Output, put-if, put, compiled, compileOf, written-back, writeOf, Matched, work, part-bytes, lent-fault, Ending, untried, exhausted, decided, ended, ending, match-ending, matchOf}
+use Rattle.pattern.specs.Answers.{Answer, refusal, result, Output, put-if, put, compiled, compileOf, written-back, writeOf, Matched, scratch-needed, part-bytes, lent-fault, Ending, untried, exhausted, decided, ended, ending, match-ending, matchOf}
 use Rattle.pattern.proofs.Tests.{le-or-lt, if-true, if-false}
 use Rattle.pattern.proofs.Longest.{partition-satisfies, verdict-means, verdict-length, part-bytes-length}
 use Rattle.pattern.proofs.Bound.{bound}
@@ -35,8 +35,8 @@ use Rattle.pattern.proofs.Shortest.{shortest, good-tree}
 use Rattle.pattern.proofs.RoundTrip.{good-exactly}
 
 -- the counts of a tree within the limits are in order
-good-ordered : {s : Sort} (d : ℕ) (x : Syntax s) → Good d x → Ordered x
-unfolding Good Ordered
+good-ordered : {s : Sort} (d : ℕ) (x : Syntax s) → InLimits d x → Ordered x
+unfolding InLimits Ordered
 good-ordered d (last a) g = good-ordered d a g
 good-ordered d (then a p) (g, k) = (good-ordered d a g, good-ordered d p k)
 good-ordered d (repeat low high b) ((x, y, z), k) = (z, good-ordered d b k)
@@ -65,7 +65,7 @@ module _ (table : Bytes) (t : Syntax pattern) (good : decode table ≡ some t) w
       shortest 0 t source (g .tree) h
 
   -- demand 2: the verdict is yes just when the partition exists, and the parts are the longest-first one
-  pub verdict-right : (label : Bytes) → Means label t (verdict label t)
+  pub verdict-right : (label : Bytes) → IsVerdict label t (verdict label t)
   verdict-right label =
       let (n, h, g) = accepted-exactly (print t) t .0 print-accepted in
       verdict-means label t (good-ordered 0 t (g .tree))
@@ -73,7 +73,7 @@ module _ (table : Bytes) (t : Syntax pattern) (good : decode table ≡ some t) w
 -- ---- writing back
 
 -- a result in lent bytes that are long enough, and in others
-pub put-fits : (position : ℕ) (x lent : Bytes) → length x ≤ length lent → put position x lent ≡ record { answer = result (length x) 0; bytes = over x lent }
+pub put-fits : (position : ℕ) (x lent : Bytes) → length x ≤ length lent → put position x lent ≡ record { answer = result (length x) 0; bytes = overwrite x lent }
 unfolding put put-if
 put-fits position x lent h = ap (λ b. put-if b position x lent) (le-leb _ _ h)
 
@@ -86,7 +86,7 @@ abbrev pub written : Output → Bytes
 written w = take (w .answer .value) (w .bytes)
 
 put-written : (b : Bool) (position : ℕ) (x lent : Bytes) → put-if b position x lent .answer .number ≡ 0 → written (put-if b position x lent) ≡ x
-unfolding put-if over
+unfolding put-if overwrite
 put-written true position x lent e = take-append-seam x _
 put-written false position x lent e = absurd (omega arith)
 
@@ -97,7 +97,7 @@ write-printed (some t) source e = (t, refl, put-written _ 0 (print t) source e)
 
 -- demand 2: the source that is written back compiles to the table it was written from
 pub write-compile : (table source room : Bytes) → writeOf table source .answer .number ≡ 0 → length table ≤ length room
-    → compileOf (written (writeOf table source)) room ≡ record { answer = result (length table) 0; bytes = over table room }
+    → compileOf (written (writeOf table source)) room ≡ record { answer = result (length table) 0; bytes = overwrite table room }
 unfolding writeOf compileOf compiled
 write-compile table source room e h =
     let (t, d, w) = write-printed (decode table) source e in
@@ -126,18 +126,18 @@ ending-beyond used count budget v h = if-false _ _ _ (lt-leb _ _ h)
 -- what holds of every refusal from 11 to 14, of BUDGET and of a verdict holds of every match
 pub match-cases : (P : Ending → Type 0) (o : Option (Syntax pattern)) (label scratch parts : Bytes) (budget : ℕ)
     → ((number : ℕ) → TABLE ≤ number → number ≤ PARTS → P (untried number))
-    → ((t : Syntax pattern) → o ≡ some t → lent-fault t label scratch parts ≡ none → budget < trials label t → P (exhausted (work t (length label)) budget))
-    → ((t : Syntax pattern) → o ≡ some t → lent-fault t label scratch parts ≡ none → trials label t ≤ budget → P (decided (work t (length label)) (trials label t) (verdict label t)))
+    → ((t : Syntax pattern) → o ≡ some t → lent-fault t label scratch parts ≡ none → budget < trials label t → P (exhausted (scratch-needed t (length label)) budget))
+    → ((t : Syntax pattern) → o ≡ some t → lent-fault t label scratch parts ≡ none → trials label t ≤ budget → P (decided (scratch-needed t (length label)) (trials label t) (verdict label t)))
     → P (match-ending o label scratch parts budget)
 unfolding match-ending ending
 match-cases P none label scratch parts budget refuses stops decides = refuses TABLE (omega arith) (omega arith)
 match-cases P (some t) label scratch parts budget refuses stops decides = lent (lent-fault t label scratch parts) refl
   where
-    within : lent-fault t label scratch parts ≡ none → (b : Bool) → leb (trials label t) budget ≡ b → P (ending none (work t (length label)) (trials label t) budget (verdict label t))
+    within : lent-fault t label scratch parts ≡ none → (b : Bool) → leb (trials label t) budget ≡ b → P (ending none (scratch-needed t (length label)) (trials label t) budget (verdict label t))
     within f true e = let h = leb-true _ _ e in subst P (sym (ending-within _ _ budget _ h)) (decides t refl f h)
     within f false e = let h = leb-false _ _ e in subst P (sym (ending-beyond _ (trials label t) budget (verdict label t) h)) (stops t refl f h)
 
-    lent : (o : Option ℕ) → lent-fault t label scratch parts ≡ o → P (ending o (work t (length label)) (trials label t) budget (verdict label t))
+    lent : (o : Option ℕ) → lent-fault t label scratch parts ≡ o → P (ending o (scratch-needed t (length label)) (trials label t) budget (verdict label t))
     lent (some f) e = let (x, y) = lent-number t label scratch parts f e in refuses f (omega arith) y
     lent none e = within e (leb (trials label t) budget) refl
 
@@ -155,21 +155,21 @@ decided-reports used count (some ends) scratch parts = record { number-zero = re
 -- where no other refusal applies: the table is good, the label and the lent slices fit
 module _ (table label scratch parts : Bytes) (t : Syntax pattern) (good : decode table ≡ some t) (lent : lent-fault t label scratch parts ≡ none) where
   -- the call makes the trials of the table's tree
-  match-tried : (budget : ℕ) → matchOf table label scratch parts budget ≡ ended (ending none (work t (length label)) (trials label t) budget (verdict label t)) scratch parts
+  match-tried : (budget : ℕ) → matchOf table label scratch parts budget ≡ ended (ending none (scratch-needed t (length label)) (trials label t) budget (verdict label t)) scratch parts
   unfolding matchOf match-ending
   match-tried budget = rw (good, lent)
 
   -- demand 3: a verdict, with the defined count, where the count is within the budget
-  pub within-budget : (budget : ℕ) → trials label t ≤ budget → matchOf table label scratch parts budget ≡ ended (decided (work t (length label)) (trials label t) (verdict label t)) scratch parts
+  pub within-budget : (budget : ℕ) → trials label t ≤ budget → matchOf table label scratch parts budget ≡ ended (decided (scratch-needed t (length label)) (trials label t) (verdict label t)) scratch parts
   within-budget budget h = match-tried budget ∙ ap (λ e. ended e scratch parts) (ending-within _ _ budget _ h)
 
   -- otherwise BUDGET, which reports the budget, writes no parts and clears scratch
-  pub beyond-budget : (budget : ℕ) → budget < trials label t → matchOf table label scratch parts budget ≡ ended (exhausted (work t (length label)) budget) scratch parts
+  pub beyond-budget : (budget : ℕ) → budget < trials label t → matchOf table label scratch parts budget ≡ ended (exhausted (scratch-needed t (length label)) budget) scratch parts
   beyond-budget budget h = match-tried budget ∙ ap (λ e. ended e scratch parts) (ending-beyond _ _ budget _ h)
 
   -- what they report
   pub within-reports : (budget : ℕ) → trials label t ≤ budget → matchOf table label scratch parts budget .answer .trials ≡ trials label t
-  within-reports budget h = ap (λ m. m .answer .trials) (within-budget budget h) ∙ decided-reports (work t (length label)) _ (verdict label t) scratch parts .trials-count
+  within-reports budget h = ap (λ m. m .answer .trials) (within-budget budget h) ∙ decided-reports (scratch-needed t (length label)) _ (verdict label t) scratch parts .trials-count
 
   pub beyond-reports : (budget : ℕ) → budget < trials label t → matchOf table label scratch parts budget .answer ≡ record { number = BUDGET; position = 0; value = 0; trials = budget }
   unfolding ended
@@ -179,7 +179,7 @@ module _ (table label scratch parts : Bytes) (t : Syntax pattern) (good : decode
   pub verdict-exactly : (budget : ℕ) → (matchOf table label scratch parts budget .answer .number ≡ 0) ↔ (trials label t ≤ budget)
   verdict-exactly budget = (
     λ e. ⊎-elim (λ h. h) (λ h. let x = ap (λ (a : Answer). a .number) (beyond-reports budget h) in absurd (omega arith)) (le-or-lt (trials label t) budget),
-    λ h. ap (λ m. m .answer .number) (within-budget budget h) ∙ decided-reports (work t (length label)) _ (verdict label t) scratch parts .number-zero,
+    λ h. ap (λ m. m .answer .number) (within-budget budget h) ∙ decided-reports (scratch-needed t (length label)) _ (verdict label t) scratch parts .number-zero,
   )
 
   -- the bound holds of what is reported, with 15 too
@@ -193,7 +193,7 @@ module _ (table label scratch parts : Bytes) (t : Syntax pattern) (good : decode
   budgets-agree b c h k = within-budget b h ∙ sym (within-budget c k)
 
   -- a budget of the bound is always enough
-  pub bound-enough : (budget : ℕ) → trial-bound (size t) (length label) ≤ budget → matchOf table label scratch parts budget ≡ ended (decided (work t (length label)) (trials label t) (verdict label t)) scratch parts
+  pub bound-enough : (budget : ℕ) → trial-bound (size t) (length label) ≤ budget → matchOf table label scratch parts budget ≡ ended (decided (scratch-needed t (length label)) (trials label t) (verdict label t)) scratch parts
   bound-enough budget h = within-budget budget (omega (arith, bound label t))
 
 -- ---- what a refused call leaves
@@ -268,8 +268,8 @@ outcome-number source f p e =
     ⊎-elim (λ (h, x, y). (omega arith, omega arith)) (λ (h, (a, b, c)). let (x, y) = row-number _ _ f a in (omega arith, omega arith)) (refused-exactly source f p .0 e)
 
 -- demand 2: a source is compiled just when it spells a tree within the limits and its table has room
-pub compile-accepted : (source table : Bytes) (t : Syntax pattern) → length source ≤ source-limit → Spells t source → Limited t → length (encode t) ≤ length table
-    → compileOf source table ≡ record { answer = result (length (encode t)) 0; bytes = over (encode t) table }
+pub compile-accepted : (source table : Bytes) (t : Syntax pattern) → length source ≤ source-limit → Derives t source → Limited t → length (encode t) ≤ length table
+    → compileOf source table ≡ record { answer = result (length (encode t)) 0; bytes = overwrite (encode t) table }
 unfolding compileOf compiled
 compile-accepted source table t l h g r =
     ap (λ o. compiled o source table) (accepted-exactly source t .1 (l, h, g)) ∙ put-fits _ (encode t) table r
@@ -280,11 +280,11 @@ put-zero true position x lent e = tt
 put-zero false position x lent e = absurd (omega arith)
 
 pub compile-zero : (source table : Bytes) → compileOf source table .answer .number ≡ 0
-    → (t : Syntax pattern) × (length source ≤ source-limit) × Spells t source × Limited t × (length (encode t) ≤ length table)
+    → (t : Syntax pattern) × (length source ≤ source-limit) × Derives t source × Limited t × (length (encode t) ≤ length table)
 unfolding compileOf compiled put
 compile-zero source table = go (outcome source) refl
   where
-    go : (o : Outcome) → outcome source ≡ o → compiled o source table .answer .number ≡ 0 → (t : Syntax pattern) × (length source ≤ source-limit) × Spells t source × Limited t × (length (encode t) ≤ length table)
+    go : (o : Outcome) → outcome source ≡ o → compiled o source table .answer .number ≡ 0 → (t : Syntax pattern) × (length source ≤ source-limit) × Derives t source × Limited t × (length (encode t) ≤ length table)
     go (refused f p) e z = absurd (let (x, y) = outcome-number source f p e in omega arith)
     go (accepted t) e z = let (l, h, g) = accepted-exactly source t .0 e in (t, l, h, g, leb→le _ _ (put-zero _ _ (encode t) table z))
 
@@ -318,40 +318,40 @@ pub match-number : (table label scratch parts : Bytes) (budget : ℕ) → MatchN
 unfolding matchOf ended
 match-number table label scratch parts budget =
     match-cases (λ e. MatchNumber (ended e scratch parts .answer .number)) (decode table) label scratch parts budget
-    (λ number l h. inr (omega arith, omega arith)) (λ t d f h. inr (omega arith, omega arith)) (λ t d f h. inl (decided-reports (work t (length label)) _ (verdict label t) scratch parts .number-zero))
+    (λ number l h. inr (omega arith, omega arith)) (λ t d f h. inr (omega arith, omega arith)) (λ t d f h. inl (decided-reports (scratch-needed t (length label)) _ (verdict label t) scratch parts .number-zero))
 
 -- demand 1: scratch after a verdict or BUDGET
 pub match-zeroed : (table label scratch parts : Bytes) (budget : ℕ) (t : Syntax pattern) → decode table ≡ some t
     → (matchOf table label scratch parts budget .answer .number ≡ 0) ⊎ (matchOf table label scratch parts budget .answer .number ≡ BUDGET)
-    → matchOf table label scratch parts budget .scratch ≡ zeroed (work t (length label)) scratch
+    → matchOf table label scratch parts budget .scratch ≡ zeroed (scratch-needed t (length label)) scratch
 unfolding matchOf ended
 match-zeroed table label scratch parts budget t d =
-    match-cases (λ e. ((ended e scratch parts .answer .number ≡ 0) ⊎ (ended e scratch parts .answer .number ≡ BUDGET)) → ended e scratch parts .scratch ≡ zeroed (work t (length label)) scratch)
+    match-cases (λ e. ((ended e scratch parts .answer .number ≡ 0) ⊎ (ended e scratch parts .answer .number ≡ BUDGET)) → ended e scratch parts .scratch ≡ zeroed (scratch-needed t (length label)) scratch)
     (decode table) label scratch parts budget
     (λ f l h. ⊎-elim (λ z. absurd (omega arith)) (λ z. absurd (omega arith)))
-    (λ u g f h z. let e : u ≡ t = cc in ap (λ x. zeroed (work x (length label)) scratch) e)
-    (λ u g f h z. let e : u ≡ t = cc in decided-reports (work u (length label)) _ (verdict label u) scratch parts .used-zeroed ∙ ap (λ x. zeroed (work x (length label)) scratch) e)
+    (λ u g f h z. let e : u ≡ t = cc in ap (λ x. zeroed (scratch-needed x (length label)) scratch) e)
+    (λ u g f h z. let e : u ≡ t = cc in decided-reports (scratch-needed u (length label)) _ (verdict label u) scratch parts .used-zeroed ∙ ap (λ x. zeroed (scratch-needed x (length label)) scratch) e)
 
 -- ---- the verdict of a call
 
 -- demand 2: where a verdict is given, it is yes just when the label satisfies the pattern
 module _ (table label scratch parts : Bytes) (t : Syntax pattern) (good : decode table ≡ some t) (lent : lent-fault t label scratch parts ≡ none) (budget : ℕ) (enough : trials label t ≤ budget) where
   pub match-verdict : (matchOf table label scratch parts budget .answer .value ≡ 1) ↔ Satisfies t label
-  unfolding ended Means
+  unfolding ended IsVerdict
   match-verdict = rw (within-budget table label scratch parts t good lent budget enough) (go (verdict label t) (verdict-right table t good label))
     where
-      go : (v : Option (List ℕ)) → Means label t v → (ended (decided (work t (length label)) (trials label t) v) scratch parts .answer .value ≡ 1) ↔ Satisfies t label
+      go : (v : Option (List ℕ)) → IsVerdict label t v → (ended (decided (scratch-needed t (length label)) (trials label t) v) scratch parts .answer .value ≡ 1) ↔ Satisfies t label
       go none m = (λ e. absurd (omega arith), λ s. absurd (m s))
       go (some ends) m = (λ e. rw take-length at (partition-satisfies label t 0 ends (m .0)), λ s. refl)
 
   -- yes writes the longest-first ends, 2T bytes
   pub match-parts : matchOf table label scratch parts budget .answer .value ≡ 1
-      → (ends : List ℕ) × Means label t (some ends) × (length (part-bytes ends) ≡ 2 * top-size t) × (matchOf table label scratch parts budget .parts ≡ over (part-bytes ends) parts)
+      → (ends : List ℕ) × IsVerdict label t (some ends) × (length (part-bytes ends) ≡ 2 * top-size t) × (matchOf table label scratch parts budget .parts ≡ overwrite (part-bytes ends) parts)
   unfolding ended
   match-parts = rw (within-budget table label scratch parts t good lent budget enough) (go (verdict label t) refl)
     where
-      go : (v : Option (List ℕ)) → verdict label t ≡ v → ended (decided (work t (length label)) (trials label t) v) scratch parts .answer .value ≡ 1
-          → (ends : List ℕ) × Means label t (some ends) × (length (part-bytes ends) ≡ 2 * top-size t) × (ended (decided (work t (length label)) (trials label t) v) scratch parts .parts ≡ over (part-bytes ends) parts)
+      go : (v : Option (List ℕ)) → verdict label t ≡ v → ended (decided (scratch-needed t (length label)) (trials label t) v) scratch parts .answer .value ≡ 1
+          → (ends : List ℕ) × IsVerdict label t (some ends) × (length (part-bytes ends) ≡ 2 * top-size t) × (ended (decided (scratch-needed t (length label)) (trials label t) v) scratch parts .parts ≡ overwrite (part-bytes ends) parts)
       go none e y = absurd (omega arith)
       go (some ends) e y =
           let n : length ends ≡ top-size t = verdict-length label t ends e in
@@ -362,7 +362,7 @@ module _ (table label scratch parts : Bytes) (t : Syntax pattern) (good : decode
   unfolding ended
   match-no = rw (within-budget table label scratch parts t good lent budget enough) (go (verdict label t))
     where
-      go : (v : Option (List ℕ)) → ended (decided (work t (length label)) (trials label t) v) scratch parts .answer .value ≡ 0 → ended (decided (work t (length label)) (trials label t) v) scratch parts .parts ≡ parts
+      go : (v : Option (List ℕ)) → ended (decided (scratch-needed t (length label)) (trials label t) v) scratch parts .answer .value ≡ 0 → ended (decided (scratch-needed t (length label)) (trials label t) v) scratch parts .parts ≡ parts
       go none y = refl
       go (some ends) y = absurd (omega arith)
 

@@ -5,7 +5,7 @@ use mathlib.Core.List.{List, [], _∷_, _++_, map}
 use Prim.Native.Nat.{ℕ, zero, suc, _+_}
 use lib.ListN.{replicate}
 use Rattle.pattern.specs.Bytes.{between, bytes}
-use Rattle.pattern.specs.Codes.{all-codes, ranged, coded, in-set, bit-among, bit}
+use Rattle.pattern.specs.Codes.{all-codes, in-ranges, in-codes, in-set, bit-among, bit}
 
 -- the set of a byte's classes, with the bits of A C E L N P U
 unfoldable pub classes : ℕ → ℕ
@@ -49,5 +49,5 @@ unfolding bytes all-codes bit-among bit
 bits-hold = (refl, refl)
 
 pub classes-hold : map classes (count-up 256 0) ≡ in-order
-unfolding between all-codes ranged coded in-set classes in-order count-up
+unfolding between all-codes in-ranges in-codes in-set classes in-order count-up
 classes-hold = refl

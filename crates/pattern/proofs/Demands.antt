@@ -8,17 +8,17 @@ use native.Mathlib.Omega.{arith}
 use lib.ListN.{length}
 use lib.Seq.{take-length}
 use Rattle.pattern.specs.Numbers.{source-limit, LONG, ROOM, TABLE, BUDGET}
-use Rattle.pattern.specs.Bytes.{Bytes, over, zeroed}
+use Rattle.pattern.specs.Bytes.{Bytes, overwrite, zeroed}
 use Rattle.pattern.specs.Syntax.{pattern, Syntax, size, top-size}
-use Rattle.pattern.specs.Parts.{Partition, Means}
+use Rattle.pattern.specs.Parts.{Partition, IsVerdict}
 use Rattle.pattern.specs.Trials.{trials, trial-bound}
-use Rattle.pattern.specs.Spelling.{Spells}
+use Rattle.pattern.specs.Grammar.{Derives}
 use Rattle.pattern.specs.Scan.{Outcome, refused, accepted, outcome}
 use Rattle.pattern.specs.Within.{Limited}
 use Rattle.pattern.specs.Faults.{Least}
 use Rattle.pattern.specs.Table.{encode}
 use Rattle.pattern.specs.Decode.{decode}
-use Rattle.pattern.specs.Answers.{refusal, result, compiled, compileOf, writeOf, work, part-bytes, lent-fault, matchOf}
+use Rattle.pattern.specs.Answers.{refusal, result, compiled, compileOf, writeOf, scratch-needed, part-bytes, lent-fault, matchOf}
 use Rattle.pattern.proofs.Longest.{partition-satisfies}
 use Rattle.pattern.proofs.Bound.{bound}
 use Rattle.pattern.proofs.Accepted.{accepted-exactly}
@@ -39,7 +39,7 @@ pub record Demand1 : Type 0 where
   -- "when the budget runs out, the scratch bytes used are zeroed, as they are after a verdict"
   pub scratch-zeroed : (table label scratch parts : Bytes) (budget : ℕ) (t : Syntax pattern) → decode table ≡ some t
       → (matchOf table label scratch parts budget .answer .number ≡ 0) ⊎ (matchOf table label scratch parts budget .answer .number ≡ BUDGET)
-      → matchOf table label scratch parts budget .scratch ≡ zeroed (work t (length label)) scratch
+      → matchOf table label scratch parts budget .scratch ≡ zeroed (scratch-needed t (length label)) scratch
 
 pub demand-1 : Demand1
 demand-1 = record {
@@ -56,36 +56,36 @@ demand-1 = record {
 
 pub record Demand2 : Type 0 where
   -- "The compiler accepts exactly the M standard's patterns, less what the paper leaves out and within its limits"
-  pub accepts : (source table : Bytes) (t : Syntax pattern) → length source ≤ source-limit → Spells t source → Limited t → length (encode t) ≤ length table
-      → compileOf source table ≡ record { answer = result (length (encode t)) 0; bytes = over (encode t) table }
+  pub accepts : (source table : Bytes) (t : Syntax pattern) → length source ≤ source-limit → Derives t source → Limited t → length (encode t) ≤ length table
+      → compileOf source table ≡ record { answer = result (length (encode t)) 0; bytes = overwrite (encode t) table }
   pub accepts-only : (source table : Bytes) → compileOf source table .answer .number ≡ 0
-      → (t : Syntax pattern) × (length source ≤ source-limit) × Spells t source × Limited t × (length (encode t) ≤ length table)
+      → (t : Syntax pattern) × (length source ≤ source-limit) × Derives t source × Limited t × (length (encode t) ≤ length table)
   -- "and otherwise names the fault and its position": LONG, else the least of the faults that are there
   pub names-long : (source table : Bytes) → source-limit < length source → compileOf source table .answer ≡ refusal LONG source-limit
   pub names : (source table : Bytes) (f p : ℕ) → length source ≤ source-limit → Least source (refused f p) → compileOf source table .answer ≡ refusal f p
-  pub accepted-or-named : (source : Bytes) → length source ≤ source-limit → ((t : Syntax pattern) × Spells t source × Limited t) ⊎ ((f : ℕ) × (p : ℕ) × Least source (refused f p))
+  pub accepted-or-named : (source : Bytes) → length source ≤ source-limit → ((t : Syntax pattern) × Derives t source × Limited t) ⊎ ((f : ℕ) × (p : ℕ) × Least source (refused f p))
   -- "A table written back as source compiles to that same table"
   pub written-compiles : (table source room : Bytes) → writeOf table source .answer .number ≡ 0 → length table ≤ length room
-      → compileOf (written (writeOf table source)) room ≡ record { answer = result (length table) 0; bytes = over table room }
+      → compileOf (written (writeOf table source)) room ≡ record { answer = result (length table) 0; bytes = overwrite table room }
   -- "The verdict is yes exactly when the standard's partition of the label exists"
   pub yes-exactly : (table label scratch parts : Bytes) (t : Syntax pattern) → decode table ≡ some t → lent-fault t label scratch parts ≡ none → (budget : ℕ) → trials label t ≤ budget
       → (matchOf table label scratch parts budget .answer .value ≡ 1) ↔ ((ends : List ℕ) × Partition label t 0 ends)
   -- "and the parts shown are the longest-first one"
   pub longest-first : (table label scratch parts : Bytes) (t : Syntax pattern) → decode table ≡ some t → lent-fault t label scratch parts ≡ none → (budget : ℕ) → trials label t ≤ budget
       → matchOf table label scratch parts budget .answer .value ≡ 1
-      → (ends : List ℕ) × Means label t (some ends) × (length (part-bytes ends) ≡ 2 * top-size t) × (matchOf table label scratch parts budget .parts ≡ over (part-bytes ends) parts)
+      → (ends : List ℕ) × IsVerdict label t (some ends) × (length (part-bytes ends) ≡ 2 * top-size t) × (matchOf table label scratch parts budget .parts ≡ overwrite (part-bytes ends) parts)
 
 named : (source table : Bytes) (f p : ℕ) → outcome source ≡ refused f p → compileOf source table .answer ≡ refusal f p
 unfolding compileOf compiled
 named source table f p e = ap (λ o. compiled o source table .answer) e
 
-accepted-or-least : (source : Bytes) → length source ≤ source-limit → (o : Outcome) → outcome source ≡ o → ((t : Syntax pattern) × Spells t source × Limited t) ⊎ ((f : ℕ) × (p : ℕ) × Least source (refused f p))
+accepted-or-least : (source : Bytes) → length source ≤ source-limit → (o : Outcome) → outcome source ≡ o → ((t : Syntax pattern) × Derives t source × Limited t) ⊎ ((f : ℕ) × (p : ℕ) × Least source (refused f p))
 accepted-or-least source l (accepted t) e = let (x, h, g) = accepted-exactly source t .0 e in inl (t, h, g)
 accepted-or-least source l (refused f p) e = inr (f, p, ⊎-elim (λ (h, x, y). absurd (omega arith)) (λ (h, x). x) (refused-exactly source f p .0 e))
 
 partition-exists : (table label scratch parts : Bytes) (t : Syntax pattern) → decode table ≡ some t → lent-fault t label scratch parts ≡ none → (budget : ℕ) → trials label t ≤ budget
     → (matchOf table label scratch parts budget .answer .value ≡ 1) ↔ ((ends : List ℕ) × Partition label t 0 ends)
-unfolding Means
+unfolding IsVerdict
 partition-exists table label scratch parts t good lent budget h = (
   λ e. let (ends, m, x, y) = match-parts table label scratch parts t good lent budget h e in (ends, m .0),
   λ (ends, p). match-verdict table label scratch parts t good lent budget h .1 (rw take-length at (partition-satisfies label t 0 ends p)),

@@ -5,7 +5,7 @@ use mathlib.Core.Option.{Option, none, some}
 use Prim.Native.Nat.{ℕ}
 use lib.ListN.{take, replicate}
 use Rattle.pattern.specs.Numbers.{BUDGET}
-use Rattle.pattern.specs.Bytes.{Bytes, over, bytes}
+use Rattle.pattern.specs.Bytes.{Bytes, overwrite, bytes}
 use Rattle.pattern.specs.Answers.{Output, compileOf, Matched, part-bytes, matchOf}
 use Rattle.pattern.proofs.Computed.{computed}
 
@@ -85,7 +85,7 @@ answered e =
 
 -- what it must answer; parts are written on yes only
 unfoldable pub due : Example → ℕ × ℕ × Bytes × Option ℕ
-due e = (e .number, e .value, over (part-bytes (e .ends)) (replicate 8 7), e .count)
+due e = (e .number, e .value, overwrite (part-bytes (e .ends)) (replicate 8 7), e .count)
 
 -- P1 to P14 together, the easy errors together, the counts together
 pub examples-hold : (map answered examples ≡ map due examples) × (map answered easy-errors ≡ map due easy-errors) × (map answered counts ≡ map due counts)

@@ -12,9 +12,9 @@ use lib.ListN.{length, take, drop}
 use Rattle.pattern.specs.Numbers.{source-limit, LONG, FORM}
 use Rattle.pattern.specs.Bytes.{Bytes}
 use Rattle.pattern.specs.Syntax.{pattern, Syntax}
-use Rattle.pattern.specs.Spelling.{kind}
-use Rattle.pattern.specs.Reading.{State, move, step, finish, start}
-use Rattle.pattern.specs.Places.{place-after, before-size, around-size, begun-at}
+use Rattle.pattern.specs.Grammar.{char-class}
+use Rattle.pattern.specs.Parser.{ParserState, move, step, finish, start}
+use Rattle.pattern.specs.ParserInvariant.{state-after, before-size, stack-size, begun-at}
 use Rattle.pattern.specs.Scan.{depth, begins, fault, begun, refuse, Outcome, refused, accepted, scan, outcome}
 use Rattle.pattern.specs.Faults.{rows-there, rows-at, Applies, Least}
 use Rattle.pattern.proofs.Tests.{Decides, On, leb-decides, le-or-lt}
@@ -37,47 +37,47 @@ unfolding From
 first-of f i x e = (0, omega arith, e, λ j l. absurd (omega arith))
 
 -- the faults from a place on
-faults : State → Bytes → ℕ → Option ℕ
-faults q s j = found-there (place-after q (take j s)) (drop j s)
+faults : ParserState → Bytes → ℕ → Option ℕ
+faults q s j = found-there (state-after q (take j s)) (drop j s)
 
 at-end : (o : Option (Syntax pattern)) (f : ℕ → Option ℕ) (i : ℕ) → ((j : ℕ) → f j ≡ elim o [ none ↦ some FORM | some t ↦ none ]) → From f i (elim o [ none ↦ refused FORM i | some t ↦ accepted t ])
 unfolding From
 at-end none f i e = first-of f i FORM (e 0)
 at-end (some t) f i e = e
 
-at-byte : (o : Option State) (x : Option ℕ) (f : ℕ → Option ℕ) (i n : ℕ) (s : Bytes)
-    → f zero ≡ elim o [ none ↦ some FORM | some q ↦ x ] → ((j : ℕ) → f (suc j) ≡ found-there (elim o [ none ↦ none | some q ↦ place-after q (take j s) ]) (drop j s))
-    → On o (λ q. begun-at (q .0) (q .1) ≡ n) → ((q : State) → From (faults q s) (suc i) (scan q (suc i) (begun-at (q .0) (q .1)) s))
+at-byte : (o : Option ParserState) (x : Option ℕ) (f : ℕ → Option ℕ) (i n : ℕ) (s : Bytes)
+    → f zero ≡ elim o [ none ↦ some FORM | some q ↦ x ] → ((j : ℕ) → f (suc j) ≡ found-there (elim o [ none ↦ none | some q ↦ state-after q (take j s) ]) (drop j s))
+    → On o (λ q. begun-at (q .0) (q .1) ≡ n) → ((q : ParserState) → From (faults q s) (suc i) (scan q (suc i) (begun-at (q .0) (q .1)) s))
     → From f i (elim o [ none ↦ refused FORM i | some q ↦ elim x [ some y ↦ refused y i | none ↦ scan q (suc i) n s ] ])
 unfolding faults
 at-byte none x f i n s e h c g = first-of f i FORM e
 at-byte (some q) none f i n s e h c g = later f (faults q s) i (scan q (suc i) n s) e h (rw c at (g q))
 at-byte (some q) (some y) f i n s e h c g = first-of f i y e
 
-same-end : (q : State) (j : ℕ) → faults q [] j ≡ found q []
-unfolding faults found-there place-after
+same-end : (q : ParserState) (j : ℕ) → faults q [] j ≡ found q []
+unfolding faults found-there state-after
 same-end q zero = refl
 same-end q (suc j) = refl
 
-least-from : (s : Bytes) (q : State) (i : ℕ) → From (faults q s) i (scan q i (begun-at (q .0) (q .1)) s)
+least-from : (s : Bytes) (q : ParserState) (i : ℕ) → From (faults q s) i (scan q i (begun-at (q .0) (q .1)) s)
 unfolding scan found step
 least-from [] q i = at-end (finish (q .0) (q .1)) (faults q []) i (same-end q)
 least-from (c ∷ s) q i =
     let n : ℕ = begun-at (q .0) (q .1) in
-    at-byte (move (q .0) (q .1) (kind c) c) (fault (begins (q .0) (kind c)) (depth (q .1)) n c s) (faults q (c ∷ s)) i (begun (begins (q .0) (kind c)) n) s
-    (unfold faults found-there place-after in refl) (λ j. unfold faults place-after in refl) (move-count (q .0) (q .1) (kind c) c) (λ q′. least-from s q′ (suc i))
+    at-byte (move (q .0) (q .1) (char-class c) c) (fault (begins (q .0) (char-class c)) (depth (q .1)) n c s) (faults q (c ∷ s)) i (begun (begins (q .0) (char-class c)) n) s
+    (unfold faults found-there state-after in refl) (λ j. unfold faults state-after in refl) (move-count (q .0) (q .1) (char-class c) c) (λ q′. least-from s q′ (suc i))
 
 -- what is found is the lowest row that applies
 lowest : (s : Bytes) (p f : ℕ) → faults start s p ≡ some f → Applies (rows-at s p) f × ((g : ℕ) → Applies (rows-at s p) g → f ≤ g)
 unfolding faults rows-at
 lowest s p f e =
-    let o = place-after start (take p s) in
+    let o = state-after start (take p s) in
     let r : refuse (rows-there o (drop p s)) ≡ some f = found-rows o (drop p s) ∙ e in
     (refuse-applies _ f r, λ g a. refuse-lowest _ 0 f g (rows-ascend o (drop p s)) r a)
 
 nowhere : (s : Bytes) (p g : ℕ) → faults start s p ≡ none → ¬ Applies (rows-at s p) g
 unfolding faults rows-at
-nowhere s p g e = let o = place-after start (take p s) in refuse-none _ g (found-rows o (drop p s) ∙ e)
+nowhere s p g e = let o = state-after start (take p s) in refuse-none _ g (found-rows o (drop p s) ∙ e)
 
 from-start : (s : Bytes) (o : Outcome) → From (faults start s) 0 o → Least s o
 unfolding From Least
@@ -88,7 +88,7 @@ from-start s (refused f p) (d, e, h, k) =
 from-start s (accepted t) h = λ j g. nowhere s j g (h j)
 
 pub least : (s : Bytes) → Least s (scan start 0 0 s)
-unfolding begun-at around-size before-size
+unfolding begun-at stack-size before-size
 least s = from-start s (scan start 0 0 s) (least-from s start 0)
 
 -- the least fault is one

@@ -7,12 +7,12 @@ pub mod Longest
 pub mod Bound
 pub mod Notation
 pub mod Decimal
-pub mod ReadSpells
-pub mod SpeltReads
-pub mod Form
+pub mod ParserSound
+pub mod ParserComplete
+pub mod ParserCorrect
 pub mod TableRows
 pub mod Least
-pub mod Stops
+pub mod FormAt
 pub mod Begun
 pub mod Accepted
 pub mod Printed
@@ -23,7 +23,7 @@ pub mod Calls
 pub mod Union
 pub mod Rooms
 pub mod Nodes
-pub mod LongestRuns
+pub mod LongestCounts
 pub mod Computed
 pub mod Examples
 pub mod Sources

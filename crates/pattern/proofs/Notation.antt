@@ -5,24 +5,24 @@ use Prim.Native.Nat.{ℕ, _≤_}
 use lib.Dec.{T, leb, leb→le, eqb, eqb→eq}
 use Rattle.pattern.specs.Numbers.{quote-byte, opening-byte, closing-byte, comma-byte, point-byte}
 use Rattle.pattern.specs.Bytes.{between}
-use Rattle.pattern.specs.Spelling.{letter, quote, opening, closing, comma, neither, digit, point, Kind, counts, starts, ends, kind, Text, plain, quoting, barred, text}
+use Rattle.pattern.specs.Grammar.{letter, quote, opening, closing, comma, neither, digit, point, CharClass, count-char, body-start, branch-end, char-class, LiteralClass, plain, quoting, barred, literal-class}
 use Rattle.pattern.proofs.Tests.{and-both, cond-case}
 
 -- what a kind says of its byte
-abbrev pub Byte : Kind → ℕ → Type 0
-Byte (counts digit) c = c ≤ 57
-Byte (counts point) c = c ≡ point-byte
-Byte (starts letter) c = Unit {0}
-Byte (starts quote) c = c ≡ quote-byte
-Byte (starts opening) c = c ≡ opening-byte
-Byte (ends closing) c = c ≡ closing-byte
-Byte (ends comma) c = c ≡ comma-byte
-Byte (ends neither) c = Unit {0}
+abbrev pub Byte : CharClass → ℕ → Type 0
+Byte (count-char digit) c = c ≤ 57
+Byte (count-char point) c = c ≡ point-byte
+Byte (body-start letter) c = Unit {0}
+Byte (body-start quote) c = c ≡ quote-byte
+Byte (body-start opening) c = c ≡ opening-byte
+Byte (branch-end closing) c = c ≡ closing-byte
+Byte (branch-end comma) c = c ≡ comma-byte
+Byte (branch-end neither) c = Unit {0}
 
-pub kind-byte : (c : ℕ) → Byte (kind c) c
-unfolding kind between
-kind-byte c =
-    let F : Kind → Type 0 = λ x. Byte x c in
+pub class-byte : (c : ℕ) → Byte (char-class c) c
+unfolding char-class between
+class-byte c =
+    let F : CharClass → Type 0 = λ x. Byte x c in
     cond-case (between 48 57 c) F (λ t. leb→le c 57 (and-both (leb 48 c) (leb c 57) t .1)) λ _.
     cond-case (between 65 90 c || between 97 122 c) F (λ t. tt) λ _.
     cond-case (eqb c point-byte) F (eqb→eq c point-byte) λ _.
@@ -32,14 +32,14 @@ kind-byte c =
     cond-case (eqb c comma-byte) F (eqb→eq c comma-byte) λ _. tt
 
 -- what a byte of a literal is
-abbrev pub TextByte : Text → ℕ → Type 0
+abbrev pub TextByte : LiteralClass → ℕ → Type 0
 TextByte plain c = T (between 32 126 c)
 TextByte quoting c = c ≡ quote-byte
 TextByte barred c = Unit {0}
 
-pub text-byte : (c : ℕ) → TextByte (text c) c
-unfolding text
+pub text-byte : (c : ℕ) → TextByte (literal-class c) c
+unfolding literal-class
 text-byte c =
-    let F : Text → Type 0 = λ x. TextByte x c in
+    let F : LiteralClass → Type 0 = λ x. TextByte x c in
     cond-case (eqb c quote-byte) F (eqb→eq c quote-byte) λ _.
     cond-case (between 32 126 c) F (λ t. t) λ _. tt

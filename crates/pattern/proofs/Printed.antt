@@ -12,21 +12,21 @@ use Rattle.pattern.specs.Bytes.{Bytes, between}
 use Rattle.pattern.specs.Codes.{Code, all-codes, bit-among, bit}
 use Rattle.pattern.specs.Syntax.{Sort, Syntax, last, then, repeat, codes, literal, group, only, or}
 use Rattle.pattern.specs.Meaning.{Cut}
-use Rattle.pattern.specs.Spelling.{letter, quote as quote-starts, opening, digit, Kind, counts, starts, ends, kind, plain, text, Number, Low, missing, given, Count, exact, from, range, Letters, Quoted, start, byte, Spells}
-use Rattle.pattern.specs.Within.{Good}
+use Rattle.pattern.specs.Grammar.{letter, quote as quote-starts, opening, digit, CharClass, count-char, body-start, branch-end, char-class, plain, literal-class, Number, Low, missing, given, Count, exact, from, range, Letters, Quoted, start, byte, Derives}
+use Rattle.pattern.specs.Within.{InLimits}
 use Rattle.pattern.specs.Print.{decimal-of, decimal, print-low, print-count, print-set, double, print}
 use Rattle.pattern.proofs.Tests.{and-both, passed, cond-case, all, all-at}
 use Rattle.pattern.proofs.Notation.{text-byte}
 use Rattle.pattern.proofs.Decimal.{most, le-most}
 
-digit-kind : (c : ℕ) → 48 ≤ c → c ≤ 57 → kind c ≡ counts digit
-unfolding kind between
-digit-kind c h k = rw (passed (leb 48 c) (le→leb 48 c h), passed (leb c 57) (le→leb c 57 k))
+digit-class : (c : ℕ) → 48 ≤ c → c ≤ 57 → char-class c ≡ count-char digit
+unfolding char-class between
+digit-class c h k = rw (passed (leb 48 c) (le→leb 48 c h), passed (leb c 57) (le→leb c 57 k))
 
 one-digit : (n : ℕ) → n < 10 → Number n ((48 + n) ∷ [])
 one-digit n h =
     let e : (48 + n) - 48 ≡ n = omega arith in
-    rw e at (Number.one (48 + n) (digit-kind (48 + n) (omega arith) (omega arith)))
+    rw e at (Number.one (48 + n) (digit-class (48 + n) (omega arith) (omega arith)))
 
 decimal-number : (f n : ℕ) → n ≤ most f → Number n (decimal-of f n)
 unfolding decimal-of most
@@ -37,7 +37,7 @@ decimal-number (suc f) n h = go (ltb n 10) (leb→le (suc n) 10) (decimal-number
     go true t r = one-digit n (t tt)
     go false t r =
         let e : 10 * (n / 10) + ((48 + n % 10) - 48) ≡ n = omega arith in
-        rw e at (Number.more r (48 + n % 10) (digit-kind (48 + n % 10) (omega arith) (omega arith)))
+        rw e at (Number.more r (48 + n % 10) (digit-class (48 + n % 10) (omega arith) (omega arith)))
 
 number-printed : (n : ℕ) → Number n (decimal n)
 unfolding decimal
@@ -65,8 +65,8 @@ unfoldable pub Printable : Bytes → Type 0
 Printable [] = Unit {0}
 Printable (c ∷ v) = T (between 32 126 c) × Printable v
 
-plain-text : (c : ℕ) → T (between 32 126 c) → eqb c 34 ≡ false → text c ≡ plain
-unfolding text
+plain-text : (c : ℕ) → T (between 32 126 c) → eqb c 34 ≡ false → literal-class c ≡ plain
+unfolding literal-class
 plain-text c t e = rw (e, passed (between 32 126 c) t)
 
 pub quoted-printed : (v : Bytes) (a : Bytes) (u : Bytes) → Quoted a u → Printable v → Quoted (a ++ v) (u ++ double v)
@@ -84,39 +84,39 @@ union : ℕ → Bytes → ℕ
 union set [] = set
 union set (c ∷ s) = union (bitOr set (bit c)) s
 
-is-letter : Kind → Bool
-is-letter (counts m) = false
-is-letter (starts letter) = true
-is-letter (starts quote-starts) = false
-is-letter (starts opening) = false
-is-letter (ends e) = false
+is-letter : CharClass → Bool
+is-letter (count-char m) = false
+is-letter (body-start letter) = true
+is-letter (body-start quote-starts) = false
+is-letter (body-start opening) = false
+is-letter (branch-end e) = false
 
 lettered : Bytes → Bool
 lettered [] = true
-lettered (c ∷ s) = is-letter (kind c) && lettered s
+lettered (c ∷ s) = is-letter (char-class c) && lettered s
 
-letter-kind : (x : Kind) → T (is-letter x) → x ≡ starts letter
+letter-class : (x : CharClass) → T (is-letter x) → x ≡ body-start letter
 unfolding is-letter
-letter-kind (counts m) t = absurd t
-letter-kind (starts letter) t = refl
-letter-kind (starts quote-starts) t = absurd t
-letter-kind (starts opening) t = absurd t
-letter-kind (ends e) t = absurd t
+letter-class (count-char m) t = absurd t
+letter-class (body-start letter) t = refl
+letter-class (body-start quote-starts) t = absurd t
+letter-class (body-start opening) t = absurd t
+letter-class (branch-end e) t = absurd t
 
 letters-on : (s : Bytes) (set : ℕ) (u : Bytes) → Letters set u → T (lettered s) → Letters (union set s) (u ++ s)
 unfolding union lettered
 letters-on [] set u h t = rw append-nil h
 letters-on (c ∷ s) set u h t =
-    let (a, b) = and-both (is-letter (kind c)) (lettered s) t in
-    simp append-assoc at (letters-on s (bitOr set (bit c)) (u ++ c ∷ []) (Letters.more h c (letter-kind (kind c) a)) b)
+    let (a, b) = and-both (is-letter (char-class c)) (lettered s) t in
+    simp append-assoc at (letters-on s (bitOr set (bit c)) (u ++ c ∷ []) (Letters.more h c (letter-class (char-class c) a)) b)
 
 spelt-as : Bytes → ℕ → Bool
 spelt-as [] set = eqb set 0
-spelt-as (c ∷ s) set = is-letter (kind c) && (lettered s && eqb (union (bit c) s) set)
+spelt-as (c ∷ s) set = is-letter (char-class c) && (lettered s && eqb (union (bit c) s) set)
 
 -- every set is the union of the letters that are printed for it
 sets-fit : T (all 128 (λ set. spelt-as (print-set all-codes set) set))
-unfolding all spelt-as lettered is-letter union kind between all-codes bit-among bit print-set
+unfolding all spelt-as lettered is-letter union char-class between all-codes bit-among bit print-set
 sets-fit = tt
 
 pub letters-printed : (set : ℕ) → 0 < set → set < set-limit → Letters set (print-set all-codes set)
@@ -125,9 +125,9 @@ letters-printed set h l = go (print-set all-codes set) (all-at 128 (λ x. spelt-
     go : (w : Bytes) → T (spelt-as w set) → Letters set w
     go [] t = let e : set ≡ 0 = eqb→eq set 0 (unfold spelt-as in t) in absurd (omega arith)
     go (c ∷ s) t =
-        let (a, b) = and-both (is-letter (kind c)) (lettered s && eqb (union (bit c) s) set) (unfold spelt-as in t) in
+        let (a, b) = and-both (is-letter (char-class c)) (lettered s && eqb (union (bit c) s) set) (unfold spelt-as in t) in
         let (x, y) = and-both (lettered s) (eqb (union (bit c) s) set) b in
-        rw (eqb→eq (union (bit c) s) set y) at (letters-on s (bit c) (c ∷ []) (Letters.one c (letter-kind (kind c) a)) x)
+        rw (eqb→eq (union (bit c) s) set y) at (letters-on s (bit c) (c ∷ []) (Letters.one c (letter-class (char-class c) a)) x)
 
 bit-some : (ls : List Code) (b c : ℕ) → 0 < b → 0 < bit-among ls b c
 unfolding bit-among
@@ -151,8 +151,8 @@ quoted-printable (byte {v} h c e) = printable-more v c (quoted-printable h) (rw 
 quoted-printable (Quoted.quote {v} h) = printable-more v 34 (quoted-printable h) tt
 
 -- a good tree that some source spells is spelt by its printed source
-pub printed : {s : Sort} (d : ℕ) (x : Syntax s) (w : Bytes) → Good d x → Spells x w → Spells x (print x)
-unfolding Spells Cut Good print
+pub printed : {s : Sort} (d : ℕ) (x : Syntax s) (w : Bytes) → InLimits d x → Derives x w → Derives x (print x)
+unfolding Derives Cut InLimits print
 printed d (last a) w g h = printed d a w g h
 printed d (then a p) w (g, k) (x, y, e, h, i) = (print a, print p, refl, printed d a x g h, printed d p y k i)
 printed d (repeat low high b) w (g, k) (x, y, e, h, i) = (print-count low high, print b, refl, count-printed low high, printed d b y k i)

@@ -7,16 +7,16 @@ use Prim.Native.Nat.{ℕ, _*_, _≤_, _<_}
 use native.Mathlib.Omega.{arith}
 use lib.ListN.{length, drop, length-append}
 use Rattle.pattern.specs.Numbers.{source-limit, table-room, parts-room, quote-byte, closing-byte, comma-byte}
-use Rattle.pattern.specs.Bytes.{Bytes, over}
+use Rattle.pattern.specs.Bytes.{Bytes, overwrite}
 use Rattle.pattern.specs.Syntax.{Sort, pattern, Syntax, last, then, repeat, codes, literal, group, only, or, size, top-size}
 use Rattle.pattern.specs.Meaning.{Cut}
-use Rattle.pattern.specs.Spelling.{Quoted, start, byte, quote, Spells}
+use Rattle.pattern.specs.Grammar.{Quoted, start, byte, quote, Derives}
 use Rattle.pattern.specs.Scan.{Outcome, refused, accepted, outcome}
 use Rattle.pattern.specs.Print.{print}
 use Rattle.pattern.specs.Table.{pool, records, header, encode}
 use Rattle.pattern.specs.Decode.{decode}
 use Rattle.pattern.specs.Answers.{result, put-if, put, compiled, compileOf}
-use Rattle.pattern.proofs.Records.{length-flat, count-records}
+use Rattle.pattern.proofs.Records.{length-record-bytes, count-records}
 use Rattle.pattern.proofs.RoundTrip.{some-atom}
 use Rattle.pattern.proofs.Accepted.{accepted-exactly}
 use Rattle.pattern.proofs.Calls.{print-accepted, compile-accepted, compile-zero}
@@ -27,8 +27,8 @@ quoted-pool start = omega arith
 quoted-pool (byte {v} {s} q c e) = omega (arith, quoted-pool q, length-append v (c ∷ []), length-append s (c ∷ []))
 quoted-pool (quote {v} {s} q) = omega (arith, quoted-pool q, length-append v (quote-byte ∷ []), length-append s (quote-byte ∷ quote-byte ∷ []))
 
-spelt-pool : {o : Sort} (x : Syntax o) (s : Bytes) → Spells x s → length (pool x) ≤ length s
-unfolding Spells Cut pool
+spelt-pool : {o : Sort} (x : Syntax o) (s : Bytes) → Derives x s → length (pool x) ≤ length s
+unfolding Derives Cut pool
 spelt-pool (last a) s h = spelt-pool a s h
 spelt-pool (then a p) s (u, v, e, x, y) = omega (arith, ap length e, length-append u v, spelt-pool a u x, spelt-pool p v y, length-append (pool a) (pool p))
 spelt-pool (repeat low high b) s (u, v, e, x, y) = omega (arith, ap length e, length-append u v, spelt-pool b v y)
@@ -49,13 +49,13 @@ module _ (source : Bytes) (t : Syntax pattern) (good : outcome source ≡ accept
   unfolding encode header
   table-fits =
       let (n, s, l) = accepted-exactly source t .0 good in
-      omega (arith, l .atoms, spelt-pool t source s, length-flat (records 1 t 0 0) (pool t), count-records 1 t 0 0)
+      omega (arith, l .atoms, spelt-pool t source s, length-record-bytes (records 1 t 0 0) (pool t), count-records 1 t 0 0)
 
   pub parts-fit : 2 * top-size t ≤ parts-room
   parts-fit = let (n, s, l) = accepted-exactly source t .0 good in omega (arith, l .atoms, top-le t)
 
   -- so the source is never refused for room
-  pub table-has-room : (lent : Bytes) → table-room ≤ length lent → compileOf source lent ≡ record { answer = result (length (encode t)) 0; bytes = over (encode t) lent }
+  pub table-has-room : (lent : Bytes) → table-room ≤ length lent → compileOf source lent ≡ record { answer = result (length (encode t)) 0; bytes = overwrite (encode t) lent }
   table-has-room lent r =
       let (n, s, l) = accepted-exactly source t .0 good in
       compile-accepted source lent t n s l (omega (arith, table-fits))
@@ -67,7 +67,7 @@ source-fits table t good = accepted-exactly (print t) t .0 (print-accepted table
 -- ---- a compiled table in its lent bytes
 
 put-within : (b : Bool) (p : ℕ) (w l : Bytes) → put-if b p w l .answer .value ≤ length (put-if b p w l .bytes)
-unfolding put-if over
+unfolding put-if overwrite
 put-within true p w l = omega (arith, length-append w (drop (length w) l))
 put-within false p w l = omega arith
 

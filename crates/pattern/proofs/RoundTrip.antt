@@ -10,18 +10,18 @@ use borrow.Author.Tests.{eq-eqb, ne-eqb}
 use lib.ListN.{length, take}
 use lib.Seq.{take-append-seam}
 use Rattle.pattern.specs.Numbers.{header-size, record-size, open-high}
-use Rattle.pattern.specs.Bytes.{Bytes, same}
+use Rattle.pattern.specs.Bytes.{Bytes, equal}
 use Rattle.pattern.specs.Syntax.{Sort, pattern, atom, body, branches, Syntax, last, then, repeat, codes, literal, group, only, or, size}
 use Rattle.pattern.specs.Scan.{Outcome, refused, accepted, outcome}
-use Rattle.pattern.specs.Within.{Small, Good}
+use Rattle.pattern.specs.Within.{Small, InLimits}
 use Rattle.pattern.specs.Print.{print}
-use Rattle.pattern.specs.Table.{pool, choices, high-field, kind-field, a-field, b-field, Rec, rec, records, header, encode}
-use Rattle.pattern.specs.Decode.{Layout, layout, high-of, its, pattern-at, atom-at, body-at, branches-at, tree-of, compiled-to, decode}
+use Rattle.pattern.specs.Table.{pool, branch-count, high-field, kind-field, a-field, b-field, Rec, rec, records, header, encode}
+use Rattle.pattern.specs.Decode.{Layout, layout, high-of, record-at, pattern-at, atom-at, body-at, branches-at, tree-of, compiled-to, decode}
 use Rattle.pattern.proofs.Tests.{Decides, if-true, if-false}
-use Rattle.pattern.proofs.Agree.{same-decides}
+use Rattle.pattern.proofs.Agree.{equal-decides}
 use Rattle.pattern.proofs.Accepted.{accepted-exactly}
 use Rattle.pattern.proofs.Shortest.{good-tree}
-use Rattle.pattern.proofs.Records.{length-flat, count-records, Placed, head-there, tail-there, then-there, or-there, next-there}
+use Rattle.pattern.proofs.Records.{length-record-bytes, count-records, Placed, head-there, tail-there, then-there, or-there, next-there}
 
 pub some-atom : (a : Syntax atom) → 0 < size a
 unfolding size
@@ -32,8 +32,8 @@ unfolding size
 some-pattern (last a) = some-atom a
 some-pattern (then a q) = omega (arith, some-atom a)
 
-pub some-choice : (bs : Syntax branches) → 0 < choices bs
-unfolding choices
+pub some-choice : (bs : Syntax branches) → 0 < branch-count bs
+unfolding branch-count
 some-choice (only q) = omega arith
 some-choice (or q bs) = omega arith
 
@@ -43,7 +43,7 @@ high-again none f = refl
 high-again (some m) f = if-false _ _ _ (ne-eqb m open-high (λ e. omega arith))
 
 module _ (s : Bytes) (l : Layout) where
-  ends-there : (e : ℕ) (a : Syntax atom) (i p : ℕ) → Placed s l e a i p → its s l i .ends ≡ e
+  ends-there : (e : ℕ) (a : Syntax atom) (i p : ℕ) → Placed s l e a i p → record-at s l i .ends ≡ e
   unfolding records
   ends-there e (repeat low high b) i p h = ap (λ (r : Rec). r .ends) (head-there h)
 
@@ -52,7 +52,7 @@ module _ (s : Bytes) (l : Layout) where
   Reads pattern t e = (f i p : ℕ) → 4 * size t ≤ suc f → Placed s l e t i p → pattern-at s l f i ≡ t
   Reads atom a e = (f i p : ℕ) → 4 * size a ≤ suc (suc f) → Placed s l e a i p → atom-at s l f i ≡ a
   Reads body b e = (f i p low : ℕ) (high : Option ℕ) → 4 * size b < f → Placed s l e b (suc i) p → body-at s l f (rec e low high b i p) i ≡ b
-  Reads branches bs e = (f i p : ℕ) → 4 * size bs ≤ f → Placed s l e bs i p → branches-at s l f (choices bs) i ≡ bs
+  Reads branches bs e = (f i p : ℕ) → 4 * size bs ≤ f → Placed s l e bs i p → branches-at s l f (branch-count bs) i ≡ bs
 
   pattern-last : (a : Syntax atom) (e : ℕ) → Reads atom a 1 → Reads pattern (last a) e
   unfolding Reads pattern-at size records pool
@@ -65,7 +65,7 @@ module _ (s : Bytes) (l : Layout) where
   pattern-then a q e r u (suc f) i p n h =
       let (x, y) = then-there e a q h in
       let z = ends-there 0 a i p x in
-      if-false _ _ _ (ne-eqb (its s l i .ends) 1 (λ k. omega arith)) ∙ ap (λ b. then b (pattern-at s l f (i + size b))) (r f i p (omega arith) x) ∙ ap (then a) (u f (i + size a) (p + length (pool a)) (omega (arith, some-atom a)) y)
+      if-false _ _ _ (ne-eqb (record-at s l i .ends) 1 (λ k. omega arith)) ∙ ap (λ b. then b (pattern-at s l f (i + size b))) (r f i p (omega arith) x) ∙ ap (then a) (u f (i + size a) (p + length (pool a)) (omega (arith, some-atom a)) y)
 
   atom-repeat : (low : ℕ) (high : Option ℕ) (b : Syntax body) (e : ℕ) → Small high → Reads body b e → Reads atom (repeat low high b) e
   unfolding Reads pattern-at size records pool
@@ -90,19 +90,19 @@ module _ (s : Bytes) (l : Layout) where
   body-group bs e r (suc f) i p low high n h = ap group (r f (suc i) p (omega arith) h)
 
   branches-only : (q : Syntax pattern) (e : ℕ) → Reads pattern q e → Reads branches (only q) e
-  unfolding Reads pattern-at choices size records pool
+  unfolding Reads pattern-at branch-count size records pool
   branches-only q e r zero i p n h = absurd (omega (arith, some-pattern q))
   branches-only q e r (suc f) i p n h = ap only (r f i p (omega arith) h)
 
   branches-or : (q : Syntax pattern) (bs : Syntax branches) (e : ℕ) → Reads pattern q e → Reads branches bs e → Reads branches (or q bs) e
-  unfolding Reads pattern-at choices size
+  unfolding Reads pattern-at branch-count size
   branches-or q bs e r u zero i p n h = absurd (omega (arith, some-pattern q))
   branches-or q bs e r u (suc f) i p n h =
       let (x, y) = or-there e q bs h in
-      if-false _ _ _ (ne-eqb (suc (choices bs)) 1 (λ k. omega (arith, some-choice bs))) ∙ ap (λ b. or b (branches-at s l f (choices bs) (i + size b))) (r f i p (omega arith) x) ∙ ap (or q) (u f (i + size q) (p + length (pool q)) (omega (arith, some-pattern q)) y)
+      if-false _ _ _ (ne-eqb (suc (branch-count bs)) 1 (λ k. omega (arith, some-choice bs))) ∙ ap (λ b. or b (branches-at s l f (branch-count bs) (i + size b))) (r f i p (omega arith) x) ∙ ap (or q) (u f (i + size q) (p + length (pool q)) (omega (arith, some-pattern q)) y)
 
-  reads : {o : Sort} (d : ℕ) (t : Syntax o) (e : ℕ) → Good d t → Reads o t e
-  unfolding Good
+  reads : {o : Sort} (d : ℕ) (t : Syntax o) (e : ℕ) → InLimits d t → Reads o t e
+  unfolding InLimits
   reads d (last a) e g = pattern-last a e (reads d a 1 g)
   reads d (then a q) e (g, k) = pattern-then a q e (reads d a 0 g) (reads d q e k)
   reads d (repeat low high b) e ((x, y, z), k) = atom-repeat low high b e y (reads d b e k)
@@ -117,7 +117,7 @@ module _ (s : Bytes) (l : Layout) where
 module _ (t : Syntax pattern) where
   pub encode-length : length (encode t) ≡ header-size + record-size * size t + length (pool t)
   unfolding encode header
-  encode-length = omega (arith, length-flat (records 1 t 0 0) (pool t), count-records 1 t 0 0)
+  encode-length = omega (arith, length-record-bytes (records 1 t 0 0) (pool t), count-records 1 t 0 0)
 
   pub encode-placed : Placed (encode t) (layout (encode t)) 1 t 0 0
   unfolding encode header
@@ -126,7 +126,7 @@ module _ (t : Syntax pattern) where
       record { left = pool t; over = []; recs = refl; text = next-there (encode t) header-size _ (records 1 t 0 0) (pool t) n refl ∙ sym (append-nil (pool t)) }
 
   -- a good tree is what its table is read as
-  pub tree-encode : Good 0 t → tree-of (encode t) ≡ t
+  pub tree-encode : InLimits 0 t → tree-of (encode t) ≡ t
   unfolding tree-of Reads
   tree-encode g = reads (encode t) (layout (encode t)) 0 t 1 g (length (encode t)) 0 0 (omega (arith, encode-length)) encode-placed
 
@@ -134,7 +134,7 @@ module _ (s : Bytes) where
   pub compiled-is : (o : Outcome) (t : Syntax pattern) → (compiled-to s o ≡ some t) ↔ ((o ≡ accepted t) × (encode t ≡ s))
   unfolding compiled-to
   compiled-is (refused f p) t = (λ e. absurd (Option·none-ne-some t e), λ (e, m). absurd (let z : _≡_ {A = ℕ} 0 1 = cc in omega arith))
-  compiled-is (accepted u) t = go (same (encode u) s) (same-decides (encode u) s)
+  compiled-is (accepted u) t = go (equal (encode u) s) (equal-decides (encode u) s)
     where
       go : (b : Bool) → Decides b (encode u ≡ s) → (_≡_ {A = Option (Syntax pattern)} (elim b [ true ↦ some u | false ↦ none ]) (some t)) ↔ ((accepted u ≡ accepted t) × (encode t ≡ s))
       go true d = (λ e. let x : u ≡ t = cc in (ap accepted x, ap encode (sym x) ∙ d .sound tt), λ (e, m). let x : u ≡ t = cc in ap some x)

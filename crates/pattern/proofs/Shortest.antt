@@ -14,20 +14,20 @@ use Rattle.pattern.specs.Bytes.{Bytes, between}
 use Rattle.pattern.specs.Codes.{Code, all-codes, bit-among, bit}
 use Rattle.pattern.specs.Syntax.{Sort, pattern, Syntax, last, then, repeat, codes, literal, group, only, or}
 use Rattle.pattern.specs.Meaning.{Cut}
-use Rattle.pattern.specs.Spelling.{plain, quoting, barred, text, Number, Low, missing, given, Count, exact, from, range, Letters, Quoted, start, byte, Spells}
+use Rattle.pattern.specs.Grammar.{plain, quoting, barred, literal-class, Number, Low, missing, given, Count, exact, from, range, Letters, Quoted, start, byte, Derives}
 use Rattle.pattern.specs.Scan.{accepted, outcome}
-use Rattle.pattern.specs.Within.{Good}
+use Rattle.pattern.specs.Within.{InLimits}
 use Rattle.pattern.specs.Print.{decimal, print-low, print-count, print-set, double, print}
 use Rattle.pattern.proofs.Tests.{cond-case, all, all-at, le-or-lt}
-use Rattle.pattern.proofs.Notation.{kind-byte}
+use Rattle.pattern.proofs.Notation.{class-byte}
 use Rattle.pattern.proofs.Decimal.{decimal-one, decimal-longer}
 use Rattle.pattern.proofs.Printed.{printed}
 use Rattle.pattern.proofs.Accepted.{accepted-exactly}
 
 number-shortest : {n : ℕ} {s : Bytes} → Number n s → length (decimal n) ≤ length s
-number-shortest (Number.one c d) = let h : c ≤ 57 = rw d at (kind-byte c) in omega (arith, ap length (decimal-one (c - 48) (omega arith)))
+number-shortest (Number.one c d) = let h : c ≤ 57 = rw d at (class-byte c) in omega (arith, ap length (decimal-one (c - 48) (omega arith)))
 number-shortest (Number.more {n} {s} h c d) =
-    let k : c ≤ 57 = rw d at (kind-byte c) in
+    let k : c ≤ 57 = rw d at (class-byte c) in
     let e : (10 * n + (c - 48)) / 10 ≡ n = omega arith in
     ⊎-elim
     (λ l. omega (arith, decimal-longer (10 * n + (c - 48)) l, ap (λ m. length (decimal m)) e, number-shortest h, length-append s (c ∷ [])))
@@ -110,8 +110,8 @@ double-more (x ∷ v) c = go (eqb x 34) (double-more v c)
     go true e = omega arith
     go false e = omega arith
 
-plain-one : (c : ℕ) → text c ≡ plain → length (double (c ∷ [])) ≡ 1
-unfolding text double
+plain-one : (c : ℕ) → literal-class c ≡ plain → length (double (c ∷ [])) ≡ 1
+unfolding literal-class double
 plain-one c e = go (eqb c 34) e
   where
     go : (a : Bool) → cond a quoting (cond (between 32 126 c) plain barred) ≡ plain → length {A = ℕ} (elim a [ true ↦ 34 ∷ 34 ∷ [] | false ↦ c ∷ [] ]) ≡ 1
@@ -125,8 +125,8 @@ quoted-length (byte {v} {s} h c e) = omega (arith, quoted-length h, length-appen
 quoted-length (Quoted.quote {v} {s} h) = omega (arith, quoted-length h, length-append s (34 ∷ 34 ∷ []), double-more v 34)
 
 -- no source of a good tree is shorter than its printed source
-pub shortest : {s : Sort} (d : ℕ) (x : Syntax s) (w : Bytes) → Good d x → Spells x w → length (print x) ≤ length w
-unfolding Spells Cut Good print
+pub shortest : {s : Sort} (d : ℕ) (x : Syntax s) (w : Bytes) → InLimits d x → Derives x w → length (print x) ≤ length w
+unfolding Derives Cut InLimits print
 shortest d (last a) w g h = shortest d a w g h
 shortest d (then a p) w (g, k) (x, y, e, h, i) =
     omega (arith, shortest d a x g h, shortest d p y k i, length-append (print a) (print p), ap length e, length-append x y)

@@ -6,29 +6,29 @@ use native.Mathlib.Omega.{arith}
 use native.Mathlib.Numerals.{add-one}
 use lib.ListN.{length, set, getD, take, drop, length-append, take-append-drop}
 use lib.Seq.{sets, length-sets, sets-eq, set-comm, take-suc, take-at, drop-at, drop-drop, length-take-le}
-use Rattle.pattern.specs.Bytes.{Bytes, over}
-use Rattle.pattern.specs.Stores.{stored, Puts}
+use Rattle.pattern.specs.Bytes.{Bytes, overwrite}
+use Rattle.pattern.specs.Stores.{store-at, Puts}
 
-pub length-stored : (l : Bytes) (i : ℕ) (v : Bytes) → length (stored l i v) ≡ length l
-unfolding stored
-length-stored l i v = length-sets l i v
+pub length-store-at : (l : Bytes) (i : ℕ) (v : Bytes) → length (store-at l i v) ≡ length l
+unfolding store-at
+length-store-at l i v = length-sets l i v
 
-pub stored-none : (l : Bytes) (i : ℕ) → stored l i [] ≡ l
-unfolding stored
-stored-none l i = refl
+pub store-at-none : (l : Bytes) (i : ℕ) → store-at l i [] ≡ l
+unfolding store-at
+store-at-none l i = refl
 
-pub stored-one : (l : Bytes) (i x : ℕ) → stored l i (x ∷ []) ≡ set l i x
-unfolding stored
-stored-one l i x = refl
+pub store-at-one : (l : Bytes) (i x : ℕ) → store-at l i (x ∷ []) ≡ set l i x
+unfolding store-at
+store-at-one l i x = refl
 
-pub stored-two : (l : Bytes) (i x y : ℕ) → stored l i (x ∷ y ∷ []) ≡ set (set l i x) (i + 1) y
-unfolding stored
-stored-two l i x y = rw add-one
+pub store-at-two : (l : Bytes) (i x y : ℕ) → store-at l i (x ∷ y ∷ []) ≡ set (set l i x) (i + 1) y
+unfolding store-at
+store-at-two l i x y = rw add-one
 
 -- a byte before others
-pub stored-first : (l : Bytes) (i x : ℕ) (v : Bytes) → stored l i (x ∷ v) ≡ stored (set l i x) (i + 1) v
-unfolding stored
-stored-first l i x v = rw add-one
+pub store-at-first : (l : Bytes) (i x : ℕ) (v : Bytes) → store-at l i (x ∷ v) ≡ store-at (set l i x) (i + 1) v
+unfolding store-at
+store-at-first l i x v = rw add-one
 
 sets-sets : (l : Bytes) (i : ℕ) (v w : Bytes) → sets (sets l i v) (i + length v) w ≡ sets l i (v ++ w)
 sets-sets l i [] w = let e : i + 0 ≡ i = omega arith in rw e
@@ -37,9 +37,9 @@ sets-sets l i (x ∷ v) w =
     rw e (sets-sets (set l i x) (suc i) v w)
 
 -- a store where another one ends
-pub stored-then : (l : Bytes) (i j : ℕ) (v w : Bytes) → j ≡ i + length v → stored (stored l i v) j w ≡ stored l i (v ++ w)
-unfolding stored
-stored-then l i j v w e = rw e (sets-sets l i v w)
+pub store-at-then : (l : Bytes) (i j : ℕ) (v w : Bytes) → j ≡ i + length v → store-at (store-at l i v) j w ≡ store-at l i (v ++ w)
+unfolding store-at
+store-at-then l i j v w e = rw e (sets-sets l i v w)
 
 set-sets : (l : Bytes) (i j x : ℕ) (w : Bytes) → i < j → set (sets l j w) i x ≡ sets (set l i x) j w
 set-sets l i j x [] h = refl
@@ -50,17 +50,17 @@ sets-before l i j [] w h = refl
 sets-before l i j (x ∷ v) w h = ap (λ (m : Bytes). sets m (suc i) v) (set-sets l i j x w (omega arith)) ∙ sets-before (set l i x) (suc i) j v w (omega arith)
 
 -- a store that ends where one made before begins
-pub stored-before : (l : Bytes) (i j : ℕ) (v w : Bytes) → j ≡ i + length v → stored (stored l j w) i v ≡ stored l i (v ++ w)
-unfolding stored
-stored-before l i j v w e = rw e (sets-before l i (i + length v) v w (omega arith) ∙ sets-sets l i v w)
+pub store-at-before : (l : Bytes) (i j : ℕ) (v w : Bytes) → j ≡ i + length v → store-at (store-at l j w) i v ≡ store-at l i (v ++ w)
+unfolding store-at
+store-at-before l i j v w e = rw e (sets-before l i (i + length v) v w (omega arith) ∙ sets-sets l i v w)
 
 -- one byte more
-pub stored-more : (l : Bytes) (i j x : ℕ) (v : Bytes) → j ≡ i + length v → set (stored l i v) j x ≡ stored l i (v ++ x ∷ [])
-stored-more l i j x v e = sym (stored-one (stored l i v) j x) ∙ stored-then l i j v (x ∷ []) e
+pub store-at-more : (l : Bytes) (i j x : ℕ) (v : Bytes) → j ≡ i + length v → set (store-at l i v) j x ≡ store-at l i (v ++ x ∷ [])
+store-at-more l i j x v e = sym (store-at-one (store-at l i v) j x) ∙ store-at-then l i j v (x ∷ []) e
 
 -- the last byte may be stored first
-pub stored-last : (l : Bytes) (i x : ℕ) (v : Bytes) → stored l i (v ++ x ∷ []) ≡ stored (set l (i + length v) x) i v
-stored-last l i x v = sym (stored-before l i (i + length v) v (x ∷ []) refl) ∙ ap (λ (m : Bytes). stored m i v) (stored-one l (i + length v) x)
+pub store-at-last : (l : Bytes) (i x : ℕ) (v : Bytes) → store-at l i (v ++ x ∷ []) ≡ store-at (set l (i + length v) x) i v
+store-at-last l i x v = sym (store-at-before l i (i + length v) v (x ∷ []) refl) ∙ ap (λ (m : Bytes). store-at m i v) (store-at-one l (i + length v) x)
 
 -- ---- a result over lent bytes
 
@@ -72,43 +72,43 @@ same-after s t i j h e = sym (on s) ∙ ap (drop (j - i)) e ∙ on t
     on u = let k : i + (j - i) ≡ j = omega arith in drop-drop (j - i) i u ∙ ap (λ n. drop n u) k
 
 -- bytes are the first of them over others that are the same past those
-pub over-same : (n : ℕ) (s t : Bytes) → n ≤ length s → drop n s ≡ drop n t → s ≡ over (take n s) t
-unfolding over
-over-same n s t h e = sym (take-append-drop n s) ∙ ap (λ (v : Bytes). take n s ++ v) e ∙ ap (λ k. take n s ++ drop k t) (sym (length-take-le n s h))
+pub overwrite-same : (n : ℕ) (s t : Bytes) → n ≤ length s → drop n s ≡ drop n t → s ≡ overwrite (take n s) t
+unfolding overwrite
+overwrite-same n s t h e = sym (take-append-drop n s) ∙ ap (λ (v : Bytes). take n s ++ v) e ∙ ap (λ k. take n s ++ drop k t) (sym (length-take-le n s h))
 
-pub take-over : (v s : Bytes) → take (length v) (over v s) ≡ v
-unfolding over
-take-over v s = take-at v (drop (length v) s) (length v) refl
+pub take-overwrite : (v s : Bytes) → take (length v) (overwrite v s) ≡ v
+unfolding overwrite
+take-overwrite v s = take-at v (drop (length v) s) (length v) refl
 
-pub drop-over : (n : ℕ) (v s : Bytes) → length v ≤ n → drop n (over v s) ≡ drop n s
-unfolding over
-drop-over n v s h = same-after (over v s) s (length v) n h (drop-at v (drop (length v) s) (length v) refl)
+pub drop-overwrite : (n : ℕ) (v s : Bytes) → length v ≤ n → drop n (overwrite v s) ≡ drop n s
+unfolding overwrite
+drop-overwrite n v s h = same-after (overwrite v s) s (length v) n h (drop-at v (drop (length v) s) (length v) refl)
 
 -- what is stored from the start is over the bytes that were there
-pub stored-over : (l v : Bytes) → length v ≤ length l → stored l 0 v ≡ over v l
-unfolding stored over
-stored-over l v h = sets-eq v l 0 (omega arith) ∙ let e : 0 + length v ≡ length v = omega arith in rw e
+pub store-at-overwrite : (l v : Bytes) → length v ≤ length l → store-at l 0 v ≡ overwrite v l
+unfolding store-at overwrite
+store-at-overwrite l v h = sets-eq v l 0 (omega arith) ∙ let e : 0 + length v ≡ length v = omega arith in rw e
 
 -- a byte copied after others
-pub copied : (to from : Bytes) (at i : ℕ) → i < length from → set (stored to at (take i from)) (at + i) (getD from i 0) ≡ stored to at (take (i + 1) from)
+pub copied : (to from : Bytes) (at i : ℕ) → i < length from → set (store-at to at (take i from)) (at + i) (getD from i 0) ≡ store-at to at (take (i + 1) from)
 copied to from at i h =
     let n : length (take i from) ≡ i = length-take-le i from (omega arith) in
-    rw (add-one, take-suc from i 0) (stored-more to at (at + i) (getD from i 0) (take i from) (omega arith))
+    rw (add-one, take-suc from i 0) (store-at-more to at (at + i) (getD from i 0) (take i from) (omega arith))
 
 -- ---- stores with the places after them
 
 pub puts-none : (l : Bytes) (n : ℕ) → Puts l n [] l n
-puts-none l n = record { bytes = sym (stored-none l n); next = omega arith }
+puts-none l n = record { bytes = sym (store-at-none l n); next = omega arith }
 
 pub puts-byte : (l : Bytes) (n b : ℕ) → Puts l n (b ∷ []) (set l n b) (n + 1)
-puts-byte l n b = record { bytes = sym (stored-one l n b); next = refl }
+puts-byte l n b = record { bytes = sym (store-at-one l n b); next = refl }
 
 module _ {l : Bytes} {n : ℕ} {u l′ : Bytes} {m : ℕ} (h : Puts l n u l′ m) where
   -- then more, where the first ended
   pub puts-then : {v l″ : Bytes} {k : ℕ} → Puts l′ m v l″ k → Puts l n (u ++ v) l″ k
   puts-then {v} g =
       record {
-        bytes = g .bytes ∙ ap (λ (x : Bytes). stored x m v) (h .bytes) ∙ stored-then l n m u v (h .next);
+        bytes = g .bytes ∙ ap (λ (x : Bytes). store-at x m v) (h .bytes) ∙ store-at-then l n m u v (h .next);
         next = omega (arith, g .next, h .next, length-append u v);
       }
 
@@ -117,11 +117,11 @@ module _ {l : Bytes} {n : ℕ} {u l′ : Bytes} {m : ℕ} (h : Puts l n u l′ m
   puts-more b = puts-then (puts-byte l′ m b)
 
   pub puts-length : length l′ ≡ length l
-  puts-length = ap length (h .bytes) ∙ length-stored l n u
+  puts-length = ap length (h .bytes) ∙ length-store-at l n u
 
   -- the room that is left
   pub puts-room : (v : Bytes) → n + length (u ++ v) ≤ length l → m + length v ≤ length l′
   puts-room v r = omega (arith, r, length-append u v, h .next, puts-length)
 
   pub puts-as : {v : Bytes} → u ≡ v → Puts l n v l′ m
-  puts-as e = record { bytes = h .bytes ∙ ap (stored l n) e; next = h .next ∙ ap (λ (x : Bytes). n + length x) e }
+  puts-as e = record { bytes = h .bytes ∙ ap (store-at l n) e; next = h .next ∙ ap (λ (x : Bytes). n + length x) e }

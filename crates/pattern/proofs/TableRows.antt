@@ -10,9 +10,9 @@ use lib.Dec.{T, leb, ltb, leb→le}
 use Rattle.pattern.specs.Numbers.{atom-limit, number-limit, FORM, NUMBER, RANGE, ATOMS, DEPTH}
 use Rattle.pattern.specs.Bytes.{Bytes}
 use Rattle.pattern.specs.Syntax.{pattern, Syntax}
-use Rattle.pattern.specs.Spelling.{kind}
-use Rattle.pattern.specs.Reading.{Run, State, step, finish}
-use Rattle.pattern.specs.Places.{begun-at}
+use Rattle.pattern.specs.Grammar.{char-class}
+use Rattle.pattern.specs.Parser.{CountState, ParserState, step, finish}
+use Rattle.pattern.specs.ParserInvariant.{begun-at}
 use Rattle.pattern.specs.Scan.{low, high, depth, Begins, an-atom, a-second, a-code, a-group, nothing, begins, large, falls, refuse, atom-rows, rows, atom-fault, fault}
 use Rattle.pattern.specs.Faults.{form-row, rows-there, Applies}
 
@@ -76,21 +76,21 @@ range-row l (some m) = go (leb l number-limit) (ltb number-limit m) (ltb m l) (l
     go true true true f g h = absurd (let x = f tt in let y = g tt in let z = h tt in omega arith)
 
 -- an atom's fault without the test that is implied
-pub atom-fault-is : (n : ℕ) (r : Run) → atom-fault n r
+pub atom-fault-is : (n : ℕ) (r : CountState) → atom-fault n r
     ≡ refuse ((ltb number-limit (low r), NUMBER) ∷ (leb (low r) number-limit && falls (low r) (high r), RANGE) ∷ (leb atom-limit n, ATOMS) ∷ [])
 unfolding atom-rows
 atom-fault-is n r = ap (λ b. refuse ((ltb number-limit (low r), NUMBER) ∷ (b, RANGE) ∷ (leb atom-limit n, ATOMS) ∷ [])) (range-row (low r) (high r))
 
 -- the lowest fault at a place, in the scan's order
-unfoldable pub found : State → Bytes → Option ℕ
+unfoldable pub found : ParserState → Bytes → Option ℕ
 found q [] = elim (finish (q .0) (q .1)) [ none ↦ some FORM | some t ↦ none ]
-found q (c ∷ s) = elim (step q c) [ none ↦ some FORM | some q′ ↦ fault (begins (q .0) (kind c)) (depth (q .1)) (begun-at (q .0) (q .1)) c s ]
+found q (c ∷ s) = elim (step q c) [ none ↦ some FORM | some q′ ↦ fault (begins (q .0) (char-class c)) (depth (q .1)) (begun-at (q .0) (q .1)) c s ]
 
-unfoldable pub found-there : Option State → Bytes → Option ℕ
+unfoldable pub found-there : Option ParserState → Bytes → Option ℕ
 found-there none s = none
 found-there (some q) s = found q s
 
-pub found-rows : (o : Option State) (s : Bytes) → refuse (rows-there o s) ≡ found-there o s
+pub found-rows : (o : Option ParserState) (s : Bytes) → refuse (rows-there o s) ≡ found-there o s
 unfolding rows-there found-there found refuse fault
 found-rows none s = refl
 found-rows (some q) [] = go (finish (q .0) (q .1))
@@ -100,7 +100,7 @@ found-rows (some q) [] = go (finish (q .0) (q .1))
     go (some t) = refl
 found-rows (some q) (c ∷ s) = go (step q c) _ refl
   where
-    go : (o : Option State) (rows : List (Bool × ℕ)) {y : Option ℕ} → refuse rows ≡ y
+    go : (o : Option ParserState) (rows : List (Bool × ℕ)) {y : Option ℕ} → refuse rows ≡ y
         → refuse (elim o [ none ↦ form-row | some q′ ↦ rows ]) ≡ elim o [ none ↦ some FORM | some q′ ↦ y ]
     go none rows e = refl
     go (some q′) rows e = e
@@ -114,7 +114,7 @@ ascend a-code d n c s = (tt, tt)
 ascend a-group d n c s = (tt, tt)
 ascend nothing d n c s = tt
 
-pub rows-ascend : (o : Option State) (s : Bytes) → Above 0 (rows-there o s)
+pub rows-ascend : (o : Option ParserState) (s : Bytes) → Above 0 (rows-there o s)
 unfolding rows-there
 rows-ascend none s = tt
 rows-ascend (some q) [] = go (finish (q .0) (q .1))
@@ -122,9 +122,9 @@ rows-ascend (some q) [] = go (finish (q .0) (q .1))
     go : (o : Option (Syntax pattern)) → Above 0 (elim o [ none ↦ form-row | some t ↦ [] ])
     go none = (tt, tt)
     go (some t) = tt
-rows-ascend (some q) (c ∷ s) = go (step q c) _ (ascend (begins (q .0) (kind c)) (depth (q .1)) (begun-at (q .0) (q .1)) c s)
+rows-ascend (some q) (c ∷ s) = go (step q c) _ (ascend (begins (q .0) (char-class c)) (depth (q .1)) (begun-at (q .0) (q .1)) c s)
   where
-    go : (o : Option State) (rows : List (Bool × ℕ)) → Above 0 rows → Above 0 (elim o [ none ↦ form-row | some q′ ↦ rows ])
+    go : (o : Option ParserState) (rows : List (Bool × ℕ)) → Above 0 rows → Above 0 (elim o [ none ↦ form-row | some q′ ↦ rows ])
     go none rows h = (tt, tt)
     go (some q′) rows h = h
 
@@ -145,7 +145,7 @@ rows-number a-code d n c s f a = ⊎-elim (λ (x, y). (omega arith, omega arith)
 rows-number a-group d n c s f a = ⊎-elim (λ (x, y). (omega arith, omega arith)) (λ b. absurd b) a
 rows-number nothing d n c s f a = absurd a
 
-pub row-number : (o : Option State) (s : Bytes) (f : ℕ) → Applies (rows-there o s) f → (FORM ≤ f) × (f ≤ DEPTH)
+pub row-number : (o : Option ParserState) (s : Bytes) (f : ℕ) → Applies (rows-there o s) f → (FORM ≤ f) × (f ≤ DEPTH)
 unfolding rows-there Numbered
 row-number none s f a = unfold Applies in absurd a
 row-number (some q) [] f a = go (finish (q .0) (q .1)) a
@@ -153,8 +153,8 @@ row-number (some q) [] f a = go (finish (q .0) (q .1)) a
     go : (o : Option (Syntax pattern)) → Numbered (elim o [ none ↦ form-row | some t ↦ [] ]) f
     go none = form-number f
     go (some t) = λ b. unfold Applies in absurd b
-row-number (some q) (c ∷ s) f a = go (step q c) _ (rows-number (begins (q .0) (kind c)) (depth (q .1)) (begun-at (q .0) (q .1)) c s f) a
+row-number (some q) (c ∷ s) f a = go (step q c) _ (rows-number (begins (q .0) (char-class c)) (depth (q .1)) (begun-at (q .0) (q .1)) c s f) a
   where
-    go : (o : Option State) (rows : List (Bool × ℕ)) → Numbered rows f → Numbered (elim o [ none ↦ form-row | some q′ ↦ rows ]) f
+    go : (o : Option ParserState) (rows : List (Bool × ℕ)) → Numbered rows f → Numbered (elim o [ none ↦ form-row | some q′ ↦ rows ]) f
     go none rows h = form-number f
     go (some q′) rows h = h

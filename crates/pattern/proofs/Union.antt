@@ -7,8 +7,8 @@ use native.Mathlib.Omega.{arith}
 use lib.Bits.{bitOr, or-mod, or-shr}
 use lib.Dec.{eqb}
 use Rattle.pattern.specs.Bytes.{Bytes}
-use Rattle.pattern.specs.Codes.{Code, all-codes, ranged, coded, in-set, bit, lettered}
-use Rattle.pattern.specs.Spelling.{Letters, one, more}
+use Rattle.pattern.specs.Codes.{Code, all-codes, in-ranges, in-codes, in-set, bit, in-letters}
+use Rattle.pattern.specs.Grammar.{Letters, one, more}
 
 -- the lowest bit
 odd-or : (s t : ℕ) → eqb (bitOr s t % 2) 1 ≡ (eqb (s % 2) 1 || eqb (t % 2) 1)
@@ -36,26 +36,26 @@ mixed false true false false q = refl
 mixed false false r true q = refl
 mixed false false r false q = refl
 
-coded-or : (cs : List Code) (s t b : ℕ) → coded cs (bitOr s t) b ≡ (coded cs s b || coded cs t b)
-unfolding coded
-coded-or [] s t b = refl
-coded-or (c ∷ cs) s t b =
-    ap₂ (λ x y. x && ranged (c .ranges) b || y) (odd-or s t) (ap (λ x. coded cs x b) (or-shr s t 1) ∙ coded-or cs (s / 2) (t / 2) b)
-    ∙ mixed (eqb (s % 2) 1) (eqb (t % 2) 1) (ranged (c .ranges) b) (coded cs (s / 2) b) (coded cs (t / 2) b)
+in-codes-or : (cs : List Code) (s t b : ℕ) → in-codes cs (bitOr s t) b ≡ (in-codes cs s b || in-codes cs t b)
+unfolding in-codes
+in-codes-or [] s t b = refl
+in-codes-or (c ∷ cs) s t b =
+    ap₂ (λ x y. x && in-ranges (c .ranges) b || y) (odd-or s t) (ap (λ x. in-codes cs x b) (or-shr s t 1) ∙ in-codes-or cs (s / 2) (t / 2) b)
+    ∙ mixed (eqb (s % 2) 1) (eqb (t % 2) 1) (in-ranges (c .ranges) b) (in-codes cs (s / 2) b) (in-codes cs (t / 2) b)
 
 -- a byte of a union is a byte of either
 pub union : (s t b : ℕ) → in-set (bitOr s t) b ≡ (in-set s b || in-set t b)
 unfolding in-set
-union s t b = coded-or all-codes s t b
+union s t b = in-codes-or all-codes s t b
 
-lettered-more : (s : Bytes) (c b : ℕ) → lettered (s ++ c ∷ []) b ≡ (lettered s b || in-set (bit c) b)
-unfolding lettered
-lettered-more [] c b = or-false (in-set (bit c) b)
-lettered-more (x ∷ s) c b = ap (λ y. in-set (bit x) b || y) (lettered-more s c b) ∙ sym (or-assoc (in-set (bit x) b) (lettered s b) (in-set (bit c) b))
+in-letters-more : (s : Bytes) (c b : ℕ) → in-letters (s ++ c ∷ []) b ≡ (in-letters s b || in-set (bit c) b)
+unfolding in-letters
+in-letters-more [] c b = or-false (in-set (bit c) b)
+in-letters-more (x ∷ s) c b = ap (λ y. in-set (bit x) b || y) (in-letters-more s c b) ∙ sym (or-assoc (in-set (bit x) b) (in-letters s b) (in-set (bit c) b))
 
 -- the set that letters spell
-pub letters-union : {set : ℕ} {s : Bytes} → Letters set s → (b : ℕ) → in-set set b ≡ lettered s b
-unfolding lettered
+pub letters-union : {set : ℕ} {s : Bytes} → Letters set s → (b : ℕ) → in-set set b ≡ in-letters s b
+unfolding in-letters
 letters-union (Letters.one c k) b = sym (or-false (in-set (bit c) b))
 letters-union (Letters.more {set} {s} l c k) b =
-    union set (bit c) b ∙ ap (λ x. x || in-set (bit c) b) (letters-union l b) ∙ sym (lettered-more s c b)
+    union set (bit c) b ∙ ap (λ x. x || in-set (bit c) b) (letters-union l b) ∙ sym (in-letters-more s c b)

@@ -6,7 +6,7 @@ use Prim.Native.Nat.{ℕ, _+_, _*_}
 use lib.Dec.{leb, ltb}
 use lib.ListN.{length}
 use Rattle.pattern.specs.Numbers.{label-limit, ROOM, TABLE, LABEL, WORK, PARTS, BUDGET}
-use Rattle.pattern.specs.Bytes.{Bytes, word, over, zeroed}
+use Rattle.pattern.specs.Bytes.{Bytes, le16, overwrite, zeroed}
 use Rattle.pattern.specs.Syntax.{pattern, Syntax, size, top-size}
 use Rattle.pattern.specs.Parts.{verdict}
 use Rattle.pattern.specs.Trials.{trials}
@@ -37,7 +37,7 @@ pub record Output : Type 0 where
 
 -- a result in lent bytes that it fits, or ROOM at this position
 unfoldable pub put-if : Bool → (position : ℕ) → (written lent : Bytes) → Output
-put-if true position written lent = record { answer = result (length written) 0; bytes = over written lent }
+put-if true position written lent = record { answer = result (length written) 0; bytes = overwrite written lent }
 put-if false position written lent = record { answer = refusal ROOM position; bytes = lent }
 
 unfoldable pub put : (position : ℕ) → (written lent : Bytes) → Output
@@ -66,19 +66,19 @@ pub record Matched : Type 0 where
   pub parts : Bytes
 
 -- "(2A+4) x (n+1) x (n+1) bytes"
-abbrev pub work : Syntax pattern → ℕ → ℕ
-work t n = (2 * size t + 4) * (n + 1) * (n + 1)
+abbrev pub scratch-needed : Syntax pattern → ℕ → ℕ
+scratch-needed t n = (2 * size t + 4) * (n + 1) * (n + 1)
 
 -- "the place where its stretch ends, 16 bits each"
 unfoldable pub part-bytes : List ℕ → Bytes
 part-bytes [] = []
-part-bytes (e ∷ es) = word e (part-bytes es)
+part-bytes (e ∷ es) = le16 e (part-bytes es)
 
 -- LABEL, WORK and PARTS, in this order
 unfoldable pub lent-fault : Syntax pattern → (label scratch parts : Bytes) → Option ℕ
 lent-fault t label scratch parts =
     refuse ((ltb label-limit (length label), LABEL)
-    ∷ (ltb (length scratch) (work t (length label)), WORK)
+    ∷ (ltb (length scratch) (scratch-needed t (length label)), WORK)
     ∷ (ltb (length parts) (2 * top-size t), PARTS)
     ∷ [])
 
@@ -95,7 +95,7 @@ ended (exhausted used budget) scratch parts =
     record { answer = record { number = BUDGET; position = 0; value = 0; trials = budget }; scratch = zeroed used scratch; parts = parts }
 ended (decided used trials none) scratch parts = record { answer = result 0 trials; scratch = zeroed used scratch; parts = parts }
 ended (decided used trials (some ends)) scratch parts =
-    record { answer = result 1 trials; scratch = zeroed used scratch; parts = over (part-bytes ends) parts }
+    record { answer = result 1 trials; scratch = zeroed used scratch; parts = overwrite (part-bytes ends) parts }
 
 -- a fault of what is lent; else "a verdict is given exactly when that count is within the caller's budget; otherwise the answer is refusal 15"
 unfoldable pub ending : Option ℕ → (used trials budget : ℕ) → Option (List ℕ) → Ending
@@ -106,7 +106,7 @@ ending none used trials budget v = elim (leb trials budget) [ true ↦ decided u
 unfoldable pub match-ending : Option (Syntax pattern) → (label scratch parts : Bytes) → (budget : ℕ) → Ending
 match-ending none label scratch parts budget = untried TABLE
 match-ending (some t) label scratch parts budget =
-    ending (lent-fault t label scratch parts) (work t (length label)) (trials label t) budget (verdict label t)
+    ending (lent-fault t label scratch parts) (scratch-needed t (length label)) (trials label t) budget (verdict label t)
 
 unfoldable pub matchOf : (table label scratch parts : Bytes) → (budget : ℕ) → Matched
 matchOf table label scratch parts budget = ended (match-ending (decode table) label scratch parts budget) scratch parts

@@ -15,19 +15,19 @@ unfoldable pub between : ℕ → ℕ → ℕ → Bool
 between a b c = leb a c && leb c b
 
 -- two lists are the same
-unfoldable pub same : Bytes → Bytes → Bool
-same [] [] = true
-same [] (b ∷ s) = false
-same (a ∷ v) [] = false
-same (a ∷ v) (b ∷ s) = eqb a b && same v s
+unfoldable pub equal : Bytes → Bytes → Bool
+equal [] [] = true
+equal [] (b ∷ s) = false
+equal (a ∷ v) [] = false
+equal (a ∷ v) (b ∷ s) = eqb a b && equal v s
 
 -- a number in two bytes, the lower first, before others
-abbrev pub word : ℕ → Bytes → Bytes
-word x s = x % 256 ∷ x / 256 ∷ s
+abbrev pub le16 : ℕ → Bytes → Bytes
+le16 x s = x % 256 ∷ x / 256 ∷ s
 
 -- lent bytes with a result at their start; the bytes after it stay
-unfoldable pub over : Bytes → Bytes → Bytes
-over result lent = result ++ drop (length result) lent
+unfoldable pub overwrite : Bytes → Bytes → Bytes
+overwrite result lent = result ++ drop (length result) lent
 
 -- lent bytes with zeros over the first n: "patient data stays in no buffer"
 abbrev pub zeroed : (n : ℕ) → Bytes → Bytes

@@ -23,18 +23,18 @@ all-codes =
     ∷ []
 
 -- a byte is in one of the ranges
-unfoldable pub ranged : List (ℕ × ℕ) → ℕ → Bool
-ranged [] b = false
-ranged (r ∷ rs) b = between (r .0) (r .1) b || ranged rs b
+unfoldable pub in-ranges : List (ℕ × ℕ) → ℕ → Bool
+in-ranges [] b = false
+in-ranges (r ∷ rs) b = between (r .0) (r .1) b || in-ranges rs b
 
 -- a byte is of a code whose bit is in the set
-unfoldable pub coded : List Code → ℕ → ℕ → Bool
-coded [] set b = false
-coded (c ∷ cs) set b = eqb (set % 2) 1 && ranged (c .ranges) b || coded cs (set / 2) b
+unfoldable pub in-codes : List Code → ℕ → ℕ → Bool
+in-codes [] set b = false
+in-codes (c ∷ cs) set b = eqb (set % 2) 1 && in-ranges (c .ranges) b || in-codes cs (set / 2) b
 
 -- a byte is of the set
 unfoldable pub in-set : ℕ → ℕ → Bool
-in-set set b = coded all-codes set b
+in-set set b = in-codes all-codes set b
 
 -- the bit of a letter of either case among codes whose first has this bit; the bit after all of them for any other letter
 unfoldable pub bit-among : List Code → ℕ → ℕ → ℕ
@@ -45,6 +45,6 @@ unfoldable pub bit : ℕ → ℕ
 bit c = bit-among all-codes 1 c
 
 -- "several letters mean the union": a byte is of the code of one of these letters
-unfoldable pub lettered : List ℕ → ℕ → Bool
-lettered [] b = false
-lettered (c ∷ s) b = in-set (bit c) b || lettered s b
+unfoldable pub in-letters : List ℕ → ℕ → Bool
+in-letters [] b = false
+in-letters (c ∷ s) b = in-set (bit c) b || in-letters s b

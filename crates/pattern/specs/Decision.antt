@@ -6,7 +6,7 @@ use Prim.Native.Nat.{ℕ, zero, suc, _+_, _-_, min}
 use lib.Dec.{leb, eqb}
 use lib.ListN.{length}
 use lib.Seq.{slice}
-use Rattle.pattern.specs.Bytes.{Bytes, same}
+use Rattle.pattern.specs.Bytes.{Bytes, equal}
 use Rattle.pattern.specs.Codes.{in-set}
 use Rattle.pattern.specs.Syntax.{Sort, Syntax, last, then, repeat, codes, literal, group, only, or}
 
@@ -28,32 +28,32 @@ unfoldable pub join : Rel → Rel → Rel
 join R S i j = any (suc j - i) (trial R S i j)
 
 -- i to j is made of k bodies; no bodies make only an empty stretch
-unfoldable pub made : Rel → ℕ → Rel
-made R zero = λ i j. eqb i j
-made R (suc k) = join R (made R k)
+unfoldable pub power : Rel → ℕ → Rel
+power R zero = λ i j. eqb i j
+power R (suc k) = join R (power R k)
 
 -- the paper's K: the lesser of n and the high number, n if there is no upper end
-unfoldable pub most : ℕ → Option ℕ → ℕ
-most n none = n
-most n (some high) = min n high
+unfoldable pub max-count : ℕ → Option ℕ → ℕ
+max-count n none = n
+max-count n (some high) = min n high
 
 -- i to j is made of low to high bodies, both numbers cut to the label's length n; beyond n some body is empty
 unfoldable pub repeated : ℕ → ℕ → Option ℕ → Rel → Rel
-repeated n low high R i j = any (suc (most n high)) (λ k. leb (min low n) k && made R k i j) && (leb low n || R i i)
+repeated n low high R i j = any (suc (max-count n high)) (λ k. leb (min low n) k && power R k i j) && (leb low n || R i i)
 
 -- a list is one byte of the set
-unfoldable pub one : ℕ → Bytes → Bool
-one set [] = false
-one set (b ∷ []) = in-set set b
-one set (b ∷ c ∷ s) = false
+unfoldable pub single : ℕ → Bytes → Bool
+single set [] = false
+single set (b ∷ []) = in-set set b
+single set (b ∷ c ∷ s) = false
 
 -- i to j of the label satisfies the tree
 unfoldable pub decide : Bytes → {s : Sort} → Syntax s → Rel
 decide l (last a) = decide l a
 decide l (then a p) = join (decide l a) (decide l p)
 decide l (repeat low high b) = repeated (length l) low high (decide l b)
-decide l (codes set) = λ i j. one set (slice i j l)
-decide l (literal value) = λ i j. same (slice i j l) value
+decide l (codes set) = λ i j. single set (slice i j l)
+decide l (literal value) = λ i j. equal (slice i j l) value
 decide l (group bs) = decide l bs
 decide l (only p) = decide l p
 decide l (or p bs) = λ i j. decide l p i j || decide l bs i j

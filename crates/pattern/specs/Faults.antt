@@ -10,32 +10,32 @@ use lib.ListN.{length, take, drop}
 use Rattle.pattern.specs.Numbers.{FORM}
 use Rattle.pattern.specs.Bytes.{Bytes}
 use Rattle.pattern.specs.Syntax.{pattern, Syntax}
-use Rattle.pattern.specs.Spelling.{kind, Spells}
-use Rattle.pattern.specs.Reading.{Run, top, State, step, finish, start}
-use Rattle.pattern.specs.Places.{place-after, Runs, begun-at}
+use Rattle.pattern.specs.Grammar.{char-class, Derives}
+use Rattle.pattern.specs.Parser.{CountState, top, ParserState, step, finish, start}
+use Rattle.pattern.specs.ParserInvariant.{state-after, CountSoFar, begun-at}
 use Rattle.pattern.specs.Scan.{depth, begins, rows, Outcome, refused, accepted}
 
 -- bytes that some pattern begins with
 unfoldable pub Viable : Bytes → Type 0
-Viable u = (w : Bytes) × (t : Syntax pattern) × Spells t (u ++ w)
+Viable u = (w : Bytes) × (t : Syntax pattern) × Derives t (u ++ w)
 
 -- FORM, without the automaton: the first byte that no pattern continues with, or the length if the source ends too soon
-unfoldable pub Stops : Bytes → ℕ → Type 0
-Stops s p = Viable (take p s) × (((p < length s) × ¬ Viable (take (suc p) s)) ⊎ ((p ≡ length s) × ¬ ((t : Syntax pattern) × Spells t s)))
+unfoldable pub FormAt : Bytes → ℕ → Type 0
+FormAt s p = Viable (take p s) × (((p < length s) × ¬ Viable (take (suc p) s)) ⊎ ((p ≡ length s) × ¬ ((t : Syntax pattern) × Derives t s)))
 
 -- FORM, with which the search for faults ends
 abbrev pub form-row : List (Bool × ℕ)
 form-row = (true, FORM) ∷ []
 
 -- the rows at a place with the source s from there on: FORM alone where no pattern continues so, else rows 3 to 7
-unfoldable pub rows-there : Option State → Bytes → List (Bool × ℕ)
+unfoldable pub rows-there : Option ParserState → Bytes → List (Bool × ℕ)
 rows-there none s = []
 rows-there (some q) [] = elim (finish (q .0) (q .1)) [ none ↦ form-row | some t ↦ [] ]
-rows-there (some q) (c ∷ s) = elim (step q c) [ none ↦ form-row | some q′ ↦ rows (begins (q .0) (kind c)) (depth (q .1)) (begun-at (q .0) (q .1)) c s ]
+rows-there (some q) (c ∷ s) = elim (step q c) [ none ↦ form-row | some q′ ↦ rows (begins (q .0) (char-class c)) (depth (q .1)) (begun-at (q .0) (q .1)) c s ]
 
 -- the rows at a position: those of the place which the bytes before it spell; none where the form has stopped before
 unfoldable pub rows-at : Bytes → ℕ → List (Bool × ℕ)
-rows-at s p = rows-there (place-after start (take p s)) (drop p s)
+rows-at s p = rows-there (state-after start (take p s)) (drop p s)
 
 -- one of the rows applies, and this is its number
 unfoldable pub Applies : List (Bool × ℕ) → ℕ → Type 0
@@ -48,6 +48,6 @@ Least s (refused f p) = Applies (rows-at s p) f × ((g : ℕ) → Applies (rows-
 Least s (accepted t) = (j g : ℕ) → ¬ Applies (rows-at s j) g
 
 -- "taken as the longest run": the first bytes of s spell the run, and those with more bytes spell none
-unfoldable pub LongestRun : Run → Bytes → Type 0
-LongestRun r s =
-    (w rest : Bytes) × (s ≡ w ++ rest) × Runs (top []) r w × ((x y : Bytes) (r′ : Run) → rest ≡ x ++ y → Runs (top []) r′ (w ++ x) → x ≡ [])
+unfoldable pub LongestCount : CountState → Bytes → Type 0
+LongestCount r s =
+    (w rest : Bytes) × (s ≡ w ++ rest) × CountSoFar (top []) r w × ((x y : Bytes) (r′ : CountState) → rest ≡ x ++ y → CountSoFar (top []) r′ (w ++ x) → x ≡ [])

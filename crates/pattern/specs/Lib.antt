@@ -7,9 +7,9 @@ pub mod Meaning
 pub mod Decision
 pub mod Parts
 pub mod Trials
-pub mod Spelling
-pub mod Reading
-pub mod Places
+pub mod Grammar
+pub mod Parser
+pub mod ParserInvariant
 pub mod Scan
 pub mod Within
 pub mod Faults

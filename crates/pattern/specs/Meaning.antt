@@ -14,9 +14,9 @@ unfoldable pub Cut : (Bytes → Type 0) → (Bytes → Type 0) → Bytes → Typ
 Cut P Q s = (a : Bytes) × (b : Bytes) × (s ≡ a ++ b) × P a × Q b
 
 -- a list is cut into k that satisfy P each
-unfoldable pub Made : (Bytes → Type 0) → ℕ → Bytes → Type 0
-Made P zero s = s ≡ []
-Made P (suc k) s = Cut P (Made P k) s
+unfoldable pub Power : (Bytes → Type 0) → ℕ → Bytes → Type 0
+Power P zero s = s ≡ []
+Power P (suc k) s = Cut P (Power P k) s
 
 -- k is not above the high number, if there is one
 unfoldable pub UpTo : Option ℕ → ℕ → Type 0
@@ -27,7 +27,7 @@ UpTo (some high) k = k ≤ high
 unfoldable pub Satisfies : {s : Sort} → Syntax s → Bytes → Type 0
 Satisfies (last a) s = Satisfies a s
 Satisfies (then a p) s = Cut (Satisfies a) (Satisfies p) s
-Satisfies (repeat low high b) s = (k : ℕ) × (low ≤ k) × UpTo high k × Made (Satisfies b) k s
+Satisfies (repeat low high b) s = (k : ℕ) × (low ≤ k) × UpTo high k × Power (Satisfies b) k s
 Satisfies (codes set) s = (b : ℕ) × (s ≡ b ∷ []) × T (in-set set b)
 Satisfies (literal value) s = s ≡ value
 Satisfies (group bs) s = Satisfies bs s

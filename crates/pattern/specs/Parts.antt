@@ -25,9 +25,9 @@ Lex (x ∷ xs) [] = ⊥
 Lex (x ∷ xs) (y ∷ ys) = (x < y) ⊎ ((x ≡ y) × Lex xs ys)
 
 -- what a verdict means: the label does not satisfy the pattern, or these ends are its longest-first partition
-unfoldable pub Means : Bytes → Syntax pattern → Option (List ℕ) → Type 0
-Means l p none = ¬ Satisfies p l
-Means l p (some ends) = Partition l p 0 ends × ((others : List ℕ) → Partition l p 0 others → Lex others ends)
+unfoldable pub IsVerdict : Bytes → Syntax pattern → Option (List ℕ) → Type 0
+IsVerdict l p none = ¬ Satisfies p l
+IsVerdict l p (some ends) = Partition l p 0 ends × ((others : List ℕ) → Partition l p 0 others → Lex others ends)
 
 -- the largest number below c that passes, 0 if none
 unfoldable pub longest : ℕ → (ℕ → Bool) → ℕ

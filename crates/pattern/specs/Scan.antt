@@ -9,29 +9,29 @@ use Rattle.pattern.specs.Numbers.{source-limit, atom-limit, depth-limit,
 use Rattle.pattern.specs.Bytes.{Bytes}
 use Rattle.pattern.specs.Codes.{bit}
 use Rattle.pattern.specs.Syntax.{pattern, Syntax}
-use Rattle.pattern.specs.Spelling.{Starter, letter, quote, opening, Kind, counts, starts, ends, kind}
-use Rattle.pattern.specs.Reading.{Run, empty, first, pointed, second, Place, counting, inside, after, Around, top, within, State, grow, step, finish, start}
+use Rattle.pattern.specs.Grammar.{BodyStart, letter, quote, opening, CharClass, count-char, body-start, branch-end, char-class}
+use Rattle.pattern.specs.Parser.{CountState, empty, first, pointed, second, Phase, counting, inside, after, Stack, top, within, ParserState, grow, step, finish, start}
 
 -- the two numbers of a count
-unfoldable pub low : Run → ℕ
+unfoldable pub low : CountState → ℕ
 low empty = 0
 low (first n) = n
 low (pointed n) = n
 low (second n m) = n
 
-unfoldable pub high : Run → Option ℕ
+unfoldable pub high : CountState → Option ℕ
 high empty = none
 high (first n) = some n
 high (pointed n) = none
 high (second n m) = some m
 
--- the longest run that begins so
-unfoldable pub ahead : Run → Bytes → Run
-ahead r [] = r
-ahead r (c ∷ s) = elim (kind c) [ counts m ↦ elim (grow r m c) [ none ↦ r | some r′ ↦ ahead r′ s ] | starts b ↦ r | ends e ↦ r ]
+-- the longest count that begins so
+unfoldable pub longest-count : CountState → Bytes → CountState
+longest-count r [] = r
+longest-count r (c ∷ s) = elim (char-class c) [ count-char m ↦ elim (grow r m c) [ none ↦ r | some r′ ↦ longest-count r′ s ] | body-start b ↦ r | branch-end e ↦ r ]
 
 -- how many groups are open
-unfoldable pub depth : Around → ℕ
+unfoldable pub depth : Stack → ℕ
 depth (top before) = 0
 depth (within k l h others before) = suc (depth k)
 
@@ -40,22 +40,22 @@ pub data Begins : Type 0 where
   an-atom a-code a-group nothing : Begins
   a-second : (n : ℕ) → Begins
 
-unfoldable pub body-begins : Starter → Begins
+unfoldable pub body-begins : BodyStart → Begins
 body-begins letter = a-code
 body-begins quote = nothing
 body-begins opening = a-group
 
-unfoldable pub begins : Place → Kind → Begins
-begins (counting empty) (counts m) = an-atom
-begins (counting (first n)) (counts m) = nothing
-begins (counting (pointed n)) (counts m) = a-second n
-begins (counting (second n m)) (counts x) = nothing
-begins (counting r) (starts b) = body-begins b
-begins (counting r) (ends e) = nothing
+unfoldable pub begins : Phase → CharClass → Begins
+begins (counting empty) (count-char m) = an-atom
+begins (counting (first n)) (count-char m) = nothing
+begins (counting (pointed n)) (count-char m) = a-second n
+begins (counting (second n m)) (count-char x) = nothing
+begins (counting r) (body-start b) = body-begins b
+begins (counting r) (branch-end e) = nothing
 begins (inside l h value) x = nothing
-begins (after l h b) (counts m) = an-atom
-begins (after l h b) (starts x) = body-begins x
-begins (after l h b) (ends e) = nothing
+begins (after l h b) (count-char m) = an-atom
+begins (after l h b) (body-start x) = body-begins x
+begins (after l h b) (branch-end e) = nothing
 
 -- the atoms begun once that byte is read
 unfoldable pub begun : Begins → ℕ → ℕ
@@ -82,7 +82,7 @@ refuse (t ∷ ts) = elim (t .0) [ true ↦ some (t .1) | false ↦ refuse ts ]
 
 -- rows 4 to 6 of the refusal table for an atom that begins after n others with this count: "repeat number over 9,999",
 -- "both numbers fit and the second is less", and too many atoms
-unfoldable pub atom-rows : ℕ → Run → List (Bool × ℕ)
+unfoldable pub atom-rows : ℕ → CountState → List (Bool × ℕ)
 atom-rows n r =
     (ltb number-limit (low r), NUMBER)
     ∷ (leb (low r) number-limit && not (large (high r)) && falls (low r) (high r), RANGE)
@@ -92,14 +92,14 @@ atom-rows n r =
 -- rows 3 to 7 for what begins with the byte c, inside d groups and after n atoms; s is the source after it
 unfoldable pub rows : Begins → (d n c : ℕ) → Bytes → List (Bool × ℕ)
 unfolding atom-rows
-rows an-atom d n c s = atom-rows n (ahead empty (c ∷ s))
-rows (a-second x) d n c s = (large (high (ahead (pointed x) (c ∷ s))), NUMBER) ∷ []
+rows an-atom d n c s = atom-rows n (longest-count empty (c ∷ s))
+rows (a-second x) d n c s = (large (high (longest-count (pointed x) (c ∷ s))), NUMBER) ∷ []
 rows a-code d n c s = (leb set-limit (bit c), CODE) ∷ []
 rows a-group d n c s = (leb depth-limit d, DEPTH) ∷ []
 rows nothing d n c s = []
 
 -- the lowest fault other than FORM: of an atom, and of what begins with a byte
-abbrev pub atom-fault : ℕ → Run → Option ℕ
+abbrev pub atom-fault : ℕ → CountState → Option ℕ
 atom-fault n r = refuse (atom-rows n r)
 
 unfoldable pub fault : Begins → (d n c : ℕ) → Bytes → Option ℕ
@@ -112,13 +112,13 @@ pub data Outcome : Type 0 where
   accepted : Syntax pattern → Outcome
 
 -- the source from position i on, after n atoms: the first position with a fault, and there the lowest number
-unfoldable pub scan : State → (i n : ℕ) → Bytes → Outcome
+unfoldable pub scan : ParserState → (i n : ℕ) → Bytes → Outcome
 scan q i n [] = elim (finish (q .0) (q .1)) [ none ↦ refused FORM i | some t ↦ accepted t ]
 scan q i n (c ∷ s) = elim (step q c) [
   | none ↦ refused FORM i
-  | some q′ ↦ elim (fault (begins (q .0) (kind c)) (depth (q .1)) n c s) [
+  | some q′ ↦ elim (fault (begins (q .0) (char-class c)) (depth (q .1)) n c s) [
     | some f ↦ refused f i
-    | none ↦ scan q′ (suc i) (begun (begins (q .0) (kind c)) n) s
+    | none ↦ scan q′ (suc i) (begun (begins (q .0) (char-class c)) n) s
   ]
 ]
 

@@ -6,10 +6,10 @@ use lib.Seq.{sets}
 use Rattle.pattern.specs.Bytes.{Bytes}
 
 -- lent bytes l with v stored from place n on
-unfoldable pub stored : (l : Bytes) (n : ℕ) (v : Bytes) → Bytes
-stored l n v = sets l n v
+unfoldable pub store-at : (l : Bytes) (n : ℕ) (v : Bytes) → Bytes
+store-at l n v = sets l n v
 
 -- v was stored in l from n on, which gave l′, and m is the place after it
 pub record Puts (l : Bytes) (n : ℕ) (v l′ : Bytes) (m : ℕ) : Type 0 where
-  pub bytes : l′ ≡ stored l n v
+  pub bytes : l′ ≡ store-at l n v
   pub next : m ≡ n + length v

@@ -4,7 +4,7 @@ use mathlib.Core.Option.{Option, none, some}
 use Prim.Native.Nat.{ℕ, suc, _+_}
 use lib.ListN.{length}
 use Rattle.pattern.specs.Numbers.{mark, version, codes-kind, literal-kind, group-kind, open-high}
-use Rattle.pattern.specs.Bytes.{Bytes, word}
+use Rattle.pattern.specs.Bytes.{Bytes, le16}
 use Rattle.pattern.specs.Syntax.{Sort, pattern, branches, body, Syntax, last, then, repeat, codes, literal, group, only, or, size}
 
 -- the values of the literals, in atom order
@@ -19,9 +19,9 @@ pool (only p) = pool p
 pool (or p bs) = pool p ++ pool bs
 
 -- the number of branches
-unfoldable pub choices : Syntax branches → ℕ
-choices (only p) = 1
-choices (or p bs) = suc (choices bs)
+unfoldable pub branch-count : Syntax branches → ℕ
+branch-count (only p) = 1
+branch-count (or p bs) = suc (branch-count bs)
 
 -- the high number in a record
 abbrev pub high-field : Option ℕ → ℕ
@@ -46,7 +46,7 @@ kind-field (group bs) = group-kind
 unfoldable pub a-field : Syntax body → (p : ℕ) → ℕ
 a-field (codes set) p = set
 a-field (literal value) p = p
-a-field (group bs) p = choices bs
+a-field (group bs) p = branch-count bs
 
 unfoldable pub b-field : Syntax body → (i : ℕ) → ℕ
 b-field (codes set) i = 0
@@ -70,14 +70,14 @@ records e (only q) i p = records e q i p
 records e (or q bs) i p = records e q i p ++ records e bs (i + size q) (p + length (pool q))
 
 -- the bytes of records, before others
-unfoldable pub flat : List Rec → Bytes → Bytes
-flat [] s = s
-flat (r ∷ rs) s = r .kind ∷ r .ends ∷ word (r .low) (word (r .high) (word (r .a) (word (r .b) (flat rs s))))
+unfoldable pub record-bytes : List Rec → Bytes → Bytes
+record-bytes [] s = s
+record-bytes (r ∷ rs) s = r .kind ∷ r .ends ∷ le16 (r .low) (le16 (r .high) (le16 (r .a) (le16 (r .b) (record-bytes rs s))))
 
 -- the header of n atoms and m bytes of pool, before others
 unfoldable pub header : (n m : ℕ) → Bytes → Bytes
-header n m s = mark ++ word version (n ∷ word m s)
+header n m s = mark ++ le16 version (n ∷ le16 m s)
 
 -- "a table": header, records, pool
 unfoldable pub encode : Syntax pattern → Bytes
-encode t = header (size t) (length (pool t)) (flat (records 1 t 0 0) (pool t))
+encode t = header (size t) (length (pool t)) (record-bytes (records 1 t 0 0) (pool t))

@@ -5,7 +5,7 @@ use Prim.Native.Nat.{ℕ, zero, suc, _+_, _-_, _*_, _/_}
 use lib.ListN.{length}
 use Rattle.pattern.specs.Bytes.{Bytes}
 use Rattle.pattern.specs.Syntax.{pattern, atom, Syntax, last, then, repeat, nodes}
-use Rattle.pattern.specs.Decision.{Rel, trial, made, most, decide}
+use Rattle.pattern.specs.Decision.{Rel, trial, power, max-count, decide}
 
 -- how many numbers below c are tried, from c - 1 down, until one passes
 unfoldable pub tries : ℕ → (ℕ → Bool) → ℕ
@@ -27,12 +27,12 @@ joins n R S = stretches n (λ i j. tries (suc j - i) (trial R S i j))
 
 -- the trials of an atom's bodies: one join for each k from 1 to K
 unfoldable pub repeats : Bytes → Syntax atom → ℕ
-repeats l (repeat low high b) = sum (most (length l) high) (λ k. joins (length l) (decide l b) (made (decide l b) k))
+repeats l (repeat low high b) = sum (max-count (length l) high) (λ k. joins (length l) (decide l b) (power (decide l b) k))
 
 -- the trials of an atom: those of its bodies, and those of the join with its followers if it is not last in its branch
-unfoldable pub own : Bytes → Syntax pattern → ℕ
-own l (last a) = repeats l a
-own l (then a p) = repeats l a + joins (length l) (decide l a) (decide l p)
+unfoldable pub atom-trials : Bytes → Syntax pattern → ℕ
+atom-trials l (last a) = repeats l a
+atom-trials l (then a p) = repeats l a + joins (length l) (decide l a) (decide l p)
 
 -- the sum of f over a list
 unfoldable pub total : (Syntax pattern → ℕ) → List (Syntax pattern) → ℕ
@@ -41,7 +41,7 @@ total f (x ∷ xs) = f x + total f xs
 
 -- the count: the trials of all atoms of a pattern on a label
 unfoldable pub trials : Bytes → Syntax pattern → ℕ
-trials l p = total (own l) (nodes p)
+trials l p = total (atom-trials l) (nodes p)
 
 -- "A x (n+1) x (n+1) x (n+2) x (n+3) / 6"
 unfoldable pub trial-bound : (A n : ℕ) → ℕ

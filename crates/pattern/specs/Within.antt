@@ -26,17 +26,17 @@ Ordered (only p) = Ordered p
 Ordered (or p bs) = Ordered p × Ordered bs
 
 -- a tree that stands in d groups has good counts and codes, and its groups are not too deep
-unfoldable pub Good : ℕ → {s : Sort} → Syntax s → Type 0
-Good d (last a) = Good d a
-Good d (then a p) = Good d a × Good d p
-Good d (repeat low high b) = Fits low high × Good d b
-Good d (codes set) = set < set-limit
-Good d (literal value) = Unit {0}
-Good d (group bs) = (d < depth-limit) × Good (suc d) bs
-Good d (only p) = Good d p
-Good d (or p bs) = Good d p × Good d bs
+unfoldable pub InLimits : ℕ → {s : Sort} → Syntax s → Type 0
+InLimits d (last a) = InLimits d a
+InLimits d (then a p) = InLimits d a × InLimits d p
+InLimits d (repeat low high b) = Fits low high × InLimits d b
+InLimits d (codes set) = set < set-limit
+InLimits d (literal value) = Unit {0}
+InLimits d (group bs) = (d < depth-limit) × InLimits (suc d) bs
+InLimits d (only p) = InLimits d p
+InLimits d (or p bs) = InLimits d p × InLimits d bs
 
 -- a pattern within the limits
 pub record Limited (t : Syntax pattern) : Type 0 where
-  pub tree : Good 0 t
+  pub tree : InLimits 0 t
   pub atoms : size t ≤ atom-limit

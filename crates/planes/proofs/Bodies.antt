@@ -7,40 +7,40 @@ use native.Mathlib.Numerals.{add-one}
 use native.Mathlib.Omega.{arith}
 use borrow.Author.Tests.{le-leb, lt-leb}
 use lib.ListN.{length}
-use Rattle.pattern.specs.Decision.{any, made, join}
+use Rattle.pattern.specs.Decision.{any, power, join}
 use Rattle.planes.specs.declared.join.Tally.{Tally}
 use Rattle.planes.specs.Cells.{InRoom, Plane, Kept, Others, on}
-use Rattle.planes.specs.Joined.{join-trials, Ready, Joined}
-use Rattle.planes.specs.Whole.{Addable, Added}
-use Rattle.planes.specs.Made.{Gathered, fewer, body-trials, Making, Elsewhere, MadeOf}
+use Rattle.planes.specs.Join.{join-trials, JoinPre, JoinPost}
+use Rattle.planes.specs.Whole.{AddPre, AddPost}
+use Rattle.planes.specs.RepeatBody.{AddFromPost, fewer, body-trials, RepeatBodyPre, Elsewhere, RepeatBodyPost}
 use Rattle.planes.proofs.Planes.{kept-all, kept-then, kept-less, plane-on, plane-same, plane-flags, plane-kept, room-of, planes-le}
 use Rattle.planes.proofs.Relations.{join-same, join-trials-same}
 use Rattle.planes.proofs.Counting.{Counting, count-start, count-step, count-stop, count-end}
 
 module _ (s : List ℕ) (w from out : ℕ) where
-  pub gather-taken : (low k : ℕ) → low ≤ k → (s′ : List ℕ) → Added s s′ w from out → Gathered s s′ w from out low k
+  pub gather-taken : (low k : ℕ) → low ≤ k → (s′ : List ℕ) → AddPost s s′ w from out → AddFromPost s s′ w from out low k
   gather-taken low k h s′ got = record { plane = plane-same (got .plane) (λ i j hi hj. rw (le-leb low k h)); kept = got .kept }
 
-  pub gather-left : Addable s w from out → (low k : ℕ) → k < low → Gathered s s w from out low k
+  pub gather-left : AddPre s w from out → (low k : ℕ) → k < low → AddFromPost s s w from out low k
   gather-left ok low k h = record { plane = plane-same (ok .into .flags) (λ i j hi hj. rw (lt-leb low k h)); kept = kept-all s w (out + 1) (Others out) }
 
 -- where k bodies are made, and out has those of fewer than o
-pub record MakeAt (s₀ : List ℕ) (w top out low times budget trials : ℕ) (s : List ℕ) (spent from to k o : ℕ) : Type 0 where
-  pub counting : Counting (body-trials w (on s₀ w top)) times budget trials spent k
+pub record RepeatBodyAt (s₀ : List ℕ) (w temp out low times budget trials : ℕ) (s : List ℕ) (spent from to k o : ℕ) : Type 0 where
+  pub counting : Counting (body-trials w (on s₀ w temp)) times budget trials spent k
   pub long : length s ≡ length s₀
-  pub turns : from + to ≡ 2 * top + 3
-  pub from-high : top < from
-  pub to-high : top < to
-  pub bodies : Plane s w from (made (on s₀ w top) k)
-  pub all : Plane s w out (fewer (on s₀ w top) low o)
-  pub kept : Kept s₀ s w (top + 4) (Elsewhere top out)
+  pub turns : from + to ≡ 2 * temp + 3
+  pub from-high : temp < from
+  pub to-high : temp < to
+  pub bodies : Plane s w from (power (on s₀ w temp) k)
+  pub all : Plane s w out (fewer (on s₀ w temp) low o)
+  pub kept : Kept s₀ s w (temp + 4) (Elsewhere temp out)
 
-module _ (s₀ : List ℕ) (w top out low times budget trials : ℕ) (ok : Making s₀ w top out) where
-  pub make-few : top + 4 ≤ length s₀
-  make-few = omega (arith, planes-le w (top + 4) (omega (arith, ok .wide)), ok .room)
+module _ (s₀ : List ℕ) (w temp out low times budget trials : ℕ) (ok : RepeatBodyPre s₀ w temp out) where
+  pub make-few : temp + 4 ≤ length s₀
+  make-few = omega (arith, planes-le w (temp + 4) (omega (arith, ok .wide)), ok .room)
 
-  pub make-start : trials ≤ budget → MakeAt s₀ w top out low times budget trials s₀ trials (top + 1) (top + 2) 0 0
-  unfolding made any
+  pub make-start : trials ≤ budget → RepeatBodyAt s₀ w temp out low times budget trials s₀ trials (temp + 1) (temp + 2) 0 0
+  unfolding power any
   make-start h = record {
     counting = count-start _ times budget trials h;
     long = refl;
@@ -49,20 +49,20 @@ module _ (s₀ : List ℕ) (w top out low times budget trials : ℕ) (ok : Makin
     to-high = omega arith;
     bodies = ok .empty;
     all = ok .nothing;
-    kept = kept-all s₀ w (top + 4) (Elsewhere top out);
+    kept = kept-all s₀ w (temp + 4) (Elsewhere temp out);
   }
 
   module _ (s : List ℕ) (spent from to k : ℕ) where
-    make-room : length s ≡ length s₀ → (p : ℕ) → p < top + 4 → InRoom s w p
-    make-room e p h = room-of s w p (top + 4) h (rw e (ok .room))
+    make-room : length s ≡ length s₀ → (p : ℕ) → p < temp + 4 → InRoom s w p
+    make-room e p h = room-of s w p (temp + 4) h (rw e (ok .room))
 
-    -- plane top has the body throughout
-    make-body : Kept s₀ s w (top + 4) (Elsewhere top out) → Plane s w top (on s₀ w top)
+    -- plane temp has the body throughout
+    make-body : Kept s₀ s w (temp + 4) (Elsewhere temp out) → Plane s w temp (on s₀ w temp)
     make-body k = let below = ok .below in plane-kept k (λ i j. (λ e. omega arith, λ e. omega arith, λ e. omega arith)) (ok .body)
 
     -- first the gathering
-    module _ (inv : MakeAt s₀ w top out low times budget trials s spent from to k k) where
-      pub make-gather : Addable s w from out
+    module _ (inv : RepeatBodyAt s₀ w temp out low times budget trials s spent from to k k) where
+      pub make-gather : AddPre s w from out
       make-gather =
           let below = ok .below in
           record {
@@ -71,7 +71,7 @@ module _ (s₀ : List ℕ) (w top out low times budget trials : ℕ) (ok : Makin
             into = record { room = make-room (inv .long) out (omega arith); flags = plane-flags (inv .all) };
           }
 
-      pub make-gathered : (s′ : List ℕ) → length s′ ≡ length s → Gathered s s′ w from out low k → MakeAt s₀ w top out low times budget trials s′ spent from to k (suc k)
+      pub make-gathered : (s′ : List ℕ) → length s′ ≡ length s → AddFromPost s s′ w from out low k → RepeatBodyAt s₀ w temp out low times budget trials s′ spent from to k (suc k)
       unfolding any
       make-gathered s′ len got =
           let below = ok .below in
@@ -83,22 +83,22 @@ module _ (s₀ : List ℕ) (w top out low times budget trials : ℕ) (ok : Makin
             to-high = inv .to-high;
             bodies = plane-kept (got .kept) (λ i j e. omega (arith, inv .from-high)) (inv .bodies);
             all = plane-same (got .plane) (λ i j hi hj. rw (plane-on (inv .bodies) i j hi hj, plane-on (inv .all) i j hi hj));
-            kept = kept-then (inv .kept) (kept-less (out + 1) (top + 4) (omega arith) (got .kept) (λ q i j n. n)) (λ q i j n. n) (λ q i j n. n .0);
+            kept = kept-then (inv .kept) (kept-less (out + 1) (temp + 4) (omega arith) (got .kept) (λ q i j n. n)) (λ q i j n. n) (λ q i j n. n .0);
           }
 
     -- then the join
-    module _ (inv : MakeAt s₀ w top out low times budget trials s spent from to k (suc k)) where
-      pub make-ready : Ready s w top from to
+    module _ (inv : RepeatBodyAt s₀ w temp out low times budget trials s spent from to k (suc k)) where
+      pub make-ready : JoinPre s w temp from to
       make-ready = record {
         wide = ok .wide;
-        from-left = record { room = make-room (inv .long) top (omega arith); flags = plane-flags (make-body (inv .kept)) };
+        from-left = record { room = make-room (inv .long) temp (omega arith); flags = plane-flags (make-body (inv .kept)) };
         from-right = record { room = make-room (inv .long) from (omega (arith, inv .turns, inv .to-high)); flags = plane-flags (inv .bodies) };
         into = make-room (inv .long) to (omega (arith, inv .turns, inv .from-high));
         not-left = λ e. omega (arith, inv .to-high);
         not-right = λ e. omega (arith, inv .turns);
       }
 
-      pub make-end : times ≤ k → MadeOf s₀ s w top out low times budget trials record { trials = spent; stopped = false }
+      pub make-end : times ≤ k → RepeatBodyPost s₀ s w temp out low times budget trials record { trials = spent; stopped = false }
       make-end h =
           let e : k ≡ times = omega (arith, inv .counting .below) in
           record {
@@ -107,28 +107,28 @@ module _ (s₀ : List ℕ) (w top out low times budget trials : ℕ) (ok : Makin
             kept = inv .kept;
           }
 
-      module _ (more : k < times) (s′ : List ℕ) (r : Tally) (got : Joined s s′ w top from to budget spent r) where
-        tried : join-trials w (on s w top) (on s w from) ≡ body-trials w (on s₀ w top) k
+      module _ (more : k < times) (s′ : List ℕ) (r : Tally) (got : JoinPost s s′ w temp from to budget spent r) where
+        tried : join-trials w (on s w temp) (on s w from) ≡ body-trials w (on s₀ w temp) k
         tried = join-trials-same w _ _ _ _ (plane-on (make-body (inv .kept))) (plane-on (inv .bodies))
 
-        all-kept : Kept s₀ s′ w (top + 4) (Elsewhere top out)
+        all-kept : Kept s₀ s′ w (temp + 4) (Elsewhere temp out)
         all-kept =
-            let to-low : to ≤ top + 2 = omega (arith, inv .turns, inv .from-high) in
-            kept-then (inv .kept) (kept-less (to + 1) (top + 4) (omega arith) (got .kept) (λ q i j n. n)) (λ q i j n. n)
-            (λ q i j n e. let far : q ≡ top + 1 → ⊥ = n .1 in let near : q ≡ top + 2 → ⊥ = n .2 in omega (arith, inv .to-high))
+            let to-low : to ≤ temp + 2 = omega (arith, inv .turns, inv .from-high) in
+            kept-then (inv .kept) (kept-less (to + 1) (temp + 4) (omega arith) (got .kept) (λ q i j n. n)) (λ q i j n. n)
+            (λ q i j n e. let far : q ≡ temp + 1 → ⊥ = n .1 in let near : q ≡ temp + 2 → ⊥ = n .2 in omega (arith, inv .to-high))
 
-        pub make-stop : r .stopped ≡ true → MadeOf s₀ s′ w top out low times budget trials r
+        pub make-stop : r .stopped ≡ true → RepeatBodyPost s₀ s′ w temp out low times budget trials r
         make-stop e = record {
           counted = count-stop _ times budget trials spent k (inv .counting) more _ tried _ _ (got .counted) e;
           whole = λ x. absurd (let z : _≡_ {A = ℕ} 0 1 = cc in omega arith);
           kept = all-kept;
         }
 
-        one-more : made (on s₀ w top) (k + 1) ≡ join (on s₀ w top) (made (on s₀ w top) k)
-        unfolding made
+        one-more : power (on s₀ w temp) (k + 1) ≡ join (on s₀ w temp) (power (on s₀ w temp) k)
+        unfolding power
         one-more = rw add-one
 
-        pub make-step : length s′ ≡ length s → r .stopped ≡ false → MakeAt s₀ w top out low times budget trials s′ (r .trials) to from (k + 1) (k + 1)
+        pub make-step : length s′ ≡ length s → r .stopped ≡ false → RepeatBodyAt s₀ w temp out low times budget trials s′ (r .trials) to from (k + 1) (k + 1)
         make-step len e =
             let below = ok .below in
             let z : suc k ≡ k + 1 = omega arith in

@@ -13,10 +13,10 @@ use Rattle.pattern.specs.Codes.{in-set}
 use Rattle.planes.specs.declared.fill.Content.{Content}
 use Rattle.planes.specs.declared.fill.Content.the-variants.{Empty, Codes, Literal}
 use Rattle.planes.specs.Cells.{Tells, Kept, Others, bitOf, marked}
-use Rattle.planes.specs.Whole.{Blanked}
-use Rattle.planes.specs.Filled.{held-in, span, Fit, Fillable, Filled}
+use Rattle.planes.specs.Whole.{BlankPost}
+use Rattle.planes.specs.Fill.{held-in, span, Fit, FillPre, FillPost}
 use Rattle.planes.proofs.Planes.{mark-long, mark-tells, mark-kept, kept-all, kept-then, tells-same, tells-kept}
-use Rattle.planes.proofs.Slices.{one-byte, one-not, same-apart}
+use Rattle.planes.proofs.Slices.{single-byte, single-not, equal-apart}
 
 same-or-not : (a b : ℕ) → (a ≡ b) ⊎ (a ≡ b → ⊥)
 same-or-not a b = go (eqb a b) (eqb-true a b) (eqb-false a b)
@@ -29,8 +29,8 @@ same-or-not a b = go (eqb a b) (eqb-true a b) (eqb-false a b)
 held-off : (table label : List ℕ) (content : Content) → Fit table content → (i j : ℕ) → i ≤ j → j ≤ length label → (i + span content ≡ j → ⊥) → held-in table label content i j ≡ false
 unfolding held-in Fit
 held-off table label Empty f i j hi hj n = ne-eqb i j (λ e. n (omega arith))
-held-off table label (Codes set) f i j hi hj n = one-not set label i j hj (λ e. n (omega arith))
-held-off table label (Literal from len) f i j hi hj n = same-apart label table i j from (from + len) hj f (λ e. n (omega arith))
+held-off table label (Codes set) f i j hi hj n = single-not set label i j hj (λ e. n (omega arith))
+held-off table label (Literal from len) f i j hi hj n = equal-apart label table i j from (from + len) hj f (λ e. n (omega arith))
 
 -- what is said of the stretch from i on, and where its bytes lie
 module _ (table label : List ℕ) (i : ℕ) {content : Content} where
@@ -41,7 +41,7 @@ module _ (table label : List ℕ) (i : ℕ) {content : Content} where
   module _ (h : i + span content ≤ length label) where
     pub value-codes : (set : ℕ) → content ≡ Codes set → (i < length label) × (held-in table label content i (i + span content) ≡ in-set set (getD label i 0))
     unfolding held-in
-    value-codes set e = let l : i + 1 ≤ length label = rw e at h in (omega arith, rw e (one-byte set label i (i + 1) l (omega arith)))
+    value-codes set e = let l : i + 1 ≤ length label = rw e at h in (omega arith, rw e (single-byte set label i (i + 1) l (omega arith)))
 
     pub value-literal : (from len : ℕ) → content ≡ Literal from len → Fit table content → (i + len ≤ length label) × (from + len ≤ length table)
     unfolding Fit
@@ -55,7 +55,7 @@ pub record FillAt (table label s₁ : List ℕ) (w : ℕ) (content : Content) (o
   pub ahead : (a b : ℕ) → a ≤ b → b < w → j ≤ b → Tells s w out a b false
   pub kept : Kept s₁ s w (out + 1) (Others out)
 
-module _ (table label s₀ s₁ : List ℕ) (w : ℕ) (content : Content) (out : ℕ) (ok : Fillable table label s₀ w content out) (len : length s₁ ≡ length s₀) (empty : Blanked s₀ s₁ w out) where
+module _ (table label s₀ s₁ : List ℕ) (w : ℕ) (content : Content) (out : ℕ) (ok : FillPre table label s₀ w content out) (len : length s₁ ≡ length s₀) (empty : BlankPost s₀ s₁ w out) where
   off : (a b : ℕ) → a ≤ b → b < w → (a + span content ≡ b → ⊥) → false ≡ held-in table label content a b
   off a b l m n = sym (held-off table label content (ok .fit) a b l (omega (arith, ok .wide)) n)
 
@@ -69,7 +69,7 @@ module _ (table label s₀ s₁ : List ℕ) (w : ℕ) (content : Content) (out :
   }
 
   module _ (s : List ℕ) (j : ℕ) (inv : FillAt table label s₁ w content out s j) where
-    pub fill-end : w ≤ j → Filled table label s₀ s w content out
+    pub fill-end : w ≤ j → FillPost table label s₀ s w content out
     fill-end h = record {
       plane = record { holds = λ a b l m. inv .done a b l m (omega arith) };
       kept = kept-then (empty .kept) (inv .kept) (λ q a b n. n) (λ q a b n. n);

@@ -14,15 +14,15 @@ use Rattle.planes.specs.declared.join.Search.the-variants.{Found, Missin
 use Rattle.planes.specs.declared.join.Tally.{Tally}
 use Rattle.planes.specs.Cells.{cell, Tells, Plane, Kept, Others, on, bitOf, marked}
 use Rattle.planes.specs.Budget.{Counted}
-use Rattle.planes.specs.Whole.{Blanked}
-use Rattle.planes.specs.Joined.{column-trials, join-trials, Ready, Joined}
+use Rattle.planes.specs.Whole.{BlankPost}
+use Rattle.planes.specs.Join.{column-trials, join-trials, JoinPre, JoinPost}
 use Rattle.planes.proofs.Planes.{Same, Beside, mark-long, mark-tells, mark-kept, kept-all, kept-then, kept-less, tells-same, tells-kept, plane-same, on-kept, read-kept, trial-hit, trial-miss}
 use Rattle.planes.proofs.Relations.{tries-same, any-same, trial-same, join-same, join-trials-same, column-same}
 use Rattle.planes.proofs.Counting.{Counting, count-start, count-step, count-stop, count-end, counted-whole, counted-over}
 use Rattle.planes.proofs.Searching.{SearchAt, Searched, FoundAt, Says, search-hit, search-none, search-next}
 
 -- a join that could be made still can
-ready-kept : {s s′ : List ℕ} {w left right out N : ℕ} → length s′ ≡ length s → Kept s s′ w N (Others out) → Ready s w left right out → Ready s′ w left right out
+ready-kept : {s s′ : List ℕ} {w left right out N : ℕ} → length s′ ≡ length s → Kept s s′ w N (Others out) → JoinPre s w left right out → JoinPre s′ w left right out
 ready-kept e k h = record {
   wide = h .wide;
   from-left = read-kept e k (λ i j. h .not-left) (h .from-left);
@@ -40,7 +40,7 @@ Off p j q a b = q ≡ p → (a ≤ b → b ≡ j → ⊥) × (b ≤ a → a ≡ 
 
 -- those that begin before i are stored; s₀ is the list as it was before the first
 pub record ColumnAt (s₀ : List ℕ) (w left right out j budget trials : ℕ) (s : List ℕ) (spent i : ℕ) : Type 0 where
-  pub ready : Ready s₀ w left right out
+  pub ready : JoinPre s₀ w left right out
   pub inside : j < w
   pub counting : Counting (λ a. tries (suc j - a) (trial (on s₀ w left) (on s₀ w right) a j)) (suc j) budget trials spent i
   pub long : length s ≡ length s₀
@@ -52,7 +52,7 @@ module _ {s₀ : List ℕ} {w left right out j budget trials : ℕ} {s : List �
   others : Kept s₀ s w (out + 1) (Others out)
   others = kept-less (out + 1) (out + 1) (omega arith) (inv .kept) (λ q a b n e. absurd (n e))
 
-  pub column-ready : Ready s w left right out
+  pub column-ready : JoinPre s w left right out
   column-ready = ready-kept (inv .long) others (inv .ready)
 
   -- a trial at m is the test `&` of two cells
@@ -116,14 +116,14 @@ module _ {s₀ : List ℕ} {w left right out j budget trials : ℕ} {s : List �
 
 -- the stretches that end before j are stored; s₀ is the list as it was before the first
 pub record PlaneAt (s₀ : List ℕ) (w left right out budget trials : ℕ) (s : List ℕ) (spent j : ℕ) : Type 0 where
-  pub ready : Ready s₀ w left right out
+  pub ready : JoinPre s₀ w left right out
   pub counting : Counting (column-trials (on s₀ w left) (on s₀ w right)) w budget trials spent j
   pub long : length s ≡ length s₀
   pub done : (a b : ℕ) → a ≤ b → b < j → Tells s w out a b (join (on s₀ w left) (on s₀ w right) a b)
   pub ahead : (a b : ℕ) → a ≤ b → j ≤ b → b < w → Tells s w out a b false
   pub kept : Kept s₀ s w (out + 1) (Others out)
 
-pub plane-start : {s₀ : List ℕ} {w left right out budget trials : ℕ} → Ready s₀ w left right out → trials ≤ budget → Plane s₀ w out (λ i j. false) → PlaneAt s₀ w left right out budget trials s₀ trials 0
+pub plane-start : {s₀ : List ℕ} {w left right out budget trials : ℕ} → JoinPre s₀ w left right out → trials ≤ budget → Plane s₀ w out (λ i j. false) → PlaneAt s₀ w left right out budget trials s₀ trials 0
 plane-start ok h v = record {
   ready = ok;
   counting = count-start _ _ _ _ h;
@@ -134,7 +134,7 @@ plane-start ok h v = record {
 }
 
 module _ {s₀ : List ℕ} {w left right out budget trials : ℕ} {s : List ℕ} {spent j : ℕ} (inv : PlaneAt s₀ w left right out budget trials s spent j) where
-  pub plane-end : w ≤ j → Joined s₀ s w left right out budget trials record { trials = spent; stopped = false }
+  pub plane-end : w ≤ j → JoinPost s₀ s w left right out budget trials record { trials = spent; stopped = false }
   unfolding join-trials
   plane-end h = record {
     counted = count-end _ w budget trials spent j (inv .counting) h;
@@ -167,7 +167,7 @@ module _ {s₀ : List ℕ} {w left right out budget trials : ℕ} {s : List ℕ}
       all-kept : Kept s₀ s′ w (out + 1) (Others out)
       all-kept = kept-then (inv .kept) (column .kept) (λ q a b n. n) (λ q a b n x. absurd (n x))
 
-      pub plane-stop : i ≤ j → budget < t + tries (suc j - i) (trial (on s′ w left) (on s′ w right) i j) → Joined s₀ s′ w left right out budget trials record { trials = budget; stopped = true }
+      pub plane-stop : i ≤ j → budget < t + tries (suc j - i) (trial (on s′ w left) (on s′ w right) i j) → JoinPost s₀ s′ w left right out budget trials record { trials = budget; stopped = true }
       unfolding join-trials
       plane-stop here over = record {
         counted = count-stop _ w budget trials spent j (inv .counting) more _ columns-tried _ _ (column-stop column here over) refl;
@@ -192,11 +192,11 @@ module _ {s₀ : List ℕ} {w left right out budget trials : ℕ} {s : List ℕ}
       }
 
 -- a join into an emptied plane is one into the plane as it was
-module _ {s₀ s₁ : List ℕ} {w left right out : ℕ} (ok : Ready s₀ w left right out) (b : Blanked s₀ s₁ w out) where
-  pub join-ready : length s₁ ≡ length s₀ → Ready s₁ w left right out
+module _ {s₀ s₁ : List ℕ} {w left right out : ℕ} (ok : JoinPre s₀ w left right out) (b : BlankPost s₀ s₁ w out) where
+  pub join-ready : length s₁ ≡ length s₀ → JoinPre s₁ w left right out
   join-ready e = ready-kept e (b .kept) ok
 
-  pub join-blank : {s : List ℕ} {budget trials : ℕ} {r : Tally} → Joined s₁ s w left right out budget trials r → Joined s₀ s w left right out budget trials r
+  pub join-blank : {s : List ℕ} {budget trials : ℕ} {r : Tally} → JoinPost s₁ s w left right out budget trials r → JoinPost s₀ s w left right out budget trials r
   join-blank h =
       let l = on-kept (b .kept) (λ i j. ok .not-left) in
       let r = on-kept (b .kept) (λ i j. ok .not-right) in

@@ -10,7 +10,7 @@ use lib.Arith.{digits-lt, digits-div, digits-mod}
 use lib.Bits.{bitOr}
 use lib.ListN.{length, getD, set, length-set}
 use Rattle.planes.specs.Cells.{at, cell, InRoom, bitOf, on, Kept, Others}
-use Rattle.planes.specs.Whole.{Blanked, Addable, Added}
+use Rattle.planes.specs.Whole.{BlankPost, AddPre, AddPost}
 use Rattle.planes.proofs.Planes.{at-in, set-here, set-kept, kept-all, kept-then, kept-less}
 
 -- the first k cells of plane out are those of f, and all others are as they were
@@ -64,7 +64,7 @@ module _ (s₀ : List ℕ) (w out : ℕ) (f : ℕ → ℕ → ℕ) where
 pub pass-len : (s : List ℕ) (w p : ℕ) → InRoom s w p → w * w ≤ length s
 pass-len s w p room = let some : 1 ≤ p + 1 = omega arith in omega (arith, mul-le-mul-right w (mul-le-mul-right w some), one-mul w)
 
-pub blank-end : (s₀ : List ℕ) (w out : ℕ) (s : List ℕ) (k : ℕ) → PassAt s₀ w out (λ i j. 0) s k → w * w ≤ k → Blanked s₀ s w out
+pub blank-end : (s₀ : List ℕ) (w out : ℕ) (s : List ℕ) (k : ℕ) → PassAt s₀ w out (λ i j. 0) s k → w * w ≤ k → BlankPost s₀ s w out
 blank-end s₀ w out s k inv h =
     let (all, rest) = pass-end s₀ w out (λ i j. 0) s k inv h in
     record { plane = record { holds = λ i j hi hj. record { by-begin = all i j (omega arith) hj; by-end = all j i hj (omega arith) } }; kept = rest }
@@ -80,7 +80,7 @@ or-bits false false = refl
 abbrev pub either : List ℕ → ℕ → ℕ → ℕ → ℕ → ℕ → ℕ
 either s w from out i j = bitOr (cell s w from i j) (cell s w out i j)
 
-pub add-end : (s₀ : List ℕ) (w from out : ℕ) → Addable s₀ w from out → (s : List ℕ) (k : ℕ) → PassAt s₀ w out (either s₀ w from out) s k → w * w ≤ k → Added s₀ s w from out
+pub add-end : (s₀ : List ℕ) (w from out : ℕ) → AddPre s₀ w from out → (s : List ℕ) (k : ℕ) → PassAt s₀ w out (either s₀ w from out) s k → w * w ≤ k → AddPost s₀ s w from out
 add-end s₀ w from out ok s k inv h =
     let (all, rest) = pass-end s₀ w out (either s₀ w from out) s k inv h in
     record {

@@ -3,9 +3,9 @@ use mathlib.Core.Path.{_≡_, refl}
 use mathlib.Core.Bool.{Bool}
 use Prim.Native.Nat.{ℕ, zero, suc, _+_, _-_, _≤_, _<_}
 use native.Mathlib.Omega.{arith}
-use Rattle.pattern.specs.Decision.{Rel, any, trial, join, made}
+use Rattle.pattern.specs.Decision.{Rel, any, trial, join, power}
 use Rattle.pattern.specs.Trials.{tries, sum, stretches, joins}
-use Rattle.planes.specs.Joined.{column-trials, join-trials}
+use Rattle.planes.specs.Join.{column-trials, join-trials}
 use Rattle.planes.proofs.Planes.{Same}
 
 module _ (p q : ℕ → Bool) where
@@ -46,7 +46,7 @@ pub joins-all : (n : ℕ) (R S : Rel) → joins n R S ≡ join-trials (suc n) R 
 unfolding joins stretches join-trials column-trials
 joins-all n R S = refl
 
-pub made-same : (w : ℕ) (R S : Rel) → Same w R S → (k : ℕ) → Same w (made R k) (made S k)
-unfolding made
-made-same w R S h zero i j hi hj = refl
-made-same w R S h (suc k) i j hi hj = join-same w R S (made R k) (made S k) h (made-same w R S h k) i j hi hj
+pub power-same : (w : ℕ) (R S : Rel) → Same w R S → (k : ℕ) → Same w (power R k) (power S k)
+unfolding power
+power-same w R S h zero i j hi hj = refl
+power-same w R S h (suc k) i j hi hj = join-same w R S (power R k) (power S k) h (power-same w R S h k) i j hi hj

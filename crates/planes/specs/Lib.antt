@@ -1,6 +1,6 @@
 pub mod Cells
 pub mod Budget
-pub mod Joined
+pub mod Join
 pub mod Whole
-pub mod Filled
-pub mod Made
+pub mod Fill
+pub mod RepeatBody

@@ -3,7 +3,7 @@
 ghost use mathlib.Core.Path.{_≡_};
 ghost use Prim.Native.Nat.{_+_, _*_, _≤_, _<_, _^_};
 ghost use Rattle.planes.specs.Cells.{InRoom, cell, on, bitOf, at, marked};
-ghost use Rattle.planes.specs.Whole.{Blanked, Addable, Added};
+ghost use Rattle.planes.specs.Whole.{BlankPost, AddPre, AddPost};
 
 // The index of cell (p, i, j).
 fn place(w: usize, p: usize, i: usize, j: usize) -> usize
@@ -50,7 +50,7 @@ pub fn mark(scratch: &mut [u8], w: usize, p: usize, i: usize, j: usize, b: bool)
 // Takes every stretch out of plane out.
 pub fn blank(scratch: &mut [u8], w: usize, out: usize)
     requires { ⌜ 1 ≤ w ⌝ ∗ ⌜ InRoom (now scratch) w out ⌝ }
-    ensures { λ _. ⌜ Blanked (now (scratch .entry)) (now (scratch .exit)) w out ⌝ }
+    ensures { λ _. ⌜ BlankPost (now (scratch .entry)) (now (scratch .exit)) w out ⌝ }
 {
     let b = place(w, out, 0, 0);
     let len = w * w;
@@ -63,8 +63,8 @@ pub fn blank(scratch: &mut [u8], w: usize, out: usize)
 
 // Adds what plane from has to plane out: one run over all their cells, which a processor takes many at a time.
 pub fn add(scratch: &mut [u8], w: usize, from: usize, out: usize)
-    requires { ⌜ Addable (now scratch) w from out ⌝ }
-    ensures { λ _. ⌜ Added (now (scratch .entry)) (now (scratch .exit)) w from out ⌝ }
+    requires { ⌜ AddPre (now scratch) w from out ⌝ }
+    ensures { λ _. ⌜ AddPost (now (scratch .entry)) (now (scratch .exit)) w from out ⌝ }
 {
     let a = place(w, from, 0, 0);
     let b = place(w, out, 0, 0);

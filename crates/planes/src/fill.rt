@@ -2,7 +2,7 @@
 ghost use mathlib.Core.Path.{_≡_};
 ghost use Prim.Native.Nat.{_+_, _≤_};
 ghost use lib.ListN.{length};
-ghost use Rattle.planes.specs.Filled.{span, Fit, Fillable, held-in, Filled};
+ghost use Rattle.planes.specs.Fill.{span, Fit, FillPre, held-in, FillPost};
 use crate::cells::blank;
 use crate::cells::mark;
 use stores::equal;
@@ -39,8 +39,8 @@ fn value(table: &[u8], label: &[u8], content: Content, i: usize) -> bool
 
 // Plane out, with what it is to be filled with.
 pub fn fill(table: &[u8], label: &[u8], scratch: &mut [u8], w: usize, content: Content, out: usize)
-    requires { ⌜ Fillable (now table) (now label) (now scratch) w content out ⌝ }
-    ensures { λ _. ⌜ Filled (now (table .entry)) (now (label .entry)) (now (scratch .entry)) (now (scratch .exit)) w content out ⌝ }
+    requires { ⌜ FillPre (now table) (now label) (now scratch) w content out ⌝ }
+    ensures { λ _. ⌜ FillPost (now (table .entry)) (now (label .entry)) (now (scratch .entry)) (now (scratch .exit)) w content out ⌝ }
 {
     blank(scratch, w, out);
     let n = width(content);

@@ -1,6 +1,6 @@
 // Joins of two planes into a third: every trial is made here, and counted against the budget.
 ghost use Prim.Native.Nat.{_≤_};
-ghost use Rattle.planes.specs.Joined.{Ready, Joined};
+ghost use Rattle.planes.specs.Join.{JoinPre, JoinPost};
 use crate::cells::blank;
 use crate::cells::byte;
 use crate::cells::mark;
@@ -30,8 +30,8 @@ pub fn join(
     budget: u64,
     trials: u64,
 ) -> Tally
-    requires { ⌜ trials ≤ budget ⌝ ∗ ⌜ Ready (now scratch) w left right out ⌝ }
-    ensures { λ r. ⌜ Joined (now (scratch .entry)) (now (scratch .exit)) w left right out budget trials r ⌝ }
+    requires { ⌜ trials ≤ budget ⌝ ∗ ⌜ JoinPre (now scratch) w left right out ⌝ }
+    ensures { λ r. ⌜ JoinPost (now (scratch .entry)) (now (scratch .exit)) w left right out budget trials r ⌝ }
 {
     blank(scratch, w, out);
     let mut spent = trials;

@@ -3,4 +3,4 @@
 pub mod cells;
 pub mod fill;
 pub mod join;
-pub mod made;
+pub mod repeat;

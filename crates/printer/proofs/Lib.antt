@@ -1,5 +1,5 @@
 pub mod Storing
-pub mod Parting
+pub mod AtomTokens
 pub mod Walking
 pub mod Writing
 pub mod Again

@@ -16,7 +16,7 @@ use Rattle.pattern.proofs.RoundTrip.{some-atom, some-pattern}
 use Rattle.pattern.proofs.Stores.{puts-byte, puts-then, puts-more, puts-length, puts-room, puts-as}
 use Rattle.pattern.proofs.Stretch.{slice-take}
 use Rattle.table.specs.declared.record.Record.{Record}
-use Rattle.atoms.specs.Atoms.{atoms, node, branches-from, head, inside}
+use Rattle.atoms.specs.Atoms.{atoms, node, branches-from, head, body-of}
 use Rattle.atoms.specs.Records.{LiteralAt, GroupIn, RecordOf}
 use Rattle.atoms.proofs.Views.{branch-last, branch-then, branches-last, branches-more, branches-some}
 use Rattle.printer.specs.Walk.{WritePatternPre, WriteAtomPre, WriteGroupPre, WritePost}
@@ -153,17 +153,17 @@ module _ {table out₀ : Bytes} {start : Next} {k : ℕ} {out : Bytes} {now : Ne
 -- ---- an atom
 
 pub count-room : {table out : Bytes} {x n : ℕ} {r : Record} → WriteAtomPre table out x n → RecordOf table x r → Fits (r .low) (high-of (r .high)) × (n + length (count-of r) ≤ length out)
-count-room {table} {out} {x} {n} {r} p got = (got .fits, omega (arith, p .room, ap length (print-atom r _ (got .count)), length-append (count-of r) (print (inside (head (node table x))))))
+count-room {table} {out} {x} {n} {r} p got = (got .fits, omega (arith, p .room, ap length (print-atom r _ (got .count)), length-append (count-of r) (print (body-of (head (node table x))))))
 
 -- the record of the atom at x was read, and its count written
-pub record Counted (table out : Bytes) (x n : ℕ) (r : Record) (out₁ : Bytes) (m : ℕ) : Type 0 where
+pub record CountWritten (table out : Bytes) (x n : ℕ) (r : Record) (out₁ : Bytes) (m : ℕ) : Type 0 where
   pub pre : WriteAtomPre table out x n
   pub got : RecordOf table x r
   pub puts : Puts out n (count-of r) out₁ m
 
-module _ {table out : Bytes} {x n : ℕ} {r : Record} {out₁ : Bytes} {m : ℕ} (g : Counted table out x n r out₁ m) where
+module _ {table out : Bytes} {x n : ℕ} {r : Record} {out₁ : Bytes} {m : ℕ} (g : CountWritten table out x n r out₁ m) where
   abbrev b : Syntax body
-  b = inside (head (node table x))
+  b = body-of (head (node table x))
 
   -- the body has room, and with it the atom is written
   body-room : (v : Bytes) → print b ≡ v → m + length v ≤ length out₁

@@ -3,14 +3,14 @@ use mathlib.Core.Path.{_≡_, sym, ap, _∙_}
 use Prim.Native.Nat.{ℕ, _<_, _≤_}
 use native.Mathlib.Omega.{arith}
 use lib.ListN.{length}
-use Rattle.pattern.specs.Bytes.{Bytes, over}
+use Rattle.pattern.specs.Bytes.{Bytes, overwrite}
 use Rattle.pattern.specs.Syntax.{pattern, Syntax}
 use Rattle.pattern.specs.Print.{print}
 use Rattle.pattern.specs.Stores.{Puts}
 use Rattle.pattern.specs.Decode.{tree-of, decode}
 use Rattle.pattern.specs.Answers.{result, written-back, writeOf}
 use Rattle.pattern.proofs.RoundTrip.{some-pattern}
-use Rattle.pattern.proofs.Stores.{puts-as, puts-length, stored-over}
+use Rattle.pattern.proofs.Stores.{puts-as, puts-length, store-at-overwrite}
 use Rattle.pattern.proofs.Calls.{put-fits, put-short}
 use Rattle.table.specs.Walk.{tested}
 use Rattle.table.specs.declared.Sizes.{Sizes}
@@ -55,7 +55,7 @@ module _ {table : Bytes} {x : Sizes} (g : Sized table x) (source : Bytes) where
       unfolding writeOf written-back answer-of
       length-written =
           let k : length text ≤ length source = omega (arith, h, g .source-is) in
-          let e : source′ ≡ over text source = puts .bytes ∙ stored-over source text k in
-          let q : output-of (written.Length (x .source)) source′ ≡ record { answer = result (length text) 0; bytes = over text source } =
+          let e : source′ ≡ overwrite text source = puts .bytes ∙ store-at-overwrite source text k in
+          let q : output-of (written.Length (x .source)) source′ ≡ record { answer = result (length text) 0; bytes = overwrite text source } =
           λ j. record { answer = result (g .source-is j) 0; bytes = e j } in
           q ∙ sym (ap (λ o. written-back o source) (g .good .decoded) ∙ put-fits 0 text source k)

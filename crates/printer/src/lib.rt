@@ -1,5 +1,5 @@
 // Writing a table back as its shortest source.
-mod parts;
+mod tokens;
 mod walk;
 
 use table::Tested;

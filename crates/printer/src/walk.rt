@@ -1,5 +1,5 @@
 // The walk that writes: a cycle of three functions for patterns, atoms and groups.
-use super::parts;
+use super::tokens;
 use atoms::literal_at;
 use atoms::record_at;
 use pattern::kind;
@@ -37,11 +37,11 @@ fn write_atom(table: &[u8], out: &mut [u8], x: usize, n: usize) -> Next
     ensures { λ r. ⌜ WritePost (print (head (node (now (table .entry)) x))) (x + size (head (node (now (table .entry)) x))) (now (out .entry)) n r (now (out .exit)) ⌝ }
 {
     let r = record_at(table, x);
-    let m = parts::count(out, n, r.low, r.high);
+    let m = tokens::count(out, n, r.low, r.high);
     if r.kind == kind::CODES {
         return Next {
             atom: x + 1,
-            at: parts::letters(out, m, r.a),
+            at: tokens::letters(out, m, r.a),
         };
     }
     if r.kind == kind::LITERAL {
@@ -50,7 +50,7 @@ fn write_atom(table: &[u8], out: &mut [u8], x: usize, n: usize) -> Next
         let to = from + v.len;
         return Next {
             atom: x + 1,
-            at: parts::literal(out, m, &table[from..to]),
+            at: tokens::literal(out, m, &table[from..to]),
         };
     }
     out[m] = b'(';

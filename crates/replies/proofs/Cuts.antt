@@ -13,20 +13,20 @@ use borrow.Author.Tests.{eq-eqb, lt-ltb}
 use Rattle.pattern.specs.Bytes.{Bytes}
 use Rattle.pattern.proofs.Tests.{if-true}
 use Rattle.replies.specs.Sizes.{tab-byte}
-use Rattle.replies.specs.Reply.{first, cut-at, cut}
+use Rattle.replies.specs.Reply.{index-of, cut-at, cut}
 
-first-after : (b : ℕ) (u w : Bytes) → first b u ≡ length u → first b (u ++ b ∷ w) ≡ length u
-unfolding first
+first-after : (b : ℕ) (u w : Bytes) → index-of b u ≡ length u → index-of b (u ++ b ∷ w) ≡ length u
+unfolding index-of
 first-after b [] w e = if-true _ _ _ (eq-eqb b b refl)
 first-after b (c ∷ u) w e = go (eqb c b) e (first-after b u w)
   where
-    go : (x : Bool) → (elim x [ true ↦ 0 | false ↦ suc (first b u) ]) ≡ suc (length u) → (first b u ≡ length u → first b (u ++ b ∷ w) ≡ length u)
-        → (elim x [ true ↦ 0 | false ↦ suc (first b (u ++ b ∷ w)) ]) ≡ suc (length u)
+    go : (x : Bool) → (elim x [ true ↦ 0 | false ↦ suc (index-of b u) ]) ≡ suc (length u) → (index-of b u ≡ length u → index-of b (u ++ b ∷ w) ≡ length u)
+        → (elim x [ true ↦ 0 | false ↦ suc (index-of b (u ++ b ∷ w)) ]) ≡ suc (length u)
     go true e r = absurd (omega arith)
     go false e r = ap suc (r (omega arith))
 
 -- "cut at the first tab"
-pub cut-first : (source label : Bytes) → first tab-byte source ≡ length source → cut (source ++ tab-byte ∷ label) ≡ some (source, label)
+pub cut-first : (source label : Bytes) → index-of tab-byte source ≡ length source → cut (source ++ tab-byte ∷ label) ≡ some (source, label)
 unfolding cut cut-at
 cut-first source label e =
     let line : Bytes = source ++ tab-byte ∷ label in

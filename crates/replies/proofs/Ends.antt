@@ -5,7 +5,7 @@ use Prim.Native.Nat.{ℕ, _+_, _*_, _/_, _%_}
 use native.Mathlib.Omega.{arith}
 use lib.ListN.{length, take}
 use lib.Seq.{take-append-seam}
-use Rattle.pattern.specs.Bytes.{Bytes, over}
+use Rattle.pattern.specs.Bytes.{Bytes, overwrite}
 use Rattle.pattern.specs.Answers.{part-bytes}
 use Rattle.pattern.proofs.Longest.{part-bytes-length}
 use Rattle.replies.specs.Text.{numbers-in}
@@ -17,8 +17,8 @@ numbers-read [] = refl
 numbers-read (e ∷ es) = let v : e % 256 + 256 * (e / 256) ≡ e = omega arith in ap₂ (λ x y. x ∷ y) v (numbers-read es)
 
 -- from the first bytes of the parts
-pub parts-read : (es : List ℕ) (k : ℕ) (lent : Bytes) → length es ≡ k → numbers-in (take (2 * k) (over (part-bytes es) lent)) ≡ es
-unfolding over
+pub parts-read : (es : List ℕ) (k : ℕ) (lent : Bytes) → length es ≡ k → numbers-in (take (2 * k) (overwrite (part-bytes es) lent)) ≡ es
+unfolding overwrite
 parts-read es k lent e =
     let n : 2 * k ≡ length (part-bytes es) = omega (arith, part-bytes-length es) in
-    ap (λ m. numbers-in (take m (over (part-bytes es) lent))) n ∙ ap numbers-in (take-append-seam (part-bytes es) _) ∙ numbers-read es
+    ap (λ m. numbers-in (take m (overwrite (part-bytes es) lent))) n ∙ ap numbers-in (take-append-seam (part-bytes es) _) ∙ numbers-read es

@@ -8,21 +8,21 @@ use lib.Seq.{drop-cons}
 use borrow.Author.Tests.{eq-eqb, ne-eqb}
 use Rattle.pattern.specs.Bytes.{Bytes}
 use Rattle.pattern.proofs.Tests.{if-true, if-false}
-use Rattle.replies.specs.Reply.{first}
+use Rattle.replies.specs.Reply.{index-of}
 
 -- a list from a place on: a byte and then others, or nothing
 pub drop-one : (s : Bytes) (i : ℕ) → i < length s → drop i s ≡ getD s i 0 ∷ drop (i + 1) s
 drop-one s i h = rw (add-one, drop-cons s i 0)
 
 module _ (b : ℕ) (s : Bytes) (i : ℕ) where
-  pub first-here : i < length s → getD s i 0 ≡ b → first b (drop i s) ≡ 0
-  unfolding first
-  first-here h e = ap (first b) (drop-one s i h) ∙ if-true _ _ _ (eq-eqb _ _ e)
+  pub first-here : i < length s → getD s i 0 ≡ b → index-of b (drop i s) ≡ 0
+  unfolding index-of
+  first-here h e = ap (index-of b) (drop-one s i h) ∙ if-true _ _ _ (eq-eqb _ _ e)
 
-  pub first-later : i < length s → ¬ (getD s i 0 ≡ b) → first b (drop i s) ≡ first b (drop (i + 1) s) + 1
-  unfolding first
-  first-later h e = ap (first b) (drop-one s i h) ∙ if-false _ _ _ (ne-eqb _ _ e) ∙ sym (add-one _)
+  pub first-later : i < length s → ¬ (getD s i 0 ≡ b) → index-of b (drop i s) ≡ index-of b (drop (i + 1) s) + 1
+  unfolding index-of
+  first-later h e = ap (index-of b) (drop-one s i h) ∙ if-false _ _ _ (ne-eqb _ _ e) ∙ sym (add-one _)
 
-  pub first-none : length s ≤ i → first b (drop i s) ≡ 0
-  unfolding first
-  first-none h = ap (first b) (drop-of-length-le s h)
+  pub first-none : length s ≤ i → index-of b (drop i s) ≡ 0
+  unfolding index-of
+  first-none h = ap (index-of b) (drop-of-length-le s h)

@@ -24,9 +24,9 @@ use Rattle.pattern.proofs.Tests.{if-true, if-false}
 use Rattle.pattern.specs.Print.{decimal}
 use Rattle.replies.specs.Sizes.{line-limit, budget, tab-byte, space-byte, refused-letter, number-room, coded-room, refused-room}
 use Rattle.replies.specs.Text.{coded-text, refused-text, unmatched-text, numbers-in, matched-text, ending-text}
-use Rattle.replies.specs.Reply.{first, cut-at, cut, Reply, ending-reply, label-reply, table-reply, source-reply, cut-reply, reply}
+use Rattle.replies.specs.Reply.{index-of, cut-at, cut, Reply, ending-reply, label-reply, table-reply, source-reply, cut-reply, reply}
 use Rattle.pattern.specs.Stores.{Puts}
-use Rattle.replies.specs.Stores.{Within, Replied}
+use Rattle.replies.specs.Stores.{PutsWithin, Replied}
 use Rattle.matcher.specs.declared.Matched as call
 use Rattle.matcher.specs.declared.Answer as called
 use Rattle.matcher.specs.Answered.{answer-of as numbers-of, outcome-of}
@@ -42,14 +42,14 @@ pub replied-same : {room : ℕ} {v w : Reply} {l s m : Bytes} {i j : ℕ} → v 
 replied-same {room} {v} {w} {l} {s} {m} {i} {j} e r = rw e at r
 
 -- a text with the scratch bytes that are there
-pub replied : {room : ℕ} {v l s m : Bytes} {i j : ℕ} → Within room v l i m j → Replied room (record { text = v; scratch = s }) l i s m j
+pub replied : {room : ℕ} {v l s m : Bytes} {i j : ℕ} → PutsWithin room v l i m j → Replied room (record { text = v; scratch = s }) l i s m j
 replied w = record { within = w; works = refl }
 
-pub stored-within : {v l m : Bytes} {i j : ℕ} (room : ℕ) → length v ≤ room → Puts l i v m j → Within room v l i m j
-stored-within room h s = record { stores = s; short = omega (arith, s .next) }
+pub store-at-within : {v l m : Bytes} {i j : ℕ} (room : ℕ) → length v ≤ room → Puts l i v m j → PutsWithin room v l i m j
+store-at-within room h s = record { stores = s; short = omega (arith, s .next) }
 
 -- in more room
-pub within-more : {room more : ℕ} {v l m : Bytes} {i j : ℕ} → room ≤ more → Within room v l i m j → Within more v l i m j
+pub within-more : {room more : ℕ} {v l m : Bytes} {i j : ℕ} → room ≤ more → PutsWithin room v l i m j → PutsWithin more v l i m j
 within-more h s = record { stores = s .stores; short = omega (arith, s .short) }
 
 -- the longest texts of a refusal
@@ -166,7 +166,7 @@ module _ (line scratch : Bytes) where
   unfolding reply bytes
   long-reply h = sym (if-true _ _ _ (lt-ltb _ _ h))
 
-  module _ (h : length line ≤ line-limit) (k : ℕ) (e : k ≡ first tab-byte line) where
+  module _ (h : length line ≤ line-limit) (k : ℕ) (e : k ≡ index-of tab-byte line) where
     short-reply : cut-reply (cut-at k line) scratch ≡ reply line scratch
     unfolding reply cut
     short-reply = ap (λ i. cut-reply (cut-at i line) scratch) e ∙ sym (if-false _ _ _ (le-ltb _ _ h))

@@ -13,7 +13,7 @@ use Rattle.pattern.specs.Bytes.{Bytes, zeroed}
 use Rattle.pattern.specs.Syntax.{pattern, Syntax, top-size}
 use Rattle.pattern.specs.Scan.{refuse}
 use Rattle.pattern.specs.Decode.{decode}
-use Rattle.pattern.specs.Answers.{compileOf, work, lent-fault, Ending, untried, exhausted, decided, ended}
+use Rattle.pattern.specs.Answers.{compileOf, scratch-needed, lent-fault, Ending, untried, exhausted, decided, ended}
 use Rattle.pattern.proofs.Calls.{match-cases}
 use Rattle.replies.specs.Sizes.{line-limit, budget}
 use Rattle.replies.specs.Reply.{cut, Reply, ending-reply, label-reply, table-reply, source-reply, cut-reply, reply}
@@ -55,11 +55,11 @@ zeroed-zero k s h z = ap (λ v. v ++ drop k s) (sym (take-blank k (length s) h) 
 -- ---- scratch of zeros stays so: after a match and after a line
 
 -- the planes of a match that isn't refused lie in scratch
-lent-work : (t : Syntax pattern) (label scratch parts : Bytes) → lent-fault t label scratch parts ≡ none → work t (length label) ≤ length scratch
+lent-work : (t : Syntax pattern) (label scratch parts : Bytes) → lent-fault t label scratch parts ≡ none → scratch-needed t (length label) ≤ length scratch
 unfolding lent-fault refuse
 lent-work t label scratch parts e =
-    ltb-false (length scratch) (work t (length label))
-    (go (ltb label-limit (length label)) (ltb (length scratch) (work t (length label))) (refuse ((ltb (length parts) (2 * top-size t), PARTS) ∷ [])) e)
+    ltb-false (length scratch) (scratch-needed t (length label))
+    (go (ltb label-limit (length label)) (ltb (length scratch) (scratch-needed t (length label))) (refuse ((ltb (length parts) (2 * top-size t), PARTS) ∷ [])) e)
   where
     go : (a b : Bool) (r : Option ℕ) → _≡_ {A = Option ℕ} (elim a [ true ↦ some LABEL | false ↦ elim b [ true ↦ some WORK | false ↦ r ] ]) none → b ≡ false
     go true b r e = absurd (let z : _≡_ {A = ℕ} 0 1 = cc in omega arith)

@@ -13,16 +13,16 @@ use Rattle.replies.specs.Sizes.{line-limit, scratch-size, budget, tab-by
 use Rattle.replies.specs.Text.{refused-text, ending-text}
 
 -- where a byte first stands, the length if it is not there
-unfoldable pub first : ℕ → Bytes → ℕ
-first b [] = 0
-first b (c ∷ s) = elim (eqb c b) [ true ↦ 0 | false ↦ suc (first b s) ]
+unfoldable pub index-of : ℕ → Bytes → ℕ
+index-of b [] = 0
+index-of b (c ∷ s) = elim (eqb c b) [ true ↦ 0 | false ↦ suc (index-of b s) ]
 
 -- "source, tab, label, cut at the first tab"
 unfoldable pub cut-at : (k : ℕ) → Bytes → Option (Bytes × Bytes)
 cut-at k line = elim (ltb k (length line)) [ true ↦ some (take k line, drop (suc k) line) | false ↦ none ]
 
 unfoldable pub cut : Bytes → Option (Bytes × Bytes)
-cut line = cut-at (first tab-byte line) line
+cut line = cut-at (index-of tab-byte line) line
 
 -- what is written for a line, and the scratch bytes afterwards
 pub record Reply : Type 0 where

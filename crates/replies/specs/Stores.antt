@@ -11,11 +11,11 @@ abbrev pub Zero : Bytes → Type 0
 Zero s = s ≡ replicate (length s) 0
 
 -- a text is stored from a place on, and ends at another, within so many bytes
-pub record Within (room : ℕ) (text out : Bytes) (at : ℕ) (after : Bytes) (end : ℕ) : Type 0 where
+pub record PutsWithin (room : ℕ) (text out : Bytes) (at : ℕ) (after : Bytes) (end : ℕ) : Type 0 where
   pub stores : Puts out at text after end
   pub short : end ≤ at + room
 
 -- a reply is stored so, and scratch is what it says
 pub record Replied (room : ℕ) (reply : Reply) (out : Bytes) (at : ℕ) (scratch′ out′ : Bytes) (end : ℕ) : Type 0 where
-  pub within : Within room (reply .text) out at out′ end
+  pub within : PutsWithin room (reply .text) out at out′ end
   pub works : scratch′ ≡ reply .scratch

@@ -6,7 +6,7 @@ ghost use Rattle.pattern.specs.Decode.{decode};
 ghost use Rattle.table.specs.declared.Tested.the-variants.{Good};
 ghost use Rattle.table.specs.Walk.{tested};
 ghost use Rattle.replies.specs.Sizes.{tab-byte, reply-room};
-ghost use Rattle.replies.specs.Reply.{first, label-reply, source-reply, reply, answer-to};
+ghost use Rattle.replies.specs.Reply.{index-of, label-reply, source-reply, reply, answer-to};
 ghost use Rattle.replies.specs.Stores.{Replied};
 use crate::sizes::BUDGET;
 use crate::sizes::LINE_LIMIT;
@@ -23,7 +23,7 @@ use table::write::TABLE_ROOM;
 
 // Where the first tab stands, the length if there is none.
 fn tab_at(line: &[u8]) -> usize
-    ensures { λ r. ⌜ r ≡ first tab-byte (now (line .entry)) ⌝ }
+    ensures { λ r. ⌜ r ≡ index-of tab-byte (now (line .entry)) ⌝ }
 {
     let mut i = 0;
     while i < line.len() {

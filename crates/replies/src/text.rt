@@ -6,7 +6,7 @@ ghost use Rattle.replies.specs.Sizes.{coded-room, refused-room, part-roo
 ghost use Rattle.pattern.specs.Print.{decimal};
 ghost use Rattle.replies.specs.Text.{coded-text, refused-text, unmatched-text, numbers-in, matched-text};
 ghost use Rattle.pattern.specs.Stores.{Puts};
-ghost use Rattle.replies.specs.Stores.{Within};
+ghost use Rattle.replies.specs.Stores.{PutsWithin};
 use crate::sizes::SPACE;
 use stores::decimal::put_decimal;
 use stores::put_byte;
@@ -51,7 +51,7 @@ fn put_part(before: u8, low: u8, high: u8, out: &mut [u8], at: usize) -> usize
 // A verdict of yes with its parts.
 pub fn put_matched(parts: &[u8], out: &mut [u8], at: usize) -> usize
     requires { ⌜ at + 1 + 3 * length (now parts) ≤ length (now out) ⌝ }
-    ensures { λ r. ⌜ Within (1 + 3 * length (now (parts .entry))) (matched-text (numbers-in (now (parts .entry)))) (now (out .entry)) at (now (out .exit)) r ⌝ }
+    ensures { λ r. ⌜ PutsWithin (1 + 3 * length (now (parts .entry))) (matched-text (numbers-in (now (parts .entry)))) (now (out .entry)) at (now (out .exit)) r ⌝ }
 {
     let mut end = put_byte(out, at, b'1');
     let mut i = 0;

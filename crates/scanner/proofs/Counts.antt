@@ -14,9 +14,9 @@ use Rattle.pattern.specs.Numbers.{number-limit, atom-limit, open-high, FORM, NU
 use Rattle.pattern.specs.Bytes.{Bytes}
 use Rattle.pattern.specs.Table.{high-field}
 use Rattle.pattern.specs.Repeats.{repeat-of}
-use Rattle.pattern.specs.Spelling.{Mark, digit, point, Kind, counts, starts, ends, kind}
-use Rattle.pattern.specs.Reading.{Run, empty, first, pointed, second, counting, Around, grow, move, step, finish}
-use Rattle.pattern.specs.Scan.{low, high, ahead, large, falls, refuse, atom-fault}
+use Rattle.pattern.specs.Grammar.{CountChar, digit, point, CharClass, count-char, body-start, branch-end, char-class}
+use Rattle.pattern.specs.Parser.{CountState, empty, first, pointed, second, counting, Stack, grow, move, step, finish}
+use Rattle.pattern.specs.Scan.{low, high, longest-count, large, falls, refuse, atom-fault}
 use Rattle.pattern.specs.declared.repeat.Repeat.{Repeat}
 use Rattle.pattern.proofs.Tests.{le-or-lt}
 use Rattle.pattern.proofs.TableRows.{atom-fault-is}
@@ -24,15 +24,15 @@ use Rattle.scanner.specs.declared.cursor.Cursor.{Cursor}
 use Rattle.scanner.specs.declared.cursor.Point.{Point}
 use Rattle.scanner.specs.declared.cursor.Point.the-variants as points
 use Rattle.scanner.specs.declared.count.Number.{Number}
-use Rattle.scanner.specs.declared.count.Counted.{Counted}
-use Rattle.scanner.specs.declared.count.Counted.the-variants as counted
-use Rattle.scanner.specs.Places.{kind-at, KindIs, Kind-not, PointRead}
+use Rattle.scanner.specs.declared.count.CountResult.{CountResult}
+use Rattle.scanner.specs.declared.count.CountResult.the-variants as counted
+use Rattle.scanner.specs.Places.{class-at, ClassIs, ClassNot, PointPost}
 use Rattle.scanner.specs.Scans.{scanned}
-use Rattle.scanner.specs.Counts.{lead, number, cap, large-number, NumberRead, judge, CountRead}
+use Rattle.scanner.specs.Counts.{lead, number, cap, large-number, DigitsPost, check-count, CountPost}
 use Rattle.scanner.proofs.Pass.{over, past-count, count-scan, ending-refused, ending-passed}
 use Rattle.scanner.proofs.Steps.{stuck, short}
 use Rattle.scanner.proofs.Numbers.{cap-small, cap-large, cap-least, lead-more}
-use Rattle.scanner.proofs.Runs.{Runs, Stops, run-stops, digit-begins, runs-exact, runs-open, runs-closed}
+use Rattle.scanner.proofs.Runs.{CountTaken, Stops, run-stops, digit-begins, runs-exact, runs-open, runs-closed}
 
 -- a high number, held
 abbrev cap-high : Option ℕ → Option ℕ
@@ -50,11 +50,11 @@ falls-cap lo (some m) h =
     (⊎-elim (λ g. ap (λ x. ltb x lo) (cap-small m g)) (λ g. ap (λ x. ltb x lo) (cap-large m g) ∙ le-ltb large-number lo (omega arith) ∙ sym (le-ltb m lo (omega arith))) (le-or-lt m number-limit))
 
 -- what is answered for a fault at a place, or for none
-abbrev answered : Option ℕ → ℕ → Counted → Counted
+abbrev answered : Option ℕ → ℕ → CountResult → CountResult
 answered none i z = z
 answered (some f) i z = counted.Fault f i
 
-chain : (a b c : Bool) (i : ℕ) (z : Counted) → cond a (counted.Fault NUMBER i) (cond b (counted.Fault RANGE i) (cond c (counted.Fault ATOMS i) z))
+chain : (a b c : Bool) (i : ℕ) (z : CountResult) → cond a (counted.Fault NUMBER i) (cond b (counted.Fault RANGE i) (cond c (counted.Fault ATOMS i) z))
     ≡ answered (refuse ((a, NUMBER) ∷ (b, RANGE) ∷ (c, ATOMS) ∷ [])) i z
 unfolding refuse
 chain true b c i z = refl
@@ -62,13 +62,13 @@ chain false true c i z = refl
 chain false false true i z = refl
 chain false false false i z = refl
 
-module _ (n : ℕ) (r : Run) where
+module _ (n : ℕ) (r : CountState) where
   judge-is : (rep : Repeat) (i from : ℕ) (end : Cursor) → rep .low ≡ cap (low r) → rep .high ≡ high-field (cap-high (high r))
-      → judge rep n i from end ≡ answered (atom-fault n r) i (cond (eqb (rep .high) large-number) (counted.Fault NUMBER from) (counted.Repeat rep end))
-  unfolding judge
+      → check-count rep n i from end ≡ answered (atom-fault n r) i (cond (eqb (rep .high) large-number) (counted.Fault NUMBER from) (counted.Repeat rep end))
+  unfolding check-count
   judge-is rep i from end l h = go (ltb number-limit (low r)) refl ∙ ap (λ o. answered o i z) (sym (atom-fault-is n r))
     where
-      z : Counted
+      z : CountResult
       z = cond (eqb (rep .high) large-number) (counted.Fault NUMBER from) (counted.Repeat rep end)
 
       a : ltb number-limit (rep .low) ≡ ltb number-limit (low r)
@@ -95,7 +95,7 @@ module _ (n : ℕ) (r : Run) where
       go false e false false f h = (ltb-false number-limit (low r) e, leb-false atom-limit n f)
 
 -- the held high number tells whether a second number is too large
-over-high : (r : Run) → low r ≤ number-limit → eqb (high-field (cap-high (high r))) large-number ≡ over r
+over-high : (r : CountState) → low r ≤ number-limit → eqb (high-field (cap-high (high r))) large-number ≡ over r
 unfolding low high over large
 over-high empty h = refl
 over-high (first x) h = ne-eqb (cap x) large-number (λ e. omega (arith, cap-small x h))
@@ -107,7 +107,7 @@ over-high (second x y) h =
     (le-or-lt y number-limit)
 
 -- and where it is not, nothing was held
-same-high : (r : Run) → low r ≤ number-limit → over r ≡ false → high-field (cap-high (high r)) ≡ high-field (high r)
+same-high : (r : CountState) → low r ≤ number-limit → over r ≡ false → high-field (cap-high (high r)) ≡ high-field (high r)
 unfolding low high over large
 same-high empty h o = refl
 same-high (first x) h o = cap-small x h
@@ -115,28 +115,28 @@ same-high (pointed x) h o = refl
 same-high (second x y) h o = cap-small y (ltb-false number-limit y o)
 
 -- a count that begins at i
-module _ (s : Bytes) (i n : ℕ) (x : Mark) (w : i < length s) (e : kind-at s i ≡ counts x) (r : Run) (m : ℕ) (runs : Runs empty (drop i s) r m) where
-  counted-scan : (k : Around) → scanned s (counting empty, k) i n ≡ past-count k i n (drop i s)
+module _ (s : Bytes) (i n : ℕ) (x : CountChar) (w : i < length s) (e : class-at s i ≡ count-char x) (r : CountState) (m : ℕ) (runs : CountTaken empty (drop i s) r m) where
+  counted-scan : (k : Stack) → scanned s (counting empty, k) i n ≡ past-count k i n (drop i s)
   counted-scan k = rw (drop-cons s i 0) (count-scan (getD s i 0) (drop (suc i) s) x k i n e)
 
-  same-fault : (o : Option ℕ) → atom-fault n r ≡ o → atom-fault n (ahead empty (drop i s)) ≡ o
+  same-fault : (o : Option ℕ) → atom-fault n r ≡ o → atom-fault n (longest-count empty (drop i s)) ≡ o
   same-fault o f = rw (runs .run) f
 
-  refused-first : (f : ℕ) → atom-fault n r ≡ some f → CountRead s i n (counted.Fault f i)
-  unfolding CountRead past-count
+  refused-first : (f : ℕ) → atom-fault n r ≡ some f → CountPost s i n (counted.Fault f i)
+  unfolding CountPost past-count
   refused-first f h = record { scan = λ k. counted-scan k ∙ rw (same-fault (some f) h, past-count) }
 
-  refused-second : atom-fault n r ≡ none → over r ≡ true → CountRead s i n (counted.Fault NUMBER (i + suc (lead (drop i s))))
-  unfolding CountRead past-count
-  refused-second h o = record { scan = λ k. counted-scan k ∙ rw (same-fault none h, past-count) (ending-refused (ahead empty (drop i s)) k _ _ _ _ (rw (runs .run) o)) }
+  refused-second : atom-fault n r ≡ none → over r ≡ true → CountPost s i n (counted.Fault NUMBER (i + suc (lead (drop i s))))
+  unfolding CountPost past-count
+  refused-second h o = record { scan = λ k. counted-scan k ∙ rw (same-fault none h, past-count) (ending-refused (longest-count empty (drop i s)) k _ _ _ _ (rw (runs .run) o)) }
 
-  passed : atom-fault n r ≡ none → over r ≡ false → (k : Around) → scanned s (counting empty, k) i n ≡ scanned s (counting r, k) (i + m) (suc n)
+  passed : atom-fault n r ≡ none → over r ≡ false → (k : Stack) → scanned s (counting empty, k) i n ≡ scanned s (counting r, k) (i + m) (suc n)
   unfolding past-count
   passed h o k =
       counted-scan k
-      ∙ rw (same-fault none h, past-count) (ending-passed (ahead empty (drop i s)) k _ _ _ _ (rw (runs .run) o) ∙ rw (runs .run, runs .size, drop-drop))
+      ∙ rw (same-fault none h, past-count) (ending-passed (longest-count empty (drop i s)) k _ _ _ _ (rw (runs .run) o) ∙ rw (runs .run, runs .size, drop-drop))
 
-  stops-there : (j : ℕ) → j ≡ i + m → j < length s → (y : Mark) → kind-at s j ≡ counts y → grow r y (getD s j 0) ≡ none
+  stops-there : (j : ℕ) → j ≡ i + m → j < length s → (y : CountChar) → class-at s j ≡ count-char y → grow r y (getD s j 0) ≡ none
   stops-there j g v y k =
       let a : drop m (drop i s) ≡ getD s j 0 ∷ drop (suc j) s = drop-drop m i s ∙ ap (λ x. drop x s) (sym g) ∙ drop-cons s j 0 v in
       let b : Stops r (getD s j 0 ∷ drop (suc j) s) = rw (runs .run, runs .size, a) at (run-stops (drop i s) empty) in
@@ -144,14 +144,14 @@ module _ (s : Bytes) (i n : ℕ) (x : Mark) (w : i < length s) (e : kind-at s i 
 
   pub judged-right : (rep : Repeat) (from : ℕ) (end : Cursor) → rep .low ≡ cap (low r) → rep .high ≡ high-field (cap-high (high r))
       → (over r ≡ true → from ≡ i + suc (lead (drop i s))) → end .at ≡ i + m → 0 < m → end .at ≤ length s → ¬ (r ≡ empty)
-      → CountRead s i n (judge rep n i from end)
+      → CountPost s i n (check-count rep n i from end)
   judged-right rep from end l h f g p t d = rw (judge-is n r rep i from end l h) (go (atom-fault n r) refl)
     where
-      last : atom-fault n r ≡ none → (b : Bool) → over r ≡ b → CountRead s i n (cond b (counted.Fault NUMBER from) (counted.Repeat rep end))
+      last : atom-fault n r ≡ none → (b : Bool) → over r ≡ b → CountPost s i n (cond b (counted.Fault NUMBER from) (counted.Repeat rep end))
       last u true o = rw (f o) (refused-second u o)
       last u false o =
           let (a, b) = no-fault n r u in
-          unfold CountRead in record {
+          unfold CountPost in record {
             run = r;
             some-run = d;
             rep-is = λ j. record { low = (l ∙ cap-small (low r) a) j; high = (h ∙ same-high r a o) j };
@@ -161,7 +161,7 @@ module _ (s : Bytes) (i n : ℕ) (x : Mark) (w : i < length s) (e : kind-at s i 
             scan = λ k. rw g (passed u o k);
           }
 
-      go : (o : Option ℕ) → atom-fault n r ≡ o → CountRead s i n (answered o i (cond (eqb (rep .high) large-number) (counted.Fault NUMBER from) (counted.Repeat rep end)))
+      go : (o : Option ℕ) → atom-fault n r ≡ o → CountPost s i n (answered o i (cond (eqb (rep .high) large-number) (counted.Fault NUMBER from) (counted.Repeat rep end)))
       go (some y) u = refused-first y u
       go none u =
           let (a, b) = no-fault n r u in
@@ -176,33 +176,33 @@ abbrev high-of : Repeat → ℕ
 high-of rep = rep .high
 
 -- the count from its digits and its point
-module _ (s : Bytes) (i n : ℕ) (a : Number) (d : NumberRead s i a) (p : Point) (f : PointRead s (a .end .at) p) where
+module _ (s : Bytes) (i n : ℕ) (a : Number) (d : DigitsPost s i a) (p : Point) (f : PointPost s (a .end .at) p) where
   -- no count at all
-  not-counted : (x : Kind) → ¬ (x ≡ counts digit) → ¬ (x ≡ counts point) → (k : Around) (c : ℕ) → move (counting empty) k x c ≡ none
+  not-counted : (x : CharClass) → ¬ (x ≡ count-char digit) → ¬ (x ≡ count-char point) → (k : Stack) (c : ℕ) → move (counting empty) k x c ≡ none
   unfolding move
-  not-counted (counts digit) u v k c = absurd (u refl)
-  not-counted (counts point) u v k c = absurd (v refl)
-  not-counted (starts b) u v k c = refl
-  not-counted (ends b) u v k c = refl
+  not-counted (count-char digit) u v k c = absurd (u refl)
+  not-counted (count-char point) u v k c = absurd (v refl)
+  not-counted (body-start b) u v k c = refl
+  not-counted (branch-end b) u v k c = refl
 
-  pub count-form : p ≡ points.None → a .end .at ≡ i → CountRead s i n (counted.Fault FORM i)
-  unfolding CountRead PointRead step finish
+  pub count-form : p ≡ points.None → a .end .at ≡ i → CountPost s i n (counted.Fault FORM i)
+  unfolding CountPost PointPost step finish
   count-form e g =
       let z : lead (drop i s) ≡ 0 = omega (arith, d .end) in
-      let q : Kind-not s i (counts point) = rw g at (subst (λ p. PointRead s (a .end .at) p) e f) in
+      let q : ClassNot s i (count-char point) = rw g at (subst (λ p. PointPost s (a .end .at) p) e f) in
       record {
         scan = λ k. ⊎-elim
             (λ h. short s i n h (counting empty, k) refl)
-            (λ h. stuck s i n h (counting empty, k) (not-counted (kind-at s i) (λ u. omega (arith, z, ap lead (drop-cons s i 0 h), lead-more (getD s i 0) (drop (suc i) s) u)) (q .not h) k (getD s i 0)))
+            (λ h. stuck s i n h (counting empty, k) (not-counted (class-at s i) (λ u. omega (arith, z, ap lead (drop-cons s i 0 h), lead-more (getD s i 0) (drop (suc i) s) u)) (q .not h) k (getD s i 0)))
             (le-or-lt (length s) i);
       }
 
-  pub count-exact : (rep : Repeat) (r : Counted) → p ≡ points.None → ¬ (a .end .at ≡ i) → rep ≡ repeat-of (a .value) (some (a .value)) → r ≡ judge rep n i i (a .end) → CountRead s i n r
-  unfolding PointRead low high over
+  pub count-exact : (rep : Repeat) (r : CountResult) → p ≡ points.None → ¬ (a .end .at ≡ i) → rep ≡ repeat-of (a .value) (some (a .value)) → r ≡ check-count rep n i i (a .end) → CountPost s i n r
+  unfolding PointPost low high over
   count-exact rep r e g h j =
       let z : 0 < lead (drop i s) = ⊎-elim (λ u. absurd (g (omega (arith, d .end)))) (λ u. u) (le-or-lt (lead (drop i s)) 0) in
       let (w, k) = digit-begins s i z in
-      let q : Kind-not s (i + lead (drop i s)) (counts point) = rw (d .end) at (subst (λ p. PointRead s (a .end .at) p) e f) in
+      let q : ClassNot s (i + lead (drop i s)) (count-char point) = rw (d .end) at (subst (λ p. PointPost s (a .end .at) p) e f) in
       rw j
       (judged-right s i n digit w k (first (number 0 (drop i s))) (lead (drop i s)) (runs-exact s i z q)
       rep i (a .end) (ap low-of h ∙ d .value) (ap high-of h ∙ d .value)
@@ -210,14 +210,14 @@ module _ (s : Bytes) (i n : ℕ) (a : Number) (d : NumberRead s i a) (p : Point)
       (λ o. let y : _≡_ {A = ℕ} 0 1 = cc in omega arith))
 
   module _ (next : Cursor) (e : p ≡ points.Is next) where
-    point-here : KindIs s (i + lead (drop i s)) (counts point) next
-    unfolding PointRead
-    point-here = rw (d .end) at (subst (λ p. PointRead s (a .end .at) p) e f)
+    point-here : ClassIs s (i + lead (drop i s)) (count-char point) next
+    unfolding PointPost
+    point-here = rw (d .end) at (subst (λ p. PointPost s (a .end .at) p) e f)
 
     pub point-within : next .at ≤ length s
     point-within = let k = point-here in omega (arith, k .within, k .past)
 
-    begins-so : (x : Mark) × (i < length s) × (kind-at s i ≡ counts x)
+    begins-so : (x : CountChar) × (i < length s) × (class-at s i ≡ count-char x)
     begins-so =
         let k = point-here in
         ⊎-elim
@@ -225,8 +225,8 @@ module _ (s : Bytes) (i n : ℕ) (a : Number) (d : NumberRead s i a) (p : Point)
         (λ u. let (w, e) = digit-begins s i u in (digit, w, e))
         (le-or-lt (lead (drop i s)) 0)
 
-    module _ (b : Number) (c : NumberRead s (next .at) b) (rep : Repeat) (r : Counted) (j : r ≡ judge rep n i (next .at) (b .end)) where
-      pub count-open : b .end .at ≡ next .at → rep ≡ repeat-of (a .value) none → CountRead s i n r
+    module _ (b : Number) (c : DigitsPost s (next .at) b) (rep : Repeat) (r : CountResult) (j : r ≡ check-count rep n i (next .at) (b .end)) where
+      pub count-open : b .end .at ≡ next .at → rep ≡ repeat-of (a .value) none → CountPost s i n r
       unfolding low high over
       count-open g h =
           let (x, w, k) = begins-so in
@@ -238,7 +238,7 @@ module _ (s : Bytes) (i n : ℕ) (a : Number) (d : NumberRead s i a) (p : Point)
           (λ o. let y : _≡_ {A = ℕ} 0 1 = cc in absurd (omega arith)) (omega (arith, t .past)) (omega arith) (c .within)
           (λ o. let y : _≡_ {A = ℕ} 0 1 = cc in omega arith))
 
-      pub count-closed : ¬ (b .end .at ≡ next .at) → rep ≡ repeat-of (a .value) (some (b .value)) → CountRead s i n r
+      pub count-closed : ¬ (b .end .at ≡ next .at) → rep ≡ repeat-of (a .value) (some (b .value)) → CountPost s i n r
       unfolding low high
       count-closed g h =
           let (x, w, k) = begins-so in

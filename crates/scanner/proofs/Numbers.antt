@@ -9,14 +9,14 @@ use lib.Seq.{drop-cons}
 use borrow.Author.Tests.{le-leb, lt-leb}
 use Rattle.pattern.specs.Numbers.{number-limit}
 use Rattle.pattern.specs.Bytes.{Bytes}
-use Rattle.pattern.specs.Spelling.{digit, point, Kind, counts, starts, ends, kind}
+use Rattle.pattern.specs.Grammar.{digit, point, CharClass, count-char, body-start, branch-end, char-class}
 use Rattle.pattern.proofs.Tests.{le-or-lt}
 use Rattle.scanner.specs.declared.cursor.Cursor.{Cursor}
 use Rattle.scanner.specs.declared.cursor.Digit.{Digit}
 use Rattle.scanner.specs.declared.cursor.Digit.the-variants as digits
 use Rattle.scanner.specs.declared.count.Number.{Number}
-use Rattle.scanner.specs.Places.{Onward, Kind-not, DigitRead}
-use Rattle.scanner.specs.Counts.{lead, number, cap, large-number, NumberRead}
+use Rattle.scanner.specs.Places.{Onward, ClassNot, DigitPost}
+use Rattle.scanner.specs.Counts.{lead, number, cap, large-number, DigitsPost}
 
 pub cap-small : (x : ℕ) → x ≤ number-limit → cap x ≡ x
 unfolding cap
@@ -41,43 +41,43 @@ unfolding number
 number-nil v = refl
 
 module _ (c : ℕ) (l : Bytes) where
-  pub lead-more : kind c ≡ counts digit → lead (c ∷ l) ≡ suc (lead l)
+  pub lead-more : char-class c ≡ count-char digit → lead (c ∷ l) ≡ suc (lead l)
   unfolding lead
   lead-more e = rw (e, lead)
 
-  pub number-more : (v : ℕ) → kind c ≡ counts digit → number v (c ∷ l) ≡ number (10 * v + (c - 48)) l
+  pub number-more : (v : ℕ) → char-class c ≡ count-char digit → number v (c ∷ l) ≡ number (10 * v + (c - 48)) l
   unfolding number
   number-more v e = rw (e, number)
 
-  pub no-lead : ¬ (kind c ≡ counts digit) → lead (c ∷ l) ≡ 0
+  pub no-lead : ¬ (char-class c ≡ count-char digit) → lead (c ∷ l) ≡ 0
   unfolding lead
-  no-lead d = go (kind c) refl
+  no-lead d = go (char-class c) refl
     where
-      go : (x : Kind) → kind c ≡ x → lead (c ∷ l) ≡ 0
-      go (counts digit) e = absurd (d e)
-      go (counts point) e = rw (e, lead)
-      go (starts b) e = rw (e, lead)
-      go (ends b) e = rw (e, lead)
+      go : (x : CharClass) → char-class c ≡ x → lead (c ∷ l) ≡ 0
+      go (count-char digit) e = absurd (d e)
+      go (count-char point) e = rw (e, lead)
+      go (body-start b) e = rw (e, lead)
+      go (branch-end b) e = rw (e, lead)
 
-  pub no-number : (v : ℕ) → ¬ (kind c ≡ counts digit) → number v (c ∷ l) ≡ v
+  pub no-number : (v : ℕ) → ¬ (char-class c ≡ count-char digit) → number v (c ∷ l) ≡ v
   unfolding number
-  no-number v d = go (kind c) refl
+  no-number v d = go (char-class c) refl
     where
-      go : (x : Kind) → kind c ≡ x → number v (c ∷ l) ≡ v
-      go (counts digit) e = absurd (d e)
-      go (counts point) e = rw (e, number)
-      go (starts b) e = rw (e, number)
-      go (ends b) e = rw (e, number)
+      go : (x : CharClass) → char-class c ≡ x → number v (c ∷ l) ≡ v
+      go (count-char digit) e = absurd (d e)
+      go (count-char point) e = rw (e, number)
+      go (body-start b) e = rw (e, number)
+      go (branch-end b) e = rw (e, number)
 
 -- a byte is a digit or not
-pub digit-or : (c : ℕ) → (kind c ≡ counts digit) ⊎ ¬ (kind c ≡ counts digit)
-digit-or c = go (kind c)
+pub digit-or : (c : ℕ) → (char-class c ≡ count-char digit) ⊎ ¬ (char-class c ≡ count-char digit)
+digit-or c = go (char-class c)
   where
-    go : (x : Kind) → (x ≡ counts digit) ⊎ ¬ (x ≡ counts digit)
-    go (counts digit) = inl refl
-    go (counts point) = inr (λ f. let z : _≡_ {A = ℕ} 0 1 = cc in omega arith)
-    go (starts b) = inr (λ f. let z : _≡_ {A = ℕ} 0 1 = cc in omega arith)
-    go (ends b) = inr (λ f. let z : _≡_ {A = ℕ} 0 1 = cc in omega arith)
+    go : (x : CharClass) → (x ≡ count-char digit) ⊎ ¬ (x ≡ count-char digit)
+    go (count-char digit) = inl refl
+    go (count-char point) = inr (λ f. let z : _≡_ {A = ℕ} 0 1 = cc in omega arith)
+    go (body-start b) = inr (λ f. let z : _≡_ {A = ℕ} 0 1 = cc in omega arith)
+    go (branch-end b) = inr (λ f. let z : _≡_ {A = ℕ} 0 1 = cc in omega arith)
 
 -- a number only grows
 number-grows : (l : Bytes) (v : ℕ) → v ≤ number v l
@@ -95,7 +95,7 @@ cap-number x l =
     (le-or-lt x number-limit)
 
 -- no digit stands at a place
-nothing-leads : (s : Bytes) (at : ℕ) → Kind-not s at (counts digit) → (lead (drop at s) ≡ 0) × ((v : ℕ) → number v (drop at s) ≡ v)
+nothing-leads : (s : Bytes) (at : ℕ) → ClassNot s at (count-char digit) → (lead (drop at s) ≡ 0) × ((v : ℕ) → number v (drop at s) ≡ v)
 nothing-leads s at d = ⊎-elim
     (λ g. let e : drop at s ≡ [] = drop-of-length-le s g in rw e (lead-nil, number-nil))
     (λ g. rw (drop-cons s at 0 g) (no-lead (getD s at 0) (drop (suc at) s) (d .not g), λ v. no-number (getD s at 0) (drop (suc at) s) v (d .not g)))
@@ -111,21 +111,21 @@ pub record Digits (s : Bytes) (i at v : ℕ) : Type 0 where
 pub digits-start : (s : Bytes) (i : ℕ) → i ≤ length s → Digits s i i 0
 digits-start s i h = record { within = h; small = omega arith; value = refl; end = refl }
 
-module _ (s : Bytes) (i at v : ℕ) (g : Digits s i at v) (r : Digit) (read : DigitRead s at r) where
+module _ (s : Bytes) (i at v : ℕ) (g : Digits s i at v) (r : Digit) (read : DigitPost s at r) where
   module _ (d : ℕ) (next : Cursor) (e : r ≡ digits.Is d next) where
-    digit-read : DigitRead s at (digits.Is d next)
-    digit-read = subst (λ r. DigitRead s at r) e read
+    digit-read : DigitPost s at (digits.Is d next)
+    digit-read = subst (λ r. DigitPost s at r) e read
 
     pub digit-small : d ≤ 9
-    unfolding DigitRead
+    unfolding DigitPost
     digit-small = digit-read .2
 
     pub digit-past : Onward s at next
-    unfolding DigitRead
+    unfolding DigitPost
     digit-past = let k = digit-read .0 in record { on = omega (arith, k .past); within = omega (arith, k .past, k .within) }
 
     pub digits-more : (w : ℕ) → w ≤ large-number → w ≡ cap (10 * v + d) → Digits s i (next .at) w
-    unfolding DigitRead
+    unfolding DigitPost
     digits-more w h f =
         let (k, x, y) = digit-read in
         record {
@@ -137,10 +137,10 @@ module _ (s : Bytes) (i at v : ℕ) (g : Digits s i at v) (r : Digit) (read : Di
           end = g .end ∙ rw (drop-cons s at 0 (k .within), lead-more (getD s at 0) (drop (suc at) s) (k .kind), k .past) (omega arith);
         }
 
-  pub digits-end : (n : Number) → n .value ≡ v → n .end .at ≡ at → r ≡ digits.None → NumberRead s i n
-  unfolding DigitRead
+  pub digits-end : (n : Number) → n .value ≡ v → n .end .at ≡ at → r ≡ digits.None → DigitsPost s i n
+  unfolding DigitPost
   digits-end n x y e =
-      let (a, b) = nothing-leads s at (subst (λ r. DigitRead s at r) e read) in
+      let (a, b) = nothing-leads s at (subst (λ r. DigitPost s at r) e read) in
       record {
         value = x ∙ sym (g .value ∙ rw (b v) (cap-self v (g .small)));
         end = omega (arith, g .end);

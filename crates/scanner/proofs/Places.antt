@@ -8,59 +8,59 @@ use lib.ListN.{length}
 use borrow.Author.Tests.{leb-true, lt-ltb, le-ltb}
 use denote.Enum.Declared.{tagOf}
 use Rattle.pattern.specs.Bytes.{Bytes, between}
-use Rattle.pattern.specs.Spelling.{letter, quote, opening, digit, point, Kind, counts, starts, ends, kind, text}
+use Rattle.pattern.specs.Grammar.{letter, quote, opening, digit, point, CharClass, count-char, body-start, branch-end, char-class, literal-class}
 use Rattle.pattern.proofs.Tests.{agree, agreed, all, all-at}
-use Rattle.pattern.proofs.Notation.{Byte as Spelt, kind-byte}
+use Rattle.pattern.proofs.Notation.{Byte as Spelt, class-byte}
 use Rattle.scanner.specs.declared.cursor.Cursor.{Cursor}
 use Rattle.scanner.specs.declared.cursor.Byte.{Byte}
 use Rattle.scanner.specs.declared.cursor.Byte.the-variants as byte
 use Rattle.scanner.specs.declared.cursor.Class.{Class}
 use Rattle.scanner.specs.declared.cursor.Class.the-variants as class
-use Rattle.scanner.specs.Places.{digit-kind, letter-kind, is-digit, is-letter, is-plain, count-flag, flag, ByteIs, KindIs, LetterIs, Kind-not, ByteRead, ClassRead}
+use Rattle.scanner.specs.Places.{digit-class, letter-class, is-digit, is-letter, is-plain, count-flag, flag, ByteIs, ClassIs, LetterIs, ClassNot, BytePost, ClassPost}
 use Rattle.scanner.proofs.cursor.Class.{the-type}
 
 -- the code's tests of a byte, each compared at all 256 of them
 pub digit-test : (b : ℕ) → b < 256 → cond (leb 48 b) (leb b 57) false ≡ is-digit b
-unfolding is-digit kind between all agree
+unfolding is-digit char-class between all agree
 digit-test b h = agreed _ _ (all-at 256 (λ b. agree (cond (leb 48 b) (leb b 57) false) (is-digit b)) tt b h)
 
 pub letter-test : (b : ℕ) → b < 256 → cond (leb b 90) (leb 65 b) (cond (leb 97 b) (leb b 122) false) ≡ is-letter b
-unfolding is-letter kind between all agree
+unfolding is-letter char-class between all agree
 letter-test b h = agreed _ _ (all-at 256 (λ b. agree (cond (leb b 90) (leb 65 b) (cond (leb 97 b) (leb b 122) false)) (is-letter b)) tt b h)
 
 pub plain-test : (b : ℕ) → b < 256 → cond (eqb b 34) false (cond (leb 32 b) (leb b 126) false) ≡ is-plain b
-unfolding is-plain text between all agree
+unfolding is-plain literal-class between all agree
 plain-test b h = agreed _ _ (all-at 256 (λ b. agree (cond (eqb b 34) false (cond (leb 32 b) (leb b 126) false)) (is-plain b)) tt b h)
 
 -- what they say of its kind
-pub digit-is : (b : ℕ) → is-digit b ≡ true → kind b ≡ counts digit
+pub digit-is : (b : ℕ) → is-digit b ≡ true → char-class b ≡ count-char digit
 unfolding is-digit
-digit-is b e = go (kind b) e
+digit-is b e = go (char-class b) e
   where
-    go : (x : Kind) → digit-kind x ≡ true → x ≡ counts digit
-    go (counts digit) h = refl
-    go (counts point) h = cc
-    go (starts x) h = cc
-    go (ends x) h = cc
+    go : (x : CharClass) → digit-class x ≡ true → x ≡ count-char digit
+    go (count-char digit) h = refl
+    go (count-char point) h = cc
+    go (body-start x) h = cc
+    go (branch-end x) h = cc
 
-pub digit-not : (b : ℕ) → is-digit b ≡ false → ¬ (kind b ≡ counts digit)
+pub digit-not : (b : ℕ) → is-digit b ≡ false → ¬ (char-class b ≡ count-char digit)
 unfolding is-digit
-digit-not b e h = let z : true ≡ false = sym (ap digit-kind h) ∙ e in let y : _≡_ {A = ℕ} 0 1 = cc in omega arith
+digit-not b e h = let z : true ≡ false = sym (ap digit-class h) ∙ e in let y : _≡_ {A = ℕ} 0 1 = cc in omega arith
 
-letter-is : (b : ℕ) → is-letter b ≡ true → kind b ≡ starts letter
+letter-is : (b : ℕ) → is-letter b ≡ true → char-class b ≡ body-start letter
 unfolding is-letter
-letter-is b e = go (kind b) e
+letter-is b e = go (char-class b) e
   where
-    go : (x : Kind) → letter-kind x ≡ true → x ≡ starts letter
-    go (counts x) h = cc
-    go (starts letter) h = refl
-    go (starts quote) h = cc
-    go (starts opening) h = cc
-    go (ends x) h = cc
+    go : (x : CharClass) → letter-class x ≡ true → x ≡ body-start letter
+    go (count-char x) h = cc
+    go (body-start letter) h = refl
+    go (body-start quote) h = cc
+    go (body-start opening) h = cc
+    go (branch-end x) h = cc
 
-letter-not : (b : ℕ) → is-letter b ≡ false → ¬ (kind b ≡ starts letter)
+letter-not : (b : ℕ) → is-letter b ≡ false → ¬ (char-class b ≡ body-start letter)
 unfolding is-letter
-letter-not b e h = let z : true ≡ false = sym (ap letter-kind h) ∙ e in let y : _≡_ {A = ℕ} 0 1 = cc in omega arith
+letter-not b e h = let z : true ≡ false = sym (ap letter-class h) ∙ e in let y : _≡_ {A = ℕ} 0 1 = cc in omega arith
 
 -- a digit is from 48 to 57
 pub digit-range : (b : ℕ) → b < 256 → is-digit b ≡ true → (48 ≤ b) × (b ≤ 57)
@@ -71,45 +71,45 @@ digit-range b h e = go (leb 48 b) refl (digit-test b h ∙ e)
     go false f g = let y : _≡_ {A = ℕ} 0 1 = cc in absurd (omega arith)
 
 -- what a kind of one byte only says of it
-only-at : (b c : ℕ) (x : Kind) → (Spelt x b → b ≡ c) → ¬ (b ≡ c) → ¬ (kind b ≡ x)
-only-at b c x f d h = d (f (rw h at (kind-byte b)))
+only-at : (b c : ℕ) (x : CharClass) → (Spelt x b → b ≡ c) → ¬ (b ≡ c) → ¬ (char-class b ≡ x)
+only-at b c x f d h = d (f (rw h at (class-byte b)))
 
 module _ (s : Bytes) (at : ℕ) where
-  pub byte-is : (r : Byte) (c : ℕ) (next : Cursor) → r ≡ byte.Is c next → ByteRead s at r → ByteIs s at c next
-  unfolding ByteRead
-  byte-is r c next e h = subst (λ r. ByteRead s at r) e h
+  pub byte-is : (r : Byte) (c : ℕ) (next : Cursor) → r ≡ byte.Is c next → BytePost s at r → ByteIs s at c next
+  unfolding BytePost
+  byte-is r c next e h = subst (λ r. BytePost s at r) e h
 
   -- the byte is known
-  pub of-byte : (r : Byte) (c : ℕ) (next : Cursor) → r ≡ byte.Is c next → ByteRead s at r → (b : ℕ) → c ≡ b → ByteIs s at b next
+  pub of-byte : (r : Byte) (c : ℕ) (next : Cursor) → r ≡ byte.Is c next → BytePost s at r → (b : ℕ) → c ≡ b → ByteIs s at b next
   of-byte r c next e h b f = rw f at (byte-is r c next e h)
 
-  pub byte-end : (r : Byte) → r ≡ byte.End → ByteRead s at r → length s ≤ at
-  unfolding ByteRead
-  byte-end r e h = subst (λ r. ByteRead s at r) e h
+  pub byte-end : (r : Byte) → r ≡ byte.End → BytePost s at r → length s ≤ at
+  unfolding BytePost
+  byte-end r e h = subst (λ r. BytePost s at r) e h
 
   -- nothing stands at the end
-  pub end-not : (r : Byte) → r ≡ byte.End → ByteRead s at r → (x : Kind) → Kind-not s at x
+  pub end-not : (r : Byte) → r ≡ byte.End → BytePost s at r → (x : CharClass) → ClassNot s at x
   end-not r e h x = let b = byte-end r e h in record { not = λ l k. omega arith }
 
   module _ (c : ℕ) (next : Cursor) (is : ByteIs s at c next) where
-    pub of-kind : (x : Kind) → kind c ≡ x → KindIs s at x next
-    of-kind x e = record { within = is .within; kind = rw (is .value) at e; past = is .past }
+    pub of-class : (x : CharClass) → char-class c ≡ x → ClassIs s at x next
+    of-class x e = record { within = is .within; kind = rw (is .value) at e; past = is .past }
 
-    pub not-kind : (x : Kind) → ¬ (kind c ≡ x) → Kind-not s at x
-    not-kind x d = record { not = λ l. rw (is .value) at d }
+    pub not-class : (x : CharClass) → ¬ (char-class c ≡ x) → ClassNot s at x
+    not-class x d = record { not = λ l. rw (is .value) at d }
 
     -- by the code's test for a letter
     pub letter-here : (t : Bool) → t ≡ is-letter c → t ≡ true → LetterIs s at c next
-    letter-here t e f = record { kind = of-kind (starts letter) (letter-is c (sym e ∙ f)); value = is .value }
+    letter-here t e f = record { kind = of-class (body-start letter) (letter-is c (sym e ∙ f)); value = is .value }
 
-    pub no-letter : (t : Bool) → t ≡ is-letter c → t ≡ false → Kind-not s at (starts letter)
-    no-letter t e f = not-kind (starts letter) (letter-not c (sym e ∙ f))
+    pub no-letter : (t : Bool) → t ≡ is-letter c → t ≡ false → ClassNot s at (body-start letter)
+    no-letter t e f = not-class (body-start letter) (letter-not c (sym e ∙ f))
 
     -- it is not the one byte of a kind
-    pub not-only : (b : ℕ) (x : Kind) → (Spelt x c → c ≡ b) → ¬ (c ≡ b) → Kind-not s at x
-    not-only b x f d = not-kind x (only-at c b x f d)
+    pub not-only : (b : ℕ) (x : CharClass) → (Spelt x c → c ≡ b) → ¬ (c ≡ b) → ClassNot s at x
+    not-only b x f d = not-class x (only-at c b x f d)
 
-    pub flag-is : flag s at ≡ count-flag (kind c)
+    pub flag-is : flag s at ≡ count-flag (char-class c)
     unfolding flag
     flag-is = simp (lt-ltb at (length s) (is .within)) (rw (is .value))
 
@@ -117,26 +117,26 @@ module _ (s : Bytes) (at : ℕ) where
   unfolding flag
   flag-end h = simp (le-ltb at (length s) h)
 
-pub flag-other : (b : ℕ) → is-digit b ≡ false → ¬ (b ≡ 46) → count-flag (kind b) ≡ 1
-flag-other b e d = go (kind b) (digit-not b e) (only-at b 46 (counts point) (λ h. h) d)
+pub flag-other : (b : ℕ) → is-digit b ≡ false → ¬ (b ≡ 46) → count-flag (char-class b) ≡ 1
+flag-other b e d = go (char-class b) (digit-not b e) (only-at b 46 (count-char point) (λ h. h) d)
   where
-    go : (x : Kind) → ¬ (x ≡ counts digit) → ¬ (x ≡ counts point) → count-flag x ≡ 1
-    go (counts digit) u v = absurd (u refl)
-    go (counts point) u v = absurd (v refl)
-    go (starts x) u v = refl
-    go (ends x) u v = refl
+    go : (x : CharClass) → ¬ (x ≡ count-char digit) → ¬ (x ≡ count-char point) → count-flag x ≡ 1
+    go (count-char digit) u v = absurd (u refl)
+    go (count-char point) u v = absurd (v refl)
+    go (body-start x) u v = refl
+    go (branch-end x) u v = refl
 
 -- a letter stands before the cursor past it
 pub letter-place : (s : Bytes) (at c : ℕ) (next : Cursor) → LetterIs s at c next → next .at - 1 ≡ at
 letter-place s at c next is = omega (arith, is .kind .past)
 
 -- by the cases of what a body begins with: a letter, or none
-pub class-letter : (s : Bytes) (at : ℕ) (r : Class) (c : ℕ) (next : Cursor) → r ≡ class.Letter c next → ClassRead s at r → LetterIs s at c next
-unfolding ClassRead
-class-letter s at r c next e h = subst (λ r. ClassRead s at r) e h
+pub class-letter : (s : Bytes) (at : ℕ) (r : Class) (c : ℕ) (next : Cursor) → r ≡ class.Letter c next → ClassPost s at r → LetterIs s at c next
+unfolding ClassPost
+class-letter s at r c next e h = subst (λ r. ClassPost s at r) e h
 
-pub class-none : (s : Bytes) (at : ℕ) (r : Class) → ¬ (tagOf the-type r ≡ 0) → ClassRead s at r → Kind-not s at (starts letter)
-unfolding ClassRead
+pub class-none : (s : Bytes) (at : ℕ) (r : Class) → ¬ (tagOf the-type r ≡ 0) → ClassPost s at r → ClassNot s at (body-start letter)
+unfolding ClassPost
 class-none s at (class.Letter c next) d h = absurd (d refl)
 class-none s at (class.Quote next) d h = record { not = λ l e. let z = h .kind in let y : _≡_ {A = ℕ} 0 1 = cc in omega arith }
 class-none s at (class.Opening next) d h = record { not = λ l e. let z = h .kind in let y : _≡_ {A = ℕ} 0 1 = cc in omega arith }

@@ -8,74 +8,74 @@ use native.Mathlib.Omega.{arith}
 use lib.ListN.{length, drop, getD, drop-of-length-le}
 use lib.Seq.{drop-cons, drop-drop}
 use Rattle.pattern.specs.Bytes.{Bytes}
-use Rattle.pattern.specs.Spelling.{Mark, digit, point, Kind, counts, starts, ends, kind}
-use Rattle.pattern.specs.Reading.{Run, empty, first, pointed, second, top, grow}
-use Rattle.pattern.specs.Scan.{ahead}
+use Rattle.pattern.specs.Grammar.{CountChar, digit, point, CharClass, count-char, body-start, branch-end, char-class}
+use Rattle.pattern.specs.Parser.{CountState, empty, first, pointed, second, top, grow}
+use Rattle.pattern.specs.Scan.{longest-count}
 use Rattle.pattern.proofs.Tests.{le-or-lt}
 use Rattle.scanner.specs.declared.cursor.Cursor.{Cursor}
-use Rattle.scanner.specs.Places.{kind-at, KindIs, Kind-not}
+use Rattle.scanner.specs.Places.{class-at, ClassIs, ClassNot}
 use Rattle.scanner.specs.Counts.{lead, number}
 use Rattle.scanner.proofs.Pass.{extent, Halts, run-ahead, run-extent, halted}
 use Rattle.scanner.proofs.Numbers.{lead-more, number-more, no-lead, no-number, digit-or, lead-nil, number-nil}
 
 -- the run that begins so with these bytes to come, and how many of them it takes
-pub record Runs (r : Run) (l : Bytes) (r′ : Run) (n : ℕ) : Type 0 where
-  pub run : ahead r l ≡ r′
+pub record CountTaken (r : CountState) (l : Bytes) (r′ : CountState) (n : ℕ) : Type 0 where
+  pub run : longest-count r l ≡ r′
   pub size : extent r l ≡ n
 
-runs-end : (r : Run) → Runs r [] r 0
-unfolding ahead extent
+runs-end : (r : CountState) → CountTaken r [] r 0
+unfolding longest-count extent
 runs-end r = record { run = refl; size = refl }
 
 -- a byte that belongs to the run
-module _ {r₀ : Run} {l : Bytes} {n : ℕ} (r : Run) (c : ℕ) (r′ : Run) (h : Runs r′ l r₀ n) where
-  runs-digit : kind c ≡ counts digit → grow r digit c ≡ some r′ → Runs r (c ∷ l) r₀ (suc n)
+module _ {r₀ : CountState} {l : Bytes} {n : ℕ} (r : CountState) (c : ℕ) (r′ : CountState) (h : CountTaken r′ l r₀ n) where
+  runs-digit : char-class c ≡ count-char digit → grow r digit c ≡ some r′ → CountTaken r (c ∷ l) r₀ (suc n)
   runs-digit e g = record { run = run-ahead r digit c l (top []) e r′ g ∙ h .run; size = run-extent r digit c l (top []) e r′ g ∙ ap suc (h .size) }
 
-  runs-point : kind c ≡ counts point → grow r point c ≡ some r′ → Runs r (c ∷ l) r₀ (suc n)
+  runs-point : char-class c ≡ count-char point → grow r point c ≡ some r′ → CountTaken r (c ∷ l) r₀ (suc n)
   runs-point e g = record { run = run-ahead r point c l (top []) e r′ g ∙ h .run; size = run-extent r point c l (top []) e r′ g ∙ ap suc (h .size) }
 
 -- one that doesn't
-runs-halt : (r : Run) (c : ℕ) (l : Bytes) (x : Kind) → kind c ≡ x → Halts r x c → Runs r (c ∷ l) r 0
+runs-halt : (r : CountState) (c : ℕ) (l : Bytes) (x : CharClass) → char-class c ≡ x → Halts r x c → CountTaken r (c ∷ l) r 0
 runs-halt r c l x e h = let (a, b) = halted r c l x e h in record { run = a; size = b }
 
 -- no count goes on at the head of a list
-abbrev pub Stops : Run → Bytes → Type 0
+abbrev pub Stops : CountState → Bytes → Type 0
 Stops r [] = Unit {0}
-Stops r (c ∷ l) = (m : Mark) → kind c ≡ counts m → grow r m c ≡ none
+Stops r (c ∷ l) = (m : CountChar) → char-class c ≡ count-char m → grow r m c ≡ none
 
 -- the longest run stops where it ends
-pub run-stops : (l : Bytes) (r : Run) → Stops (ahead r l) (drop (extent r l) l)
-run-stops [] r = unfold ahead extent in tt
-run-stops (c ∷ l) r = go (λ r′. run-stops l r′) (kind c) refl
+pub run-stops : (l : Bytes) (r : CountState) → Stops (longest-count r l) (drop (extent r l) l)
+run-stops [] r = unfold longest-count extent in tt
+run-stops (c ∷ l) r = go (λ r′. run-stops l r′) (char-class c) refl
   where
-    more : ((r′ : Run) → Stops (ahead r′ l) (drop (extent r′ l) l)) → (m : Mark) → kind c ≡ counts m → (o : Option Run) → grow r m c ≡ o → Stops (ahead r (c ∷ l)) (drop (extent r (c ∷ l)) (c ∷ l))
+    more : ((r′ : CountState) → Stops (longest-count r′ l) (drop (extent r′ l) l)) → (m : CountChar) → char-class c ≡ count-char m → (o : Option CountState) → grow r m c ≡ o → Stops (longest-count r (c ∷ l)) (drop (extent r (c ∷ l)) (c ∷ l))
     more h m e none g =
-        let (a, b) = halted r c l (counts m) e (unfold Halts in g) in
-        rw (a, b) (λ m′ e′. let z : counts m ≡ counts m′ = sym e ∙ e′ in let y : m ≡ m′ = cc in rw y at g)
+        let (a, b) = halted r c l (count-char m) e (unfold Halts in g) in
+        rw (a, b) (λ m′ e′. let z : count-char m ≡ count-char m′ = sym e ∙ e′ in let y : m ≡ m′ = cc in rw y at g)
     more h m e (some r′) g = rw (run-ahead r m c l (top []) e r′ g, run-extent r m c l (top []) e r′ g) (h r′)
 
-    go : ((r′ : Run) → Stops (ahead r′ l) (drop (extent r′ l) l)) → (x : Kind) → kind c ≡ x → Stops (ahead r (c ∷ l)) (drop (extent r (c ∷ l)) (c ∷ l))
-    go h (counts m) e = more h m e (grow r m c) refl
-    go h (starts b) e =
-        let (a, d) = halted r c l (starts b) e (unfold Halts in tt) in
-        rw (a, d) (λ m e′. let z : starts b ≡ counts m = sym e ∙ e′ in let y : _≡_ {A = ℕ} 0 1 = cc in absurd (omega arith))
-    go h (ends b) e =
-        let (a, d) = halted r c l (ends b) e (unfold Halts in tt) in
-        rw (a, d) (λ m e′. let z : ends b ≡ counts m = sym e ∙ e′ in let y : _≡_ {A = ℕ} 0 1 = cc in absurd (omega arith))
+    go : ((r′ : CountState) → Stops (longest-count r′ l) (drop (extent r′ l) l)) → (x : CharClass) → char-class c ≡ x → Stops (longest-count r (c ∷ l)) (drop (extent r (c ∷ l)) (c ∷ l))
+    go h (count-char m) e = more h m e (grow r m c) refl
+    go h (body-start b) e =
+        let (a, d) = halted r c l (body-start b) e (unfold Halts in tt) in
+        rw (a, d) (λ m e′. let z : body-start b ≡ count-char m = sym e ∙ e′ in let y : _≡_ {A = ℕ} 0 1 = cc in absurd (omega arith))
+    go h (branch-end b) e =
+        let (a, d) = halted r c l (branch-end b) e (unfold Halts in tt) in
+        rw (a, d) (λ m e′. let z : branch-end b ≡ count-char m = sym e ∙ e′ in let y : _≡_ {A = ℕ} 0 1 = cc in absurd (omega arith))
 
 -- a second number ends with its digits
-second-halts : (x y c : ℕ) (l : Bytes) → ¬ (kind c ≡ counts digit) → Runs (second x y) (c ∷ l) (second x y) 0
+second-halts : (x y c : ℕ) (l : Bytes) → ¬ (char-class c ≡ count-char digit) → CountTaken (second x y) (c ∷ l) (second x y) 0
 unfolding Halts grow
-second-halts x y c l d = go (kind c) refl
+second-halts x y c l d = go (char-class c) refl
   where
-    go : (z : Kind) → kind c ≡ z → Runs (second x y) (c ∷ l) (second x y) 0
-    go (counts digit) e = absurd (d e)
-    go (counts point) e = runs-halt (second x y) c l (counts point) e refl
-    go (starts b) e = runs-halt (second x y) c l (starts b) e tt
-    go (ends b) e = runs-halt (second x y) c l (ends b) e tt
+    go : (z : CharClass) → char-class c ≡ z → CountTaken (second x y) (c ∷ l) (second x y) 0
+    go (count-char digit) e = absurd (d e)
+    go (count-char point) e = runs-halt (second x y) c l (count-char point) e refl
+    go (body-start b) e = runs-halt (second x y) c l (body-start b) e tt
+    go (branch-end b) e = runs-halt (second x y) c l (branch-end b) e tt
 
-runs-second : (l : Bytes) (x y : ℕ) → Runs (second x y) l (second x (number y l)) (lead l)
+runs-second : (l : Bytes) (x y : ℕ) → CountTaken (second x y) l (second x (number y l)) (lead l)
 runs-second [] x y = rw (number-nil y, lead-nil) (runs-end (second x y))
 runs-second (c ∷ l) x y =
     let h = runs-second l x (10 * y + (c - 48)) in
@@ -85,7 +85,7 @@ runs-second (c ∷ l) x y =
     (digit-or c)
 
 -- a first number goes on to where its digits end
-runs-first : (l : Bytes) (x : ℕ) (r : Run) (n : ℕ) → Runs (first (number x l)) (drop (lead l) l) r n → Runs (first x) l r (lead l + n)
+runs-first : (l : Bytes) (x : ℕ) (r : CountState) (n : ℕ) → CountTaken (first (number x l)) (drop (lead l) l) r n → CountTaken (first x) l r (lead l + n)
 runs-first [] x r n h = let e : 0 + n ≡ n = omega arith in rw (lead-nil, e) (rw (lead-nil, number-nil x) at h)
 runs-first (c ∷ l) x r n h =
     let s : suc (lead l) + n ≡ suc (lead l + n) = omega arith in
@@ -101,7 +101,7 @@ lead-over [] = rw lead-nil lead-nil
 lead-over (c ∷ l) = let h = lead-over l in ⊎-elim (λ e. rw (lead-more c l e) h) (λ d. rw (no-lead c l d) (no-lead c l d)) (digit-or c)
 
 -- a number begins at a place
-pub digit-begins : (s : Bytes) (i : ℕ) → 0 < lead (drop i s) → (i < length s) × (kind-at s i ≡ counts digit)
+pub digit-begins : (s : Bytes) (i : ℕ) → 0 < lead (drop i s) → (i < length s) × (class-at s i ≡ count-char digit)
 digit-begins s i h = ⊎-elim
     (λ g. let e : drop i s ≡ [] = drop-of-length-le s g in absurd (omega (arith, h, ap lead e ∙ lead-nil)))
     (λ g. ⊎-elim
@@ -122,7 +122,7 @@ module _ (s : Bytes) (i : ℕ) where
   rest = drop-drop (lead l) i s
 
   -- with digits
-  runs-digits : (r : Run) (n : ℕ) → 0 < lead l → Runs (first (number 0 l)) (drop at s) r n → Runs empty l r (lead l + n)
+  runs-digits : (r : CountState) (n : ℕ) → 0 < lead l → CountTaken (first (number 0 l)) (drop at s) r n → CountTaken empty l r (lead l + n)
   runs-digits r n h f =
       let (g, e) = digit-begins s i h in
       let c : ℕ = getD s i 0 in
@@ -136,52 +136,52 @@ module _ (s : Bytes) (i : ℕ) where
       rw (p, m, u) (runs-digit empty c (first (c - 48)) (runs-first t (c - 48) r n (rw w (rw q at f))) e (unfold grow in refl))
 
   -- one number
-  pub runs-exact : 0 < lead l → Kind-not s at (counts point) → Runs empty l (first (number 0 l)) (lead l)
+  pub runs-exact : 0 < lead l → ClassNot s at (count-char point) → CountTaken empty l (first (number 0 l)) (lead l)
   runs-exact h d =
       let z : lead l ≡ lead l + 0 = omega arith in
       rw z (runs-digits (first (number 0 l)) 0 h (⊎-elim
       (λ g. let e : drop at s ≡ [] = drop-of-length-le s g in rw e (runs-end (first (number 0 l))))
-      (λ g. rw (drop-cons s at 0 g) (go g (kind-at s at) refl))
+      (λ g. rw (drop-cons s at 0 g) (go g (class-at s at) refl))
       (le-or-lt (length s) at)))
     where
-      go : at < length s → (x : Kind) → kind-at s at ≡ x → Runs (first (number 0 l)) (getD s at 0 ∷ drop (suc at) s) (first (number 0 l)) 0
-      go g (counts digit) e = absurd (omega (arith, lead-over l, ap lead (rest ∙ drop-cons s at 0 g), lead-more (getD s at 0) (drop (suc at) s) e))
-      go g (counts point) e = absurd (d .not g e)
-      go g (starts b) e = runs-halt (first (number 0 l)) (getD s at 0) (drop (suc at) s) (starts b) e (unfold Halts in tt)
-      go g (ends b) e = runs-halt (first (number 0 l)) (getD s at 0) (drop (suc at) s) (ends b) e (unfold Halts in tt)
+      go : at < length s → (x : CharClass) → class-at s at ≡ x → CountTaken (first (number 0 l)) (getD s at 0 ∷ drop (suc at) s) (first (number 0 l)) 0
+      go g (count-char digit) e = absurd (omega (arith, lead-over l, ap lead (rest ∙ drop-cons s at 0 g), lead-more (getD s at 0) (drop (suc at) s) e))
+      go g (count-char point) e = absurd (d .not g e)
+      go g (body-start b) e = runs-halt (first (number 0 l)) (getD s at 0) (drop (suc at) s) (body-start b) e (unfold Halts in tt)
+      go g (branch-end b) e = runs-halt (first (number 0 l)) (getD s at 0) (drop (suc at) s) (branch-end b) e (unfold Halts in tt)
 
   -- a point after them, or at once
-  module _ (next : Cursor) (k : KindIs s at (counts point) next) where
-    runs-pointed : (r : Run) (n : ℕ) → Runs (pointed (number 0 l)) (drop (next .at) s) r n → Runs empty l r (lead l + suc n)
+  module _ (next : Cursor) (k : ClassIs s at (count-char point) next) where
+    runs-pointed : (r : CountState) (n : ℕ) → CountTaken (pointed (number 0 l)) (drop (next .at) s) r n → CountTaken empty l r (lead l + suc n)
     runs-pointed r n f = go (lead l) refl
       where
-        here : (x : Run) → grow x point (getD s at 0) ≡ some (pointed (number 0 l)) → Runs x (drop at s) r (suc n)
+        here : (x : CountState) → grow x point (getD s at 0) ≡ some (pointed (number 0 l)) → CountTaken x (drop at s) r (suc n)
         here x g = rw (drop-cons s at 0 (k .within)) (runs-point x (getD s at 0) (pointed (number 0 l)) (rw (k .past) at f) (k .kind) g)
 
         at-once : number 0 l ≡ 0 → grow empty point (getD s at 0) ≡ some (pointed (number 0 l))
         at-once v = unfold grow in ap (λ x. some (pointed x)) (sym v)
 
-        go : (m : ℕ) → lead l ≡ m → Runs empty l r (lead l + suc n)
+        go : (m : ℕ) → lead l ≡ m → CountTaken empty l r (lead l + suc n)
         go zero e =
             let a : at ≡ i = omega (arith, e) in
             let b : lead l + suc n ≡ suc n = omega (arith, e) in
-            let v : number 0 l ≡ 0 = ap (number 0) (sym (ap (λ x. drop x s) a) ∙ drop-cons s at 0 (k .within)) ∙ no-number (getD s at 0) (drop (suc at) s) 0 (λ f. let z : counts point ≡ counts digit = sym (k .kind) ∙ f in let y : _≡_ {A = ℕ} 0 1 = cc in omega arith) in
+            let v : number 0 l ≡ 0 = ap (number 0) (sym (ap (λ x. drop x s) a) ∙ drop-cons s at 0 (k .within)) ∙ no-number (getD s at 0) (drop (suc at) s) 0 (λ f. let z : count-char point ≡ count-char digit = sym (k .kind) ∙ f in let y : _≡_ {A = ℕ} 0 1 = cc in omega arith) in
             rw b (rw a at (here empty (at-once v)))
         go (suc m) e = runs-digits r (suc n) (omega (arith, e)) (here (first (number 0 l)) (unfold grow in refl))
 
-    pub runs-open : lead (drop (next .at) s) ≡ 0 → Runs empty l (pointed (number 0 l)) (lead l + 1)
+    pub runs-open : lead (drop (next .at) s) ≡ 0 → CountTaken empty l (pointed (number 0 l)) (lead l + 1)
     runs-open z = runs-pointed (pointed (number 0 l)) 0 (⊎-elim
         (λ g. let e : drop (next .at) s ≡ [] = drop-of-length-le s g in rw e (runs-end (pointed (number 0 l))))
-        (λ g. rw (drop-cons s (next .at) 0 g) (go g (kind-at s (next .at)) refl))
+        (λ g. rw (drop-cons s (next .at) 0 g) (go g (class-at s (next .at)) refl))
         (le-or-lt (length s) (next .at)))
       where
-        go : next .at < length s → (x : Kind) → kind-at s (next .at) ≡ x → Runs (pointed (number 0 l)) (getD s (next .at) 0 ∷ drop (suc (next .at)) s) (pointed (number 0 l)) 0
-        go g (counts digit) e = absurd (omega (arith, z, ap lead (drop-cons s (next .at) 0 g), lead-more (getD s (next .at) 0) (drop (suc (next .at)) s) e))
-        go g (counts point) e = runs-halt (pointed (number 0 l)) (getD s (next .at) 0) (drop (suc (next .at)) s) (counts point) e (unfold Halts grow in refl)
-        go g (starts b) e = runs-halt (pointed (number 0 l)) (getD s (next .at) 0) (drop (suc (next .at)) s) (starts b) e (unfold Halts in tt)
-        go g (ends b) e = runs-halt (pointed (number 0 l)) (getD s (next .at) 0) (drop (suc (next .at)) s) (ends b) e (unfold Halts in tt)
+        go : next .at < length s → (x : CharClass) → class-at s (next .at) ≡ x → CountTaken (pointed (number 0 l)) (getD s (next .at) 0 ∷ drop (suc (next .at)) s) (pointed (number 0 l)) 0
+        go g (count-char digit) e = absurd (omega (arith, z, ap lead (drop-cons s (next .at) 0 g), lead-more (getD s (next .at) 0) (drop (suc (next .at)) s) e))
+        go g (count-char point) e = runs-halt (pointed (number 0 l)) (getD s (next .at) 0) (drop (suc (next .at)) s) (count-char point) e (unfold Halts grow in refl)
+        go g (body-start b) e = runs-halt (pointed (number 0 l)) (getD s (next .at) 0) (drop (suc (next .at)) s) (body-start b) e (unfold Halts in tt)
+        go g (branch-end b) e = runs-halt (pointed (number 0 l)) (getD s (next .at) 0) (drop (suc (next .at)) s) (branch-end b) e (unfold Halts in tt)
 
-    pub runs-closed : 0 < lead (drop (next .at) s) → Runs empty l (second (number 0 l) (number 0 (drop (next .at) s))) (lead l + suc (lead (drop (next .at) s)))
+    pub runs-closed : 0 < lead (drop (next .at) s) → CountTaken empty l (second (number 0 l) (number 0 (drop (next .at) s))) (lead l + suc (lead (drop (next .at) s)))
     runs-closed h =
         let (g, e) = digit-begins s (next .at) h in
         let c : ℕ = getD s (next .at) 0 in

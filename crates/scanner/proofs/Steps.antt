@@ -6,30 +6,30 @@ use lib.ListN.{length, drop, getD, drop-of-length-le}
 use lib.Seq.{drop-cons}
 use Rattle.pattern.specs.Numbers.{FORM}
 use Rattle.pattern.specs.Bytes.{Bytes}
-use Rattle.pattern.specs.Reading.{State, step, finish}
+use Rattle.pattern.specs.Parser.{ParserState, step, finish}
 use Rattle.pattern.specs.Scan.{depth, begins, begun, fault, refused, scan}
-use Rattle.scanner.specs.Places.{kind-at}
+use Rattle.scanner.specs.Places.{class-at}
 use Rattle.scanner.specs.Scans.{scanned}
 use Rattle.scanner.proofs.Pass.{scan-next, scan-fault, scan-form}
 
 -- the fault at a byte, and the atoms begun after it
-abbrev pub fault-here : Bytes → State → (i n : ℕ) → Option ℕ
-fault-here s q i n = fault (begins (q .0) (kind-at s i)) (depth (q .1)) n (getD s i 0) (drop (suc i) s)
+abbrev pub fault-here : Bytes → ParserState → (i n : ℕ) → Option ℕ
+fault-here s q i n = fault (begins (q .0) (class-at s i)) (depth (q .1)) n (getD s i 0) (drop (suc i) s)
 
-abbrev pub begun-here : Bytes → State → (i n : ℕ) → ℕ
-begun-here s q i n = begun (begins (q .0) (kind-at s i)) n
+abbrev pub begun-here : Bytes → ParserState → (i n : ℕ) → ℕ
+begun-here s q i n = begun (begins (q .0) (class-at s i)) n
 
-module _ (s : Bytes) (i n : ℕ) (l : i < length s) (q : State) where
-  pub onward : (q′ : State) → step q (getD s i 0) ≡ some q′ → fault-here s q i n ≡ none → begun-here s q i n ≡ n → scanned s q i n ≡ scanned s q′ (suc i) n
+module _ (s : Bytes) (i n : ℕ) (l : i < length s) (q : ParserState) where
+  pub onward : (q′ : ParserState) → step q (getD s i 0) ≡ some q′ → fault-here s q i n ≡ none → begun-here s q i n ≡ n → scanned s q i n ≡ scanned s q′ (suc i) n
   onward q′ e f b = rw (drop-cons s i 0) (scan-next q i n (getD s i 0) (drop (suc i) s) q′ e f ∙ rw b)
 
-  pub faulty : (q′ : State) (x : ℕ) → step q (getD s i 0) ≡ some q′ → fault-here s q i n ≡ some x → scanned s q i n ≡ refused x i
+  pub faulty : (q′ : ParserState) (x : ℕ) → step q (getD s i 0) ≡ some q′ → fault-here s q i n ≡ some x → scanned s q i n ≡ refused x i
   faulty q′ x e f = rw (drop-cons s i 0) (scan-fault q i n (getD s i 0) (drop (suc i) s) q′ x e f)
 
   pub stuck : step q (getD s i 0) ≡ none → scanned s q i n ≡ refused FORM i
   stuck e = rw (drop-cons s i 0) (scan-form q i n (getD s i 0) (drop (suc i) s) e)
 
 -- a source that ends too soon
-pub short : (s : Bytes) (i n : ℕ) → length s ≤ i → (q : State) → finish (q .0) (q .1) ≡ none → scanned s q i n ≡ refused FORM i
+pub short : (s : Bytes) (i n : ℕ) → length s ≤ i → (q : ParserState) → finish (q .0) (q .1) ≡ none → scanned s q i n ≡ refused FORM i
 unfolding scan
 short s i n l q e = rw (drop-of-length-le s l) (rw (e, scan))

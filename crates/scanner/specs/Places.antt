@@ -6,7 +6,7 @@ use lib.Dec.{ltb}
 use lib.ListN.{length, getD}
 use Rattle.pattern.specs.Numbers.{closing-byte, comma-byte, zero-byte}
 use Rattle.pattern.specs.Bytes.{Bytes}
-use Rattle.pattern.specs.Spelling.{letter, quote, opening, digit, point, Kind, counts, starts, ends, kind, Text, plain, quoting, barred, text}
+use Rattle.pattern.specs.Grammar.{letter, quote, opening, digit, point, CharClass, count-char, body-start, branch-end, char-class, LiteralClass, plain, quoting, barred, literal-class}
 use Rattle.scanner.specs.declared.cursor.Cursor.{Cursor}
 use Rattle.scanner.specs.declared.cursor.Byte.{Byte}
 use Rattle.scanner.specs.declared.cursor.Byte.the-variants as byte
@@ -20,44 +20,44 @@ use Rattle.scanner.specs.declared.cursor.Separator.{Separator}
 use Rattle.scanner.specs.declared.cursor.Separator.the-variants as separator
 
 -- the kind of the byte at a place
-abbrev pub kind-at : Bytes → ℕ → Kind
-kind-at s at = kind (getD s at 0)
+abbrev pub class-at : Bytes → ℕ → CharClass
+class-at s at = char-class (getD s at 0)
 
-abbrev pub digit-kind : Kind → Bool
-digit-kind (counts digit) = true
-digit-kind (counts point) = false
-digit-kind (starts b) = false
-digit-kind (ends e) = false
+abbrev pub digit-class : CharClass → Bool
+digit-class (count-char digit) = true
+digit-class (count-char point) = false
+digit-class (body-start b) = false
+digit-class (branch-end e) = false
 
 unfoldable pub is-digit : ℕ → Bool
-is-digit b = digit-kind (kind b)
+is-digit b = digit-class (char-class b)
 
-abbrev pub letter-kind : Kind → Bool
-letter-kind (counts m) = false
-letter-kind (starts letter) = true
-letter-kind (starts quote) = false
-letter-kind (starts opening) = false
-letter-kind (ends e) = false
+abbrev pub letter-class : CharClass → Bool
+letter-class (count-char m) = false
+letter-class (body-start letter) = true
+letter-class (body-start quote) = false
+letter-class (body-start opening) = false
+letter-class (branch-end e) = false
 
 unfoldable pub is-letter : ℕ → Bool
-is-letter b = letter-kind (kind b)
+is-letter b = letter-class (char-class b)
 
-abbrev pub plain-text : Text → Bool
+abbrev pub plain-text : LiteralClass → Bool
 plain-text plain = true
 plain-text quoting = false
 plain-text barred = false
 
 unfoldable pub is-plain : ℕ → Bool
-is-plain b = plain-text (text b)
+is-plain b = plain-text (literal-class b)
 
 -- 0 where an atom begins, else 1
-abbrev pub count-flag : Kind → ℕ
-count-flag (counts m) = 0
-count-flag (starts b) = 1
-count-flag (ends e) = 1
+abbrev pub count-flag : CharClass → ℕ
+count-flag (count-char m) = 0
+count-flag (body-start b) = 1
+count-flag (branch-end e) = 1
 
 unfoldable pub flag : Bytes → ℕ → ℕ
-flag s at = cond (ltb at (length s)) (count-flag (kind-at s at)) 1
+flag s at = cond (ltb at (length s)) (count-flag (class-at s at)) 1
 
 -- a cursor past a place, within the source
 pub record Onward (s : Bytes) (at : ℕ) (next : Cursor) : Type 0 where
@@ -71,39 +71,39 @@ pub record ByteIs (s : Bytes) (at c : ℕ) (next : Cursor) : Type 0 where
   pub past : next .at ≡ suc at
 
 -- the byte at a place is of this kind, and this is the cursor past it
-pub record KindIs (s : Bytes) (at : ℕ) (x : Kind) (next : Cursor) : Type 0 where
+pub record ClassIs (s : Bytes) (at : ℕ) (x : CharClass) (next : Cursor) : Type 0 where
   pub within : at < length s
-  pub kind : kind-at s at ≡ x
+  pub kind : class-at s at ≡ x
   pub past : next .at ≡ suc at
 
 -- the byte at a place is the letter c, and this is the cursor past it
 pub record LetterIs (s : Bytes) (at c : ℕ) (next : Cursor) : Type 0 where
-  pub kind : KindIs s at (starts letter) next
+  pub kind : ClassIs s at (body-start letter) next
   pub value : c ≡ getD s at 0
 
 -- no byte of this kind stands at a place
-pub record Kind-not (s : Bytes) (at : ℕ) (x : Kind) : Type 0 where
-  pub not : at < length s → ¬ (kind-at s at ≡ x)
+pub record ClassNot (s : Bytes) (at : ℕ) (x : CharClass) : Type 0 where
+  pub not : at < length s → ¬ (class-at s at ≡ x)
 
-unfoldable pub ByteRead : Bytes → ℕ → Byte → Type 0
-ByteRead s at (byte.Is c next) = ByteIs s at c next
-ByteRead s at byte.End = length s ≤ at
+unfoldable pub BytePost : Bytes → ℕ → Byte → Type 0
+BytePost s at (byte.Is c next) = ByteIs s at c next
+BytePost s at byte.End = length s ≤ at
 
-unfoldable pub DigitRead : Bytes → ℕ → Digit → Type 0
-DigitRead s at (digits.Is d next) = KindIs s at (counts digit) next × (d ≡ getD s at 0 - zero-byte) × (d ≤ 9)
-DigitRead s at digits.None = Kind-not s at (counts digit)
+unfoldable pub DigitPost : Bytes → ℕ → Digit → Type 0
+DigitPost s at (digits.Is d next) = ClassIs s at (count-char digit) next × (d ≡ getD s at 0 - zero-byte) × (d ≤ 9)
+DigitPost s at digits.None = ClassNot s at (count-char digit)
 
-unfoldable pub PointRead : Bytes → ℕ → Point → Type 0
-PointRead s at (points.Is next) = KindIs s at (counts point) next
-PointRead s at points.None = Kind-not s at (counts point)
+unfoldable pub PointPost : Bytes → ℕ → Point → Type 0
+PointPost s at (points.Is next) = ClassIs s at (count-char point) next
+PointPost s at points.None = ClassNot s at (count-char point)
 
-unfoldable pub ClassRead : Bytes → ℕ → Class → Type 0
-ClassRead s at (class.Letter c next) = LetterIs s at c next
-ClassRead s at (class.Quote next) = KindIs s at (starts quote) next
-ClassRead s at (class.Opening next) = KindIs s at (starts opening) next
-ClassRead s at class.Other = Kind-not s at (starts letter) × Kind-not s at (starts quote) × Kind-not s at (starts opening)
+unfoldable pub ClassPost : Bytes → ℕ → Class → Type 0
+ClassPost s at (class.Letter c next) = LetterIs s at c next
+ClassPost s at (class.Quote next) = ClassIs s at (body-start quote) next
+ClassPost s at (class.Opening next) = ClassIs s at (body-start opening) next
+ClassPost s at class.Other = ClassNot s at (body-start letter) × ClassNot s at (body-start quote) × ClassNot s at (body-start opening)
 
-unfoldable pub SeparatorRead : Bytes → ℕ → Separator → Type 0
-SeparatorRead s at (separator.Comma next) = ByteIs s at comma-byte next
-SeparatorRead s at (separator.Closing next) = ByteIs s at closing-byte next
-SeparatorRead s at separator.Other = at < length s → ¬ (getD s at 0 ≡ closing-byte) × ¬ (getD s at 0 ≡ comma-byte)
+unfoldable pub SeparatorPost : Bytes → ℕ → Separator → Type 0
+SeparatorPost s at (separator.Comma next) = ByteIs s at comma-byte next
+SeparatorPost s at (separator.Closing next) = ByteIs s at closing-byte next
+SeparatorPost s at separator.Other = at < length s → ¬ (getD s at 0 ≡ closing-byte) × ¬ (getD s at 0 ≡ comma-byte)

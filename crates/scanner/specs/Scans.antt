@@ -2,8 +2,8 @@
 use Prim.Native.Nat.{ℕ}
 use lib.ListN.{drop}
 use Rattle.pattern.specs.Bytes.{Bytes}
-use Rattle.pattern.specs.Reading.{State}
+use Rattle.pattern.specs.Parser.{ParserState}
 use Rattle.pattern.specs.Scan.{Outcome, scan}
 
-abbrev pub scanned : Bytes → State → (i n : ℕ) → Outcome
+abbrev pub scanned : Bytes → ParserState → (i n : ℕ) → Outcome
 scanned s q i n = scan q i n (drop i s)

@@ -2,7 +2,7 @@
 ghost use Prim.Native.Nat.{_-_, _≤_};
 ghost use lib.ListN.{length};
 ghost use Rattle.scanner.specs.Places.{LetterIs};
-ghost use Rattle.scanner.specs.Bodies.{CodesRead, LiteralRead};
+ghost use Rattle.scanner.specs.Bodies.{CodesFromPost, QuotedPost};
 use crate::cursor::Class;
 use crate::cursor::Cursor;
 use crate::cursor::Text;
@@ -23,7 +23,7 @@ pub enum Literal {
 // The run of letters that begins with the one before the cursor. One that is no code takes the set to its limit.
 pub fn codes_from(s: &[u8], first: u8, c: Cursor) -> Letters
     requires { ⌜ LetterIs (now s) (c .at - 1) first c ⌝ }
-    ensures { λ r. ⌜ CodesRead (now (s .entry)) (c .at - 1) r ⌝ }
+    ensures { λ r. ⌜ CodesFromPost (now (s .entry)) (c .at - 1) r ⌝ }
 {
     let mut at = c;
     let mut set = codes::bit(first);
@@ -40,7 +40,7 @@ pub fn codes_from(s: &[u8], first: u8, c: Cursor) -> Letters
 // The rest of a literal after its first quote; its value goes to the pool from p on.
 pub fn quoted(s: &[u8], c: Cursor, p: usize, pool: &mut [u8]) -> Literal
     requires { ⌜ (c .at ≤ length (now s)) × (p ≤ c .at) × (length (now s) ≤ length (now pool)) ⌝ }
-    ensures { λ r. ⌜ LiteralRead (now (s .entry)) (c .at) p (now (pool .entry)) (now (pool .exit)) r ⌝ }
+    ensures { λ r. ⌜ QuotedPost (now (s .entry)) (c .at) p (now (pool .entry)) (now (pool .exit)) r ⌝ }
 {
     let mut at = c;
     let mut end = p;

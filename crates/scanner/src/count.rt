@@ -2,7 +2,7 @@
 ghost use mathlib.Core.Path.{_≡_};
 ghost use Prim.Native.Nat.{_+_, _*_, _≤_};
 ghost use lib.ListN.{length};
-ghost use Rattle.scanner.specs.Counts.{cap, judge, NumberRead, CountRead};
+ghost use Rattle.scanner.specs.Counts.{cap, check-count, DigitsPost, CountPost};
 use crate::cursor::Cursor;
 use crate::cursor::Digit;
 use crate::cursor::Point;
@@ -19,13 +19,13 @@ struct Number {
     end: Cursor,
 }
 
-pub enum Counted {
+pub enum CountResult {
     Repeat(Repeat, Cursor),
     Fault(u32, usize),
 }
 
 // The number v and then the digit d.
-fn grown(v: u16, d: u16) -> u16
+fn push_digit(v: u16, d: u16) -> u16
     requires { ⌜ (v ≤ 10000) × (d ≤ 9) ⌝ }
     ensures { λ r. ⌜ (r ≤ 10000) × (r ≡ cap (10 * v + d)) ⌝ }
 {
@@ -34,14 +34,14 @@ fn grown(v: u16, d: u16) -> u16
 
 fn digits(s: &[u8], c: Cursor) -> Number
     requires { ⌜ c .at ≤ length (now s) ⌝ }
-    ensures { λ r. ⌜ NumberRead (now (s .entry)) (c .at) r ⌝ }
+    ensures { λ r. ⌜ DigitsPost (now (s .entry)) (c .at) r ⌝ }
 {
     let mut at = c;
     let mut v: u16 = 0;
     loop {
         match at.digit(s) {
             Digit::Is(d, next) => {
-                v = grown(v, d);
+                v = push_digit(v, d);
                 at = next;
             }
             Digit::None => return Number { value: v, end: at },
@@ -50,28 +50,28 @@ fn digits(s: &[u8], c: Cursor) -> Number
 }
 
 // A count from start to end, its second number at from, of an atom after n others: its first fault, or the count.
-fn judged(rep: Repeat, n: usize, start: usize, from: usize, end: Cursor) -> Counted
-    ensures { λ r. ⌜ r ≡ judge rep n start from end ⌝ }
+fn check_count(rep: Repeat, n: usize, start: usize, from: usize, end: Cursor) -> CountResult
+    ensures { λ r. ⌜ r ≡ check-count rep n start from end ⌝ }
 {
     if limits::NUMBER_LIMIT < rep.low {
-        return Counted::Fault(refusal::NUMBER, start);
+        return CountResult::Fault(refusal::NUMBER, start);
     }
     if rep.high < rep.low {
-        return Counted::Fault(refusal::RANGE, start);
+        return CountResult::Fault(refusal::RANGE, start);
     }
     if limits::ATOM_LIMIT <= n {
-        return Counted::Fault(refusal::ATOMS, start);
+        return CountResult::Fault(refusal::ATOMS, start);
     }
     if rep.high == LARGE {
-        return Counted::Fault(refusal::NUMBER, from);
+        return CountResult::Fault(refusal::NUMBER, from);
     }
-    Counted::Repeat(rep, end)
+    CountResult::Repeat(rep, end)
 }
 
 // The count at the cursor, of an atom after n others.
-pub fn count(s: &[u8], c: Cursor, n: usize) -> Counted
+pub fn count(s: &[u8], c: Cursor, n: usize) -> CountResult
     requires { ⌜ c .at ≤ length (now s) ⌝ }
-    ensures { λ r. ⌜ CountRead (now (s .entry)) (c .at) n r ⌝ }
+    ensures { λ r. ⌜ CountPost (now (s .entry)) (c .at) n r ⌝ }
 {
     let start = c.at;
     let first = digits(s, c);
@@ -82,9 +82,9 @@ pub fn count(s: &[u8], c: Cursor, n: usize) -> Counted
             let second = digits(s, next);
             let stop = second.end;
             if stop.at == from {
-                judged(Repeat::open(first.value), n, start, from, stop)
+                check_count(Repeat::open(first.value), n, start, from, stop)
             } else {
-                judged(
+                check_count(
                     Repeat::closed(first.value, second.value),
                     n,
                     start,
@@ -95,9 +95,9 @@ pub fn count(s: &[u8], c: Cursor, n: usize) -> Counted
         }
         Point::None => {
             if end.at == start {
-                Counted::Fault(refusal::FORM, start)
+                CountResult::Fault(refusal::FORM, start)
             } else {
-                judged(Repeat::exact(first.value), n, start, start, end)
+                check_count(Repeat::exact(first.value), n, start, start, end)
             }
         }
     }

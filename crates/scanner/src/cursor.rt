@@ -1,8 +1,8 @@
 // A place in the source, by value. Each method answers the byte or digit read there beside the advanced cursor; a point, quote,
 // parenthesis or comma is a case of its own. A case in which nothing was read carries nothing.
 ghost use mathlib.Core.Path.{_≡_};
-ghost use Rattle.scanner.specs.Places.{is-digit, is-letter, is-plain, flag, ByteRead, DigitRead, PointRead, ClassRead, SeparatorRead};
-ghost use Rattle.scanner.specs.Bodies.{TextRead};
+ghost use Rattle.scanner.specs.Places.{is-digit, is-letter, is-plain, flag, BytePost, DigitPost, PointPost, ClassPost, SeparatorPost};
+ghost use Rattle.scanner.specs.Bodies.{TextPost};
 
 pub struct Cursor {
     pub at: usize,
@@ -79,7 +79,7 @@ fn is_plain(b: u8) -> bool
 
 impl Cursor {
     fn byte(self, s: &[u8]) -> Byte
-        ensures { λ r. ⌜ ByteRead (now (s .entry)) (self .at) r ⌝ }
+        ensures { λ r. ⌜ BytePost (now (s .entry)) (self .at) r ⌝ }
     {
         let at = self.at;
         if at < s.len() {
@@ -90,7 +90,7 @@ impl Cursor {
     }
 
     pub fn digit(self, s: &[u8]) -> Digit
-        ensures { λ r. ⌜ DigitRead (now (s .entry)) (self .at) r ⌝ }
+        ensures { λ r. ⌜ DigitPost (now (s .entry)) (self .at) r ⌝ }
     {
         match self.byte(s) {
             Byte::Is(b, next) => {
@@ -105,7 +105,7 @@ impl Cursor {
     }
 
     pub fn point(self, s: &[u8]) -> Point
-        ensures { λ r. ⌜ PointRead (now (s .entry)) (self .at) r ⌝ }
+        ensures { λ r. ⌜ PointPost (now (s .entry)) (self .at) r ⌝ }
     {
         match self.byte(s) {
             Byte::Is(b, next) => {
@@ -120,7 +120,7 @@ impl Cursor {
     }
 
     pub fn class(self, s: &[u8]) -> Class
-        ensures { λ r. ⌜ ClassRead (now (s .entry)) (self .at) r ⌝ }
+        ensures { λ r. ⌜ ClassPost (now (s .entry)) (self .at) r ⌝ }
     {
         match self.byte(s) {
             Byte::Is(b, next) => {
@@ -139,7 +139,7 @@ impl Cursor {
     }
 
     pub fn separator(self, s: &[u8]) -> Separator
-        ensures { λ r. ⌜ SeparatorRead (now (s .entry)) (self .at) r ⌝ }
+        ensures { λ r. ⌜ SeparatorPost (now (s .entry)) (self .at) r ⌝ }
     {
         match self.byte(s) {
             Byte::Is(b, next) => {
@@ -156,7 +156,7 @@ impl Cursor {
     }
 
     pub fn text(self, s: &[u8]) -> Text
-        ensures { λ r. ⌜ TextRead (now (s .entry)) (self .at) r ⌝ }
+        ensures { λ r. ⌜ TextPost (now (s .entry)) (self .at) r ⌝ }
     {
         match self.byte(s) {
             Byte::Is(b, next) => {

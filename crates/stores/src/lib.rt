@@ -4,7 +4,7 @@ ghost use mathlib.Core.List.{[], _∷_};
 ghost use Prim.Native.Nat.{_+_, _≤_};
 ghost use lib.ListN.{length, take};
 ghost use lib.Seq.{slice};
-ghost use Rattle.pattern.specs.Bytes.{same, word, zeroed};
+ghost use Rattle.pattern.specs.Bytes.{equal, le16, zeroed};
 ghost use Rattle.pattern.specs.Stores.{Puts};
 ghost use Rattle.stores.specs.Little.{little};
 
@@ -22,7 +22,7 @@ pub fn put_byte(to: &mut [u8], at: usize, b: u8) -> usize
 // A number in two bytes, the lower first.
 pub fn put16(to: &mut [u8], at: usize, x: u16) -> usize
     requires { ⌜ at + 2 ≤ length (now to) ⌝ }
-    ensures { λ r. ⌜ Puts (now (to .entry)) at (word x []) (now (to .exit)) r ⌝ }
+    ensures { λ r. ⌜ Puts (now (to .entry)) at (le16 x []) (now (to .exit)) r ⌝ }
 {
     to[at] = (x % 256) as u8;
     to[at + 1] = (x / 256) as u8;
@@ -60,7 +60,7 @@ pub fn copy(from: &[u8], n: usize, to: &mut [u8], at: usize) -> usize
 // The n bytes of a from i on are those of b from j on.
 pub fn equal(a: &[u8], i: usize, b: &[u8], j: usize, n: usize) -> bool
     requires { ⌜ i + n ≤ length (now a) ⌝ ∗ ⌜ j + n ≤ length (now b) ⌝ }
-    ensures { λ r. ⌜ r ≡ same (slice i (i + n) (now (a .entry))) (slice j (j + n) (now (b .entry))) ⌝ }
+    ensures { λ r. ⌜ r ≡ equal (slice i (i + n) (now (a .entry))) (slice j (j + n) (now (b .entry))) ⌝ }
 {
     let mut k = 0;
     while k < n {

@@ -14,8 +14,8 @@ use Rattle.pattern.specs.Table.{pool}
 use Rattle.pattern.specs.Print.{print}
 use Rattle.pattern.specs.Decode.{decode}
 use Rattle.table.specs.Headers.{pick, header-of, headed, read-header}
-use Rattle.table.specs.Checked.{after, only-if, read-pattern, read, walk}
-use Rattle.table.specs.Walk.{place, Ready, PatternWalked, tested}
+use Rattle.table.specs.Checked.{bind, only-if, read-pattern, read-table, walk}
+use Rattle.table.specs.Walk.{place, WalkPre, PatternPost, tested}
 use Rattle.table.specs.declared.Tested.the-variants as verdict
 use Rattle.table.specs.declared.header.Header.{Header}
 use Rattle.table.specs.declared.header.HeaderRead.{HeaderRead}
@@ -56,16 +56,16 @@ pub record HeadRead (s : Bytes) (h : Header) : Type 0 where
 pub record BodyRead (s : Bytes) (h : Header) (x : Walked) : Type 0 where
   pub read-head : HeadRead s h
   pub few : h .atoms ≤ atom-limit
-  pub walks : PatternWalked s (h .atoms) start 0 x
+  pub walks : PatternPost s (h .atoms) start 0 x
 
 module _ (s : Bytes) (bytes : (k : ℕ) → getD s k 0 < 256) where
   -- a table that is not read is not good
-  unread : read s ≡ none → verdict.Bad ≡ tested (decode s)
+  unread : read-table s ≡ none → verdict.Bad ≡ tested (decode s)
   unfolding walk tested
   unread e = sym (ap tested (sym (walk-is-decode s bytes) ∙ stopped _ _ e))
 
   pub bad-head : {x : HeaderRead} → x ≡ read-header s → x ≡ head.Bad → verdict.Bad ≡ tested (decode s)
-  unfolding read
+  unfolding read-table
   bad-head e z = unread (dropped _ _ (head-not s (sym z ∙ e)))
 
 module _ {s : Bytes} {h : Header} (r : HeadRead s h) where
@@ -73,18 +73,18 @@ module _ {s : Bytes} {h : Header} (r : HeadRead s h) where
   headed-so = head-is s h (r .head)
 
   pub bad-atoms : atom-limit < h .atoms → verdict.Bad ≡ tested (decode s)
-  unfolding read
+  unfolding read-table
   bad-atoms n =
       let (t, q) = headed-so in
       unread s (r .bytes) (kept _ _ t ∙ dropped _ _ (lt-leb (header-of s .atoms) atom-limit (subst (λ (h : Header). atom-limit < h .atoms) q n)))
 
   module _ (n : h .atoms ≤ atom-limit) where
-    pub ready-start : Ready s (h .atoms) start 0
+    pub ready-start : WalkPre s (h .atoms) start 0
     ready-start =
         let (t, q) = headed-so in
         let o = opens s t in
         let few : header-of s .atoms ≤ atom-limit = subst (λ (h : Header). h .atoms ≤ atom-limit) q n in
-        subst (λ (h : Header). Ready s (h .atoms) start 0) (sym q)
+        subst (λ (h : Header). WalkPre s (h .atoms) start 0) (sym q)
         (record {
           few = few;
           small = omega (arith, o .whole, few, r .bytes length-place, r .bytes (length-place + 1));
@@ -97,10 +97,10 @@ module _ {s : Bytes} {h : Header} (r : HeadRead s h) where
     -- what is made of the tree of the records, by a header
     abbrev ended : Header → Option (Syntax pattern)
     ended h =
-        after (read-pattern s (h .atoms) (3 * h .atoms + 2) 0 0 0) (λ t. only-if (eqb (size t) (h .atoms)) (only-if (eqb (length (pool t)) (h .length)) (some t)))
+        bind (read-pattern s (h .atoms) (3 * h .atoms + 2) 0 0 0) (λ t. only-if (eqb (size t) (h .atoms)) (only-if (eqb (length (pool t)) (h .length)) (some t)))
 
-    reading : read s ≡ ended h
-    unfolding read
+    reading : read-table s ≡ ended h
+    unfolding read-table
     reading =
         let (t, q) = headed-so in
         let m : header-of s .atoms ≤ atom-limit = subst (λ (h : Header). h .atoms ≤ atom-limit) q n in

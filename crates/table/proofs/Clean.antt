@@ -11,14 +11,14 @@ use Rattle.pattern.specs.Numbers.{number-limit, quote-byte, open-high}
 use Rattle.pattern.specs.Bytes.{Bytes, between}
 use Rattle.pattern.specs.Syntax.{Sort, Syntax, last, then, repeat, codes, literal, group, only, or}
 use Rattle.pattern.specs.Meaning.{Cut, UpTo}
-use Rattle.pattern.specs.Spelling.{start, Spells}
-use Rattle.pattern.specs.Within.{Small, Fits, Good}
+use Rattle.pattern.specs.Grammar.{start, Derives}
+use Rattle.pattern.specs.Within.{Small, Fits, InLimits}
 use Rattle.pattern.specs.Print.{print-count, double, print}
 use Rattle.pattern.specs.Table.{high-field}
 use Rattle.pattern.specs.Decode.{high-of}
 use Rattle.pattern.proofs.Tests.{passed}
 use Rattle.pattern.proofs.Printed.{count-printed, Printable, quoted-printed, letters-printed, letters-some, quoted-printable}
-use Rattle.table.specs.Checked.{plain, ordered}
+use Rattle.table.specs.Checked.{all-plain, ordered}
 use Rattle.table.proofs.Standing.{Clean}
 use Rattle.table.proofs.Options.{and-true, true-and}
 
@@ -26,39 +26,39 @@ pub true-T : (b : Bool) → b ≡ true → T b
 true-T true h = tt
 true-T false h = absurd (mathlib.Core.Bool.false≢true h)
 
-plain-printable : (v : Bytes) → plain v ≡ true → Printable v
-unfolding plain Printable
+plain-printable : (v : Bytes) → all-plain v ≡ true → Printable v
+unfolding all-plain Printable
 plain-printable [] e = tt
-plain-printable (b ∷ v) e = let (x, y) = and-true (between 32 126 b) (plain v) e in (true-T _ x, plain-printable v y)
+plain-printable (b ∷ v) e = let (x, y) = and-true (between 32 126 b) (all-plain v) e in (true-T _ x, plain-printable v y)
 
-printable-plain : (v : Bytes) → Printable v → plain v ≡ true
-unfolding plain Printable
+printable-plain : (v : Bytes) → Printable v → all-plain v ≡ true
+unfolding all-plain Printable
 printable-plain [] p = refl
-printable-plain (b ∷ v) (p, q) = true-and (between 32 126 b) (plain v) (passed _ p) (printable-plain v q)
+printable-plain (b ∷ v) (p, q) = true-and (between 32 126 b) (all-plain v) (passed _ p) (printable-plain v q)
 
 -- a good and clean tree is spelt by its printed source
-pub clean-spells : {s : Sort} (d : ℕ) (x : Syntax s) → Good d x → Clean x → Spells x (print x)
-unfolding Spells Cut Good Clean print
-clean-spells d (last a) g c = clean-spells d a g c
-clean-spells d (then a p) (g, k) (c, e) = (print a, print p, refl, clean-spells d a g c, clean-spells d p k e)
-clean-spells d (repeat low high b) (g, k) c = (print-count low high, print b, refl, count-printed low high, clean-spells d b k c)
-clean-spells d (codes set) g c = letters-printed set c g
-clean-spells d (literal value) g c = (quote-byte ∷ double value, refl, quoted-printed value [] (quote-byte ∷ []) start (plain-printable value c))
-clean-spells d (group bs) (g, k) c = (print bs, refl, clean-spells (suc d) bs k c)
-clean-spells d (only p) g c = clean-spells d p g c
-clean-spells d (or p bs) (g, k) (c, e) = (print p, print bs, refl, clean-spells d p g c, clean-spells d bs k e)
+pub clean-derives : {s : Sort} (d : ℕ) (x : Syntax s) → InLimits d x → Clean x → Derives x (print x)
+unfolding Derives Cut InLimits Clean print
+clean-derives d (last a) g c = clean-derives d a g c
+clean-derives d (then a p) (g, k) (c, e) = (print a, print p, refl, clean-derives d a g c, clean-derives d p k e)
+clean-derives d (repeat low high b) (g, k) c = (print-count low high, print b, refl, count-printed low high, clean-derives d b k c)
+clean-derives d (codes set) g c = letters-printed set c g
+clean-derives d (literal value) g c = (quote-byte ∷ double value, refl, quoted-printed value [] (quote-byte ∷ []) start (plain-printable value c))
+clean-derives d (group bs) (g, k) c = (print bs, refl, clean-derives (suc d) bs k c)
+clean-derives d (only p) g c = clean-derives d p g c
+clean-derives d (or p bs) (g, k) (c, e) = (print p, print bs, refl, clean-derives d p g c, clean-derives d bs k e)
 
 -- what some source spells is clean
-pub spells-clean : {s : Sort} (x : Syntax s) (w : Bytes) → Spells x w → Clean x
-unfolding Spells Cut Clean
-spells-clean (last a) w h = spells-clean a w h
-spells-clean (then a p) w (x, y, e, h, i) = (spells-clean a x h, spells-clean p y i)
-spells-clean (repeat low high b) w (x, y, e, h, i) = spells-clean b y i
-spells-clean (codes set) w h = letters-some h
-spells-clean (literal value) w (q, e, h) = printable-plain value (quoted-printable h)
-spells-clean (group bs) w (x, e, h) = spells-clean bs x h
-spells-clean (only p) w h = spells-clean p w h
-spells-clean (or p bs) w (x, y, e, h, i) = (spells-clean p x h, spells-clean bs y i)
+pub derives-clean : {s : Sort} (x : Syntax s) (w : Bytes) → Derives x w → Clean x
+unfolding Derives Cut Clean
+derives-clean (last a) w h = derives-clean a w h
+derives-clean (then a p) w (x, y, e, h, i) = (derives-clean a x h, derives-clean p y i)
+derives-clean (repeat low high b) w (x, y, e, h, i) = derives-clean b y i
+derives-clean (codes set) w h = letters-some h
+derives-clean (literal value) w (q, e, h) = printable-plain value (quoted-printable h)
+derives-clean (group bs) w (x, e, h) = derives-clean bs x h
+derives-clean (only p) w h = derives-clean p w h
+derives-clean (or p bs) w (x, y, e, h, i) = (derives-clean p x h, derives-clean bs y i)
 
 -- ---- the numbers of a count, as a record has them
 

@@ -16,25 +16,25 @@ use Rattle.pattern.specs.Syntax.{body, Syntax, size}
 use Rattle.pattern.specs.Table.{pool}
 use Rattle.pattern.specs.Print.{print-set, double, print}
 use Rattle.table.specs.Headers.{pick}
-use Rattle.table.specs.Checked.{plain, a-set, codes-leaf, text-leaf, leaf as leaf-read}
+use Rattle.table.specs.Checked.{all-plain, a-set, codes-leaf, text-leaf, leaf as leaf-read}
 use Rattle.table.specs.Leaves.{text-of, leaf-of}
-use Rattle.table.specs.declared.lengths.Text.the-variants as texts
+use Rattle.table.specs.declared.lengths.TextLength.the-variants as texts
 use Rattle.table.specs.declared.walk.Leaf.the-variants as leaf
 use Rattle.table.proofs.Options.{inside, only-some, choose-some, kept, dropped, first, second, and-true}
 use Rattle.table.proofs.Measures.{double-length}
 
 -- what an answer on a literal says
-text-is : (v : Bytes) (n : ℕ) → texts.Length n ≡ text-of v → (plain v ≡ true) × (n ≡ length (double v))
+text-is : (v : Bytes) (n : ℕ) → texts.Length n ≡ text-of v → (all-plain v ≡ true) × (n ≡ length (double v))
 unfolding text-of pick
-text-is v n e = go (plain v) e
+text-is v n e = go (all-plain v) e
   where
     go : (b : Bool) → texts.Length n ≡ pick b (texts.Length (length (double v))) texts.Bad → (b ≡ true) × (n ≡ length (double v))
     go true e = (refl, cc)
     go false e = let z : _≡_ {A = ℕ} 0 1 = cc in absurd (omega arith)
 
-text-not : (v : Bytes) → texts.Bad ≡ text-of v → plain v ≡ false
+text-not : (v : Bytes) → texts.Bad ≡ text-of v → all-plain v ≡ false
 unfolding text-of pick
-text-not v e = go (plain v) e
+text-not v e = go (all-plain v) e
   where
     go : (b : Bool) → texts.Bad ≡ pick b (texts.Length (length (double v))) texts.Bad → b ≡ false
     go true e = let z : _≡_ {A = ℕ} 0 1 = cc in absurd (omega arith)

@@ -10,17 +10,17 @@ use lib.ListN.{length, getD, take, drop, length-append, drop-of-length-le}
 use lib.Seq.{drop-cons}
 use borrow.Author.Tests.{le-leb, lt-leb, eq-eqb, ne-eqb}
 use Rattle.pattern.specs.Numbers.{point-byte, quote-byte, open-high, atoms-place, header-size}
-use Rattle.pattern.specs.Bytes.{Bytes, between, same}
+use Rattle.pattern.specs.Bytes.{Bytes, between, equal}
 use Rattle.pattern.specs.Codes.{all-codes}
 use Rattle.pattern.specs.Print.{decimal, print-low, print-count, print-set, double}
 use Rattle.pattern.specs.Decode.{high-of}
 use Rattle.pattern.proofs.Tests.{and-both, all, all-at}
 use Rattle.table.specs.Headers.{pick, first-bytes, header-of, headed, read-header}
-use Rattle.table.specs.Checked.{plain}
+use Rattle.table.specs.Checked.{all-plain}
 use Rattle.table.specs.Leaves.{text-of}
 use Rattle.table.specs.declared.header.HeaderRead.{HeaderRead}
 use Rattle.table.specs.declared.header.HeaderRead.the-variants as head
-use Rattle.table.specs.declared.lengths.Text.the-variants as texts
+use Rattle.table.specs.declared.lengths.TextLength.the-variants as texts
 use Rattle.table.proofs.Sources.{count-open, count-two, quote-here, plain-here, double-end}
 
 -- ---- counts
@@ -53,11 +53,11 @@ letters-at set h =
 
 -- ---- steps along lists
 
-plain-step : (v : Bytes) (i j : ℕ) → j ≡ i + 1 → i < length v → plain (drop i v) ≡ (leb 32 (getD v i 0) && leb (getD v i 0) 126) && plain (drop j v)
-unfolding plain between
+plain-step : (v : Bytes) (i j : ℕ) → j ≡ i + 1 → i < length v → all-plain (drop i v) ≡ (leb 32 (getD v i 0) && leb (getD v i 0) 126) && all-plain (drop j v)
+unfolding all-plain between
 plain-step v i j e h =
     let n : suc i ≡ j = omega (arith, e) in
-    ap plain (drop-cons v i 0 h) ∙ ap (λ m. (leb 32 (getD v i 0) && leb (getD v i 0) 126) && plain (drop m v)) n
+    ap all-plain (drop-cons v i 0 h) ∙ ap (λ m. (leb 32 (getD v i 0) && leb (getD v i 0) 126) && all-plain (drop m v)) n
 
 -- doubled quotes at most double a value
 pub double-length : (v : Bytes) → length (double v) ≤ 2 * length v
@@ -73,18 +73,18 @@ double-length (b ∷ v) = go (eqb b quote-byte) (double-length v)
 
 module _ (v : Bytes) (i : ℕ) where
   abbrev Plain : ℕ → Type 0
-  Plain k = plain v ≡ plain (drop k v)
+  Plain k = all-plain v ≡ all-plain (drop k v)
 
   pub text-low : i < length v → Plain i → getD v i 0 < 32 → texts.Bad ≡ text-of v
   unfolding text-of pick
-  text-low h e n = sym (ap (λ b. pick b (texts.Length (length (double v))) texts.Bad) (e ∙ plain-step v i (i + 1) refl h ∙ ap (λ b. (b && leb (getD v i 0) 126) && plain (drop (i + 1) v)) (lt-leb _ _ n)))
+  text-low h e n = sym (ap (λ b. pick b (texts.Length (length (double v))) texts.Bad) (e ∙ plain-step v i (i + 1) refl h ∙ ap (λ b. (b && leb (getD v i 0) 126) && all-plain (drop (i + 1) v)) (lt-leb _ _ n)))
 
   pub text-high : i < length v → Plain i → 32 ≤ getD v i 0 → 126 < getD v i 0 → texts.Bad ≡ text-of v
   unfolding text-of pick
-  text-high h e m n = sym (ap (λ b. pick b (texts.Length (length (double v))) texts.Bad) (e ∙ plain-step v i (i + 1) refl h ∙ ap₂ (λ a b. (a && b) && plain (drop (i + 1) v)) (le-leb _ _ m) (lt-leb _ _ n)))
+  text-high h e m n = sym (ap (λ b. pick b (texts.Length (length (double v))) texts.Bad) (e ∙ plain-step v i (i + 1) refl h ∙ ap₂ (λ a b. (a && b) && all-plain (drop (i + 1) v)) (le-leb _ _ m) (lt-leb _ _ n)))
 
   pub text-on : i < length v → Plain i → 32 ≤ getD v i 0 → getD v i 0 ≤ 126 → Plain (i + 1)
-  text-on h e m n = e ∙ plain-step v i (i + 1) refl h ∙ ap₂ (λ a b. (a && b) && plain (drop (i + 1) v)) (le-leb _ _ m) (le-leb _ _ n)
+  text-on h e m n = e ∙ plain-step v i (i + 1) refl h ∙ ap₂ (λ a b. (a && b) && all-plain (drop (i + 1) v)) (le-leb _ _ m) (le-leb _ _ n)
 
   pub quote-on : i < length v → getD v i 0 ≡ quote-byte → length (double (drop i v)) ≡ 2 + length (double (drop (i + 1) v))
   quote-on h e = rw add-one (omega (arith, ap length (quote-here v i h e)))
@@ -93,12 +93,12 @@ module _ (v : Bytes) (i : ℕ) where
   other-on h e = rw add-one (omega (arith, ap length (plain-here v i h e)))
 
   pub text-end : (n : ℕ) → length v ≤ i → Plain i → length (double v) ≡ n + length (double (drop i v)) → texts.Length n ≡ text-of v
-  unfolding text-of pick plain
+  unfolding text-of pick all-plain
   text-end n h e f =
       let z = drop-of-length-le v h in
       let q : length (double (drop i v)) ≡ 0 = ap length (double-end v i h) in
       let m : n ≡ length (double v) = omega (arith, f, q) in
-      ap (λ x. texts.Length x) m ∙ sym (ap (λ b. pick b (texts.Length (length (double v))) texts.Bad) (e ∙ ap plain z))
+      ap (λ x. texts.Length x) m ∙ sym (ap (λ b. pick b (texts.Length (length (double v))) texts.Bad) (e ∙ ap all-plain z))
 
 -- ---- a header
 
@@ -106,22 +106,22 @@ module _ (s : Bytes) where
   abbrev Heads : Bool → Bool → Bool → HeaderRead
   Heads a b c = pick ((a && b) && c) (head.Is (header-of s)) head.Bad
 
-  heads : (a b c : Bool) → leb header-size (length s) ≡ a → same (take atoms-place s) first-bytes ≡ b → eqb (length s) (header-of s .pool + header-of s .length) ≡ c → read-header s ≡ Heads a b c
+  heads : (a b c : Bool) → leb header-size (length s) ≡ a → equal (take atoms-place s) first-bytes ≡ b → eqb (length s) (header-of s .pool + header-of s .length) ≡ c → read-header s ≡ Heads a b c
   unfolding read-header headed
   heads a b c e f g = ap₂ (λ x y. Heads x y (eqb (length s) (header-of s .pool + header-of s .length))) e f ∙ ap (λ z. Heads a b z) g
 
   pub head-short : length s < header-size → head.Bad ≡ read-header s
   unfolding pick
-  head-short h = sym (heads false (same (take atoms-place s) first-bytes) _ (lt-leb _ _ h) refl refl)
+  head-short h = sym (heads false (equal (take atoms-place s) first-bytes) _ (lt-leb _ _ h) refl refl)
 
-  pub head-off : header-size ≤ length s → same (take atoms-place s) first-bytes ≡ false → head.Bad ≡ read-header s
+  pub head-off : header-size ≤ length s → equal (take atoms-place s) first-bytes ≡ false → head.Bad ≡ read-header s
   unfolding pick
   head-off h e = sym (heads true false _ (le-leb _ _ h) e refl)
 
-  pub head-wrong : header-size ≤ length s → same (take atoms-place s) first-bytes ≡ true → (length s ≡ header-of s .pool + header-of s .length → ⊥) → head.Bad ≡ read-header s
+  pub head-wrong : header-size ≤ length s → equal (take atoms-place s) first-bytes ≡ true → (length s ≡ header-of s .pool + header-of s .length → ⊥) → head.Bad ≡ read-header s
   unfolding pick
   head-wrong h e n = sym (heads true true false (le-leb _ _ h) e (ne-eqb _ _ n))
 
-  pub head-right : header-size ≤ length s → same (take atoms-place s) first-bytes ≡ true → length s ≡ header-of s .pool + header-of s .length → head.Is (header-of s) ≡ read-header s
+  pub head-right : header-size ≤ length s → equal (take atoms-place s) first-bytes ≡ true → length s ≡ header-of s .pool + header-of s .length → head.Is (header-of s) ≡ read-header s
   unfolding pick
   head-right h e n = sym (heads true true true (le-leb _ _ h) e (eq-eqb _ _ n))

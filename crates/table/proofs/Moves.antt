@@ -5,8 +5,8 @@ use lib.ListN.{length}
 use Rattle.pattern.specs.Numbers.{depth-limit, header-size, record-size}
 use Rattle.pattern.specs.Bytes.{Bytes}
 use Rattle.table.specs.Fields.{RecordIn}
-use Rattle.table.specs.Leaves.{LeafReady}
-use Rattle.table.specs.Walk.{place, Ready, Moved, Past}
+use Rattle.table.specs.Leaves.{LeafPre}
+use Rattle.table.specs.Walk.{place, WalkPre, WalkMoved, Past}
 use Rattle.table.specs.declared.walk.Place.{Place}
 use Rattle.table.specs.declared.walk.Passed.{Passed}
 use Rattle.table.specs.declared.walk.Passed.the-variants as passed
@@ -24,19 +24,19 @@ abbrev pub bracket-on : Place → (c : ℕ) → Place
 bracket-on x c = place (x .atom + 1) (x .pool) (x .source + c + 1)
 
 module _ {s : Bytes} {A : ℕ} {at : Place} where
-  module _ {d : ℕ} (r : Ready s A at d) where
-    pub ready-leaf : LeafReady s A (at .pool)
+  module _ {d : ℕ} (r : WalkPre s A at d) where
+    pub ready-leaf : LeafPre s A (at .pool)
     ready-leaf = record { pool = r .pool; small = r .small; few = omega (arith, r .few) }
 
-    pub ready-on : {next : Place} → Moved s A at next → Ready s A next d
+    pub ready-on : {next : Place} → WalkMoved s A at next → WalkPre s A next d
     ready-on m =
         record { few = r .few; small = r .small; atom = m .atom; pool = m .pool; source = omega (arith, m .source, r .source); shallow = r .shallow }
 
-    pub ready-again : {next : Place} → Moved s A at next → Ready s A (byte-on next) d
+    pub ready-again : {next : Place} → WalkMoved s A at next → WalkPre s A (byte-on next) d
     ready-again m =
         record { few = r .few; small = r .small; atom = m .atom; pool = m .pool; source = omega (arith, m .source, r .source); shallow = r .shallow }
 
-    pub ready-inside : (c : ℕ) → c ≤ 11 → at .atom < A → d < depth-limit → Ready s A (bracket-on at c) (d + 1)
+    pub ready-inside : (c : ℕ) → c ≤ 11 → at .atom < A → d < depth-limit → WalkPre s A (bracket-on at c) (d + 1)
     ready-inside c e f g =
         record { few = r .few; small = r .small; atom = omega arith; pool = r .pool; source = omega (arith, r .source); shallow = omega arith }
 
@@ -48,20 +48,20 @@ module _ {s : Bytes} {A : ℕ} {at : Place} where
     pub record-in : at .atom < A → RecordIn s (at .atom)
     record-in h = record { within = omega (arith, r .pool) }
 
-  pub moved-then : {next dest : Place} → Moved s A at next → Moved s A next dest → Moved s A at dest
+  pub moved-then : {next dest : Place} → WalkMoved s A at next → WalkMoved s A next dest → WalkMoved s A at dest
   moved-then m n =
       record { on = omega (arith, m .on, n .on); atom = n .atom; pool = n .pool; source = omega (arith, m .source, n .source) }
 
-  moved-again : {next dest : Place} → Moved s A at next → Moved s A (byte-on next) dest → Moved s A at dest
+  moved-again : {next dest : Place} → WalkMoved s A at next → WalkMoved s A (byte-on next) dest → WalkMoved s A at dest
   moved-again m n =
       record { on = omega (arith, m .on, n .on); atom = n .atom; pool = n .pool; source = omega (arith, m .source, n .source) }
 
-  pub moved-group : (c : ℕ) {dest : Place} → c ≤ 11 → Moved s A (bracket-on at c) dest → Moved s A at (byte-on dest)
+  pub moved-group : (c : ℕ) {dest : Place} → c ≤ 11 → WalkMoved s A (bracket-on at c) dest → WalkMoved s A at (byte-on dest)
   moved-group c e n = record { on = omega (arith, n .on); atom = n .atom; pool = n .pool; source = omega (arith, n .source) }
 
-  pub moved-leaf : (c v w : ℕ) → c ≤ 11 → at .atom < A → header-size + record-size * A + at .pool + v ≤ length s → w ≤ 2 * v + 7 → Moved s A at (leaf-on at c v w)
+  pub moved-leaf : (c v w : ℕ) → c ≤ 11 → at .atom < A → header-size + record-size * A + at .pool + v ≤ length s → w ≤ 2 * v + 7 → WalkMoved s A at (leaf-on at c v w)
   moved-leaf c v w e f g k = record { on = omega arith; atom = omega arith; pool = omega (arith, g); source = omega arith }
 
-  pub past-again : {next : Place} (x : Passed) → Moved s A at next → Past s A (byte-on next) x → Past s A at x
+  pub past-again : {next : Place} (x : Passed) → WalkMoved s A at next → Past s A (byte-on next) x → Past s A at x
   past-again (passed.To dest) h n = moved-again h n
   past-again passed.Bad h n = tt

@@ -3,7 +3,7 @@ use mathlib.Core.Path.{_≡_, refl, sym}
 use mathlib.Core.Logic.{_⊎_, inl, inr}
 use mathlib.Core.Bool.{Bool, true, false, _&&_}
 use mathlib.Core.Option.{Option, none, some, Option·some-ne-none, Option·some-injective}
-use Rattle.table.specs.Checked.{after, only-if, choose}
+use Rattle.table.specs.Checked.{bind, only-if, choose}
 
 module _ {A : Type 0} where
   pub nothing : {X : Type 0} {a : A} → none ≡ some a → X
@@ -12,8 +12,8 @@ module _ {A : Type 0} where
   pub inside : {a b : A} → some a ≡ some b → a ≡ b
   inside {a} {b} e = Option·some-injective a b e
 
-  pub after-some : {B : Type 0} (x : Option A) (k : A → Option B) {y : B} → after x k ≡ some y → (a : A) × (x ≡ some a) × (k a ≡ some y)
-  unfolding after
+  pub after-some : {B : Type 0} (x : Option A) (k : A → Option B) {y : B} → bind x k ≡ some y → (a : A) × (x ≡ some a) × (k a ≡ some y)
+  unfolding bind
   after-some (some a) k e = (a, refl, e)
   after-some none k e = absurd (Option·some-ne-none _ (sym e))
 
@@ -45,12 +45,12 @@ module _ {A : Type 0} where
   unfolding choose
   second c x y e = rw e
 
-  pub going-on : {B : Type 0} (x : Option A) (k : A → Option B) {a : A} → x ≡ some a → after x k ≡ k a
-  unfolding after
+  pub going-on : {B : Type 0} (x : Option A) (k : A → Option B) {a : A} → x ≡ some a → bind x k ≡ k a
+  unfolding bind
   going-on x k e = rw e
 
-  pub stopped : {B : Type 0} (x : Option A) (k : A → Option B) → x ≡ none → after x k ≡ none
-  unfolding after
+  pub stopped : {B : Type 0} (x : Option A) (k : A → Option B) → x ≡ none → bind x k ≡ none
+  unfolding bind
   stopped x k e = rw e
 
 pub and-true : (a b : Bool) → a && b ≡ true → (a ≡ true) × (b ≡ true)

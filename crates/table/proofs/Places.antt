@@ -6,8 +6,8 @@ use native.Mathlib.Omega.{arith}
 use lib.ListN.{length, getD, drop}
 use lib.Seq.{drop-cons}
 use Rattle.pattern.specs.Numbers.{record-size}
-use Rattle.pattern.specs.Bytes.{Bytes, word}
-use Rattle.pattern.specs.Table.{flat}
+use Rattle.pattern.specs.Bytes.{Bytes, le16}
+use Rattle.pattern.specs.Table.{record-bytes}
 use Rattle.pattern.specs.Decode.{field, rec-at}
 
 module _ (s : Bytes) where
@@ -18,15 +18,15 @@ module _ (s : Bytes) where
     halves : (x y : ℕ) → x < 256 → ((x + 256 * y) % 256 ≡ x) × ((x + 256 * y) / 256 ≡ y)
     halves x y h = (omega arith, omega arith)
 
-    pub pair : (j k : ℕ) {ys : Bytes} → k ≡ j + 2 → k ≤ length s → drop k s ≡ ys → drop j s ≡ word (field s j) ys
+    pub pair : (j k : ℕ) {ys : Bytes} → k ≡ j + 2 → k ≤ length s → drop k s ≡ ys → drop j s ≡ le16 (field s j) ys
     pair j k {ys} n h e =
         let (lo, hi) = halves (getD s j 0) (getD s (j + 1) 0) (bytes j) in
         step j (j + 1) (omega arith) (omega arith) (step (j + 1) k (omega arith) (omega arith) e)
         ∙ ap₂ (λ x y. x ∷ y ∷ ys) (sym lo) (sym hi)
 
     -- a record's bytes
-    pub one-record : (j k : ℕ) → k ≡ j + record-size → k ≤ length s → drop j s ≡ flat (rec-at s j ∷ []) (drop k s)
-    unfolding flat
+    pub one-record : (j k : ℕ) → k ≡ j + record-size → k ≤ length s → drop j s ≡ record-bytes (rec-at s j ∷ []) (drop k s)
+    unfolding record-bytes
     one-record j k n h =
         step j (j + 1) (omega arith) (omega arith)
         (step (j + 1) (j + 2) (omega arith) (omega arith)

@@ -12,10 +12,10 @@ use lib.ListN.{length, getD, drop, length-append, length-take, length-drop, take
 use Rattle.pattern.specs.Numbers.{depth-limit, set-limit, header-size, record-size}
 use Rattle.pattern.specs.Bytes.{Bytes}
 use Rattle.pattern.specs.Syntax.{pattern, atom, body, branches, Syntax, then, repeat, codes, literal, or, size}
-use Rattle.pattern.specs.Within.{Fits, Good}
-use Rattle.pattern.specs.Table.{pool, choices, kind-field, a-field, b-field, high-field, Rec, rec, records, flat}
-use Rattle.pattern.specs.Decode.{layout, its, high-of}
-use Rattle.table.specs.Checked.{plain, a-set, after, only-if, text, leaf, closed, read-pattern, read-atom, read-branches}
+use Rattle.pattern.specs.Within.{Fits, InLimits}
+use Rattle.pattern.specs.Table.{pool, branch-count, kind-field, a-field, b-field, high-field, Rec, rec, records, record-bytes}
+use Rattle.pattern.specs.Decode.{layout, record-at, high-of}
+use Rattle.table.specs.Checked.{all-plain, a-set, bind, only-if, text, leaf, closed, read-pattern, read-atom, read-branches}
 use Rattle.table.proofs.Standing.{Clean, Set, both-placed}
 use Rattle.table.proofs.Options.{nothing, inside, after-some, only-some, choose-some, and-true}
 use Rattle.pattern.proofs.Records.{count-records}
@@ -34,19 +34,19 @@ module _ (s : Bytes) (A : ℕ) (laid : Laid s A) where
       λ j. record { kind = e j; ends = r .ends; low = r .low; high = sym (high-back (r .high)) j; a = f j; b = g j }
 
   -- an atom whose record is its body's
-  set-atom : (b : Syntax body) (i p d : ℕ) → i < A → Fits (its s (layout s) i .low) (high-of (its s (layout s) i .high))
-      → its s (layout s) i ≡ rec (its s (layout s) i .ends) (its s (layout s) i .low) (high-of (its s (layout s) i .high)) b i p
+  set-atom : (b : Syntax body) (i p d : ℕ) → i < A → Fits (record-at s (layout s) i .low) (high-of (record-at s (layout s) i .high))
+      → record-at s (layout s) i ≡ rec (record-at s (layout s) i .ends) (record-at s (layout s) i .low) (high-of (record-at s (layout s) i .high)) b i p
       → ((e : ℕ) → Set s A e b (suc i) p d)
-      → Set s A (its s (layout s) i .ends) (repeat (its s (layout s) i .low) (high-of (its s (layout s) i .high)) b) i p d
-  unfolding records size pool Good Clean flat
+      → Set s A (record-at s (layout s) i .ends) (repeat (record-at s (layout s) i .low) (high-of (record-at s (layout s) i .high)) b) i p d
+  unfolding records size pool InLimits Clean record-bytes
   set-atom b i p d h o e f =
-      let g = f (its s (layout s) i .ends) in
+      let g = f (record-at s (layout s) i .ends) in
       record {
         placed = record {
           left = g .placed .left;
           over = g .placed .over;
           recs = one-record s (laid .bytes) (header-size + record-size * i) (header-size + record-size * suc i) (omega arith) (omega (arith, laid .records))
-              ∙ ap (λ x. flat (its s (layout s) i ∷ []) x) (g .placed .recs) ∙ ap (λ x. flat (x ∷ records (its s (layout s) i .ends) b (suc i) p) (g .placed .left)) e;
+              ∙ ap (λ x. record-bytes (record-at s (layout s) i ∷ []) x) (g .placed .recs) ∙ ap (λ x. record-bytes (x ∷ records (record-at s (layout s) i .ends) b (suc i) p) (g .placed .left)) e;
           text = g .placed .text;
         };
         good = (o, g .good);
@@ -56,7 +56,7 @@ module _ (s : Bytes) (A : ℕ) (laid : Laid s A) where
       }
 
   set-both : (e : ℕ) (a : Syntax atom) (q : Syntax pattern) (i p d : ℕ) → Set s A 0 a i p d → Set s A e q (i + size a) (p + length (pool a)) d → Set s A e (then a q) i p d
-  unfolding records size pool Good Clean
+  unfolding records size pool InLimits Clean
   set-both e a q i p d f g =
       record {
         placed = both-placed _ _ _ _ (size a) (count-records 0 a i p) (f .placed) (g .placed);
@@ -67,7 +67,7 @@ module _ (s : Bytes) (A : ℕ) (laid : Laid s A) where
       }
 
   set-branches : (e : ℕ) (q : Syntax pattern) (bs : Syntax branches) (i p d : ℕ) → Set s A e q i p d → Set s A e bs (i + size q) (p + length (pool q)) d → Set s A e (or q bs) i p d
-  unfolding records size pool Good Clean
+  unfolding records size pool InLimits Clean
   set-branches e q bs i p d f g =
       record {
         placed = both-placed _ _ _ _ (size q) (count-records e q i p) (f .placed) (g .placed);
@@ -78,7 +78,7 @@ module _ (s : Bytes) (A : ℕ) (laid : Laid s A) where
       }
 
   set-codes : (set i p d : ℕ) → a-set set ≡ true → i ≤ A → header-size + record-size * A + p ≤ length s → (e : ℕ) → Set s A e (codes set) i p d
-  unfolding records size pool flat Good Clean a-set
+  unfolding records size pool record-bytes InLimits Clean a-set
   set-codes set i p d h w v e =
       let (x, y) = and-true (ltb 0 set) (ltb set set-limit) h in
       record {
@@ -92,8 +92,8 @@ module _ (s : Bytes) (A : ℕ) (laid : Laid s A) where
   length-text : (p n : ℕ) → header-size + record-size * A + p + n ≤ length s → length (text s A p n) ≡ n
   length-text p n h = length-take n (drop (header-size + record-size * A + p) s) ∙ omega (arith, length-drop (header-size + record-size * A + p) s)
 
-  set-literal : (i p n d : ℕ) → plain (text s A p n) ≡ true → i ≤ A → header-size + record-size * A + p + n ≤ length s → (e : ℕ) → Set s A e (literal (text s A p n)) i p d
-  unfolding records size pool flat Good Clean
+  set-literal : (i p n d : ℕ) → all-plain (text s A p n) ≡ true → i ≤ A → header-size + record-size * A + p + n ≤ length s → (e : ℕ) → Set s A e (literal (text s A p n)) i p d
+  unfolding records size pool record-bytes InLimits Clean
   set-literal i p n d h z v e =
       let m = length-text p n v in
       let rest = drop (header-size + record-size * A + p) s in
@@ -107,45 +107,45 @@ module _ (s : Bytes) (A : ℕ) (laid : Laid s A) where
 
   pub record Sound (f : ℕ) : Type 0 where
     pub patterns : (i p d : ℕ) (t : Syntax pattern) → header-size + record-size * A + p ≤ length s → read-pattern s A f i p d ≡ some t → (e : ℕ) → Set s A e t i p d
-    pub atoms : (i p d : ℕ) (a : Syntax atom) → header-size + record-size * A + p ≤ length s → read-atom s A f i p d ≡ some a → Set s A (its s (layout s) i .ends) a i p d
+    pub atoms : (i p d : ℕ) (a : Syntax atom) → header-size + record-size * A + p ≤ length s → read-atom s A f i p d ≡ some a → Set s A (record-at s (layout s) i .ends) a i p d
     pub branches : (k i p d : ℕ) (bs : Syntax branches) → header-size + record-size * A + p ≤ length s → read-branches s A f k i p d ≡ some bs
-        → (choices bs ≡ k) × ((e : ℕ) → Set s A e bs i p d)
+        → (branch-count bs ≡ k) × ((e : ℕ) → Set s A e bs i p d)
 
   -- a body, its record and where it stands
   abbrev Bodied : (b : Syntax body) (i p d : ℕ) → Type 0
   Bodied b i p d =
-      (its s (layout s) i ≡ rec (its s (layout s) i .ends) (its s (layout s) i .low) (high-of (its s (layout s) i .high)) b i p) × ((e : ℕ) → Set s A e b (suc i) p d)
+      (record-at s (layout s) i ≡ rec (record-at s (layout s) i .ends) (record-at s (layout s) i .low) (high-of (record-at s (layout s) i .high)) b i p) × ((e : ℕ) → Set s A e b (suc i) p d)
 
-  leaf-body : (i p d : ℕ) (b : Syntax body) → i < A → header-size + record-size * A + p ≤ length s → leaf s A (its s (layout s) i .kind) (its s (layout s) i .a) (its s (layout s) i .b) p ≡ some b → Bodied b i p d
+  leaf-body : (i p d : ℕ) (b : Syntax body) → i < A → header-size + record-size * A + p ≤ length s → leaf s A (record-at s (layout s) i .kind) (record-at s (layout s) i .a) (record-at s (layout s) i .b) p ≡ some b → Bodied b i p d
   unfolding leaf kind-field a-field b-field
   leaf-body i p d b h v e =
       ⊎-elim
       (λ (k, g). let (y, g1) = only-some _ _ g in
       let (z, g2) = only-some _ _ g1 in
       subst (λ (b : Syntax body). Bodied b i p d) (inside g2)
-      (same-rec (its s (layout s) i) _ _ _ (eqb-true _ _ k) refl (eqb-true _ _ z), set-codes _ (suc i) p d y h v))
+      (same-rec (record-at s (layout s) i) _ _ _ (eqb-true _ _ k) refl (eqb-true _ _ z), set-codes _ (suc i) p d y h v))
       (λ (k, g). let (y4, g1) = only-some _ _ g in
       let (y5, g2) = only-some _ _ g1 in
       let (y3, g3) = only-some _ _ g2 in
       let (z, g4) = only-some _ _ g3 in
       let q = leb-true _ _ y3 in
       subst (λ (b : Syntax body). Bodied b i p d) (inside g4)
-      (same-rec (its s (layout s) i) _ _ _ (eqb-true _ _ y4) (eqb-true _ _ y5) (sym (length-text p _ q)), set-literal (suc i) p _ d z h q))
+      (same-rec (record-at s (layout s) i) _ _ _ (eqb-true _ _ y4) (eqb-true _ _ y5) (sym (length-text p _ q)), set-literal (suc i) p _ d z h q))
       (choose-some _ _ _ e)
 
-  group-body : (f i p d : ℕ) (b : Syntax body) → Sound f → header-size + record-size * A + p ≤ length s → its s (layout s) i .kind ≡ 3
-      → only-if (ltb d depth-limit) (after (read-branches s A f (its s (layout s) i .a) (suc i) p (suc d)) (closed s A (its s (layout s) i .b) i)) ≡ some b
+  group-body : (f i p d : ℕ) (b : Syntax body) → Sound f → header-size + record-size * A + p ≤ length s → record-at s (layout s) i .kind ≡ 3
+      → only-if (ltb d depth-limit) (bind (read-branches s A f (record-at s (layout s) i .a) (suc i) p (suc d)) (closed s A (record-at s (layout s) i .b) i)) ≡ some b
       → Bodied b i p d
-  unfolding closed kind-field a-field b-field records size pool Good Clean
+  unfolding closed kind-field a-field b-field records size pool InLimits Clean
   group-body f i p d b ih v k e =
       let (y, g) = only-some _ _ e in
       let (bs, r, g1) = after-some _ _ g in
       let (z, g2) = only-some _ _ g1 in
       let (n, st) = ih .branches _ _ _ _ bs v r in
       subst (λ (b : Syntax body). Bodied b i p d) (inside g2)
-      (same-rec (its s (layout s) i) _ _ _ k (sym n) (sym (eqb-true _ _ z)), λ e. let h = st e in record { placed = h .placed; good = (ltb-true _ _ y, h .good); clean = h .clean; within = h .within; pooled = h .pooled })
+      (same-rec (record-at s (layout s) i) _ _ _ k (sym n) (sym (eqb-true _ _ z)), λ e. let h = st e in record { placed = h .placed; good = (ltb-true _ _ y, h .good); clean = h .clean; within = h .within; pooled = h .pooled })
 
-  sound-atom : (f : ℕ) → Sound f → (i p d : ℕ) (a : Syntax atom) → header-size + record-size * A + p ≤ length s → read-atom s A (suc f) i p d ≡ some a → Set s A (its s (layout s) i .ends) a i p d
+  sound-atom : (f : ℕ) → Sound f → (i p d : ℕ) (a : Syntax atom) → header-size + record-size * A + p ≤ length s → read-atom s A (suc f) i p d ≡ some a → Set s A (record-at s (layout s) i .ends) a i p d
   unfolding read-pattern
   sound-atom f ih i p d a v e =
       let (h, g) = only-some _ _ e in
@@ -153,10 +153,10 @@ module _ (s : Bytes) (A : ℕ) (laid : Laid s A) where
       let (b, r, g2) = after-some _ _ g1 in
       let h2 = ltb-true _ _ h in
       let (m, st) : Bodied b i p d = ⊎-elim (λ (k, x). group-body f i p d b ih v (eqb-true _ _ k) x) (λ (k, x). leaf-body i p d b h2 v x) (choose-some _ _ _ r) in
-      subst (λ (a : Syntax atom). Set s A (its s (layout s) i .ends) a i p d) (inside g2) (set-atom b i p d h2 (ordered-fits _ _ o) m st)
+      subst (λ (a : Syntax atom). Set s A (record-at s (layout s) i .ends) a i p d) (inside g2) (set-atom b i p d h2 (ordered-fits _ _ o) m st)
 
   sound-pattern : (f : ℕ) → Sound f → (i p d : ℕ) (t : Syntax pattern) → header-size + record-size * A + p ≤ length s → read-pattern s A (suc f) i p d ≡ some t → (e : ℕ) → Set s A e t i p d
-  unfolding read-pattern records size pool Good Clean
+  unfolding read-pattern records size pool InLimits Clean
   sound-pattern f ih i p d t v e n =
       let (a, r, g) = after-some _ _ e in
       let st = ih .atoms i p d a v r in
@@ -172,19 +172,19 @@ module _ (s : Bytes) (A : ℕ) (laid : Laid s A) where
       (choose-some _ _ _ g)
 
   sound-branches : (f : ℕ) → Sound f → (k i p d : ℕ) (bs : Syntax branches) → header-size + record-size * A + p ≤ length s → read-branches s A (suc f) k i p d ≡ some bs
-      → (choices bs ≡ k) × ((e : ℕ) → Set s A e bs i p d)
-  unfolding read-pattern choices records size pool Good Clean
+      → (branch-count bs ≡ k) × ((e : ℕ) → Set s A e bs i p d)
+  unfolding read-pattern branch-count records size pool InLimits Clean
   sound-branches f ih k i p d bs v e =
       let (h, g) = only-some _ _ e in
       let (q, r, g1) = after-some _ _ g in
       let st = ih .patterns i p d q v r in
       ⊎-elim
-      (λ (c, x). subst (λ (bs : Syntax branches). (choices bs ≡ k) × ((e : ℕ) → Set s A e bs i p d)) (inside x)
+      (λ (c, x). subst (λ (bs : Syntax branches). (branch-count bs ≡ k) × ((e : ℕ) → Set s A e bs i p d)) (inside x)
       (sym (eqb-true _ _ c), λ n. let u = st n in record { placed = u .placed; good = u .good; clean = u .clean; within = u .within; pooled = u .pooled }))
       (λ (c, x). let (cs, r2, g2) = after-some _ _ x in
       let (m, su) = ih .branches (pred k) _ _ _ cs (omega (arith, st 0 .pooled)) r2 in
       let h2 = ltb-true 0 k h in
-      subst (λ (bs : Syntax branches). (choices bs ≡ k) × ((e : ℕ) → Set s A e bs i p d)) (inside g2)
+      subst (λ (bs : Syntax branches). (branch-count bs ≡ k) × ((e : ℕ) → Set s A e bs i p d)) (inside g2)
       (omega (arith, m, h2), λ n. set-branches n q cs i p d (st n) (su n)))
       (choose-some _ _ _ g1)
 

@@ -8,11 +8,11 @@ use lib.ListN.{length}
 use Rattle.pattern.specs.Numbers.{header-size, record-size}
 use Rattle.pattern.specs.Bytes.{Bytes}
 use Rattle.pattern.specs.Syntax.{Sort, Syntax, last, then, repeat, codes, literal, group, only, or, size}
-use Rattle.pattern.specs.Within.{Good}
-use Rattle.pattern.specs.Table.{pool, Rec, flat}
+use Rattle.pattern.specs.Within.{InLimits}
+use Rattle.pattern.specs.Table.{pool, Rec, record-bytes}
 use Rattle.pattern.specs.Decode.{Layout}
-use Rattle.pattern.proofs.Records.{flat-append, next-there, after-there, Stands, Placed}
-use Rattle.table.specs.Checked.{plain}
+use Rattle.pattern.proofs.Records.{record-bytes-append, next-there, after-there, Stands, Placed}
+use Rattle.table.specs.Checked.{all-plain}
 
 -- sets have a code, and literals plain bytes
 unfoldable pub Clean : {s : Sort} → Syntax s → Type 0
@@ -20,7 +20,7 @@ Clean (last a) = Clean a
 Clean (then a p) = Clean a × Clean p
 Clean (repeat low high b) = Clean b
 Clean (codes set) = 0 < set
-Clean (literal value) = plain value ≡ true
+Clean (literal value) = all-plain value ≡ true
 Clean (group bs) = Clean bs
 Clean (only p) = Clean p
 Clean (or p bs) = Clean p × Clean bs
@@ -32,7 +32,7 @@ laid-out A = record { records = header-size; pool = header-size + record-size * 
 -- the tree stands at atom i with p bytes of the pool before it, inside d groups, and ends within the records and the bytes; e is for an atom alone
 pub record Set (s : Bytes) (A : ℕ) {o : Sort} (e : ℕ) (t : Syntax o) (i p d : ℕ) : Type 0 where
   pub placed : Placed s (laid-out A) e t i p
-  pub good : Good d t
+  pub good : InLimits d t
   pub clean : Clean t
   pub within : i + size t ≤ A
   pub pooled : header-size + record-size * A + p + length (pool t) ≤ length s
@@ -46,6 +46,6 @@ both-placed {s} {l} {i} {p} xs ys v w n e f g =
     record {
       left = g .left;
       over = g .over;
-      recs = f .recs ∙ ap (flat xs) (sym (next-there s _ _ xs _ a (f .recs)) ∙ g .recs) ∙ sym (flat-append xs ys (g .left));
+      recs = f .recs ∙ ap (record-bytes xs) (sym (next-there s _ _ xs _ a (f .recs)) ∙ g .recs) ∙ sym (record-bytes-append xs ys (g .left));
       text = f .text ∙ ap (λ (x : Bytes). v ++ x) (sym (after-there s _ _ v _ b (f .text)) ∙ g .text) ∙ sym (append-assoc v w (g .over));
     }

@@ -7,11 +7,11 @@ use lib.ListN.{length}
 use Rattle.pattern.specs.Numbers.{depth-limit}
 use Rattle.pattern.specs.Bytes.{Bytes}
 use Rattle.pattern.specs.Print.{print-count}
-use Rattle.pattern.specs.Decode.{layout, its, high-of}
+use Rattle.pattern.specs.Decode.{layout, record-at, high-of}
 use Rattle.table.specs.Fields.{record-of}
 use Rattle.table.specs.Checked.{ordered, leaf as leaf-read}
-use Rattle.table.specs.Leaves.{LeafRead, Short}
-use Rattle.table.specs.Walk.{Ready, Moved, AtomPassed, PatternWalked, GroupPassed}
+use Rattle.table.specs.Leaves.{LeafPost, Short}
+use Rattle.table.specs.Walk.{WalkPre, WalkMoved, AtomPost, PatternPost, GroupPost}
 use Rattle.table.specs.declared.record.Record.{Record}
 use Rattle.table.specs.declared.walk.Leaf.{Leaf}
 use Rattle.table.specs.declared.walk.Leaf.the-variants as leaf
@@ -26,52 +26,52 @@ use Rattle.table.proofs.Steps.{pattern-none, pattern-last, pattern-othe
 -- ---- an atom
 
 -- the record at a place was read, and its count has c bytes in the source
-pub record Counted (s : Bytes) (A : ℕ) (at : Place) (d : ℕ) (r : Record) (c : ℕ) : Type 0 where
-  pub ready : Ready s A at d
+pub record CountMeasured (s : Bytes) (A : ℕ) (at : Place) (d : ℕ) (r : Record) (c : ℕ) : Type 0 where
+  pub ready : WalkPre s A at d
   pub on : at .atom < A
-  pub same : r ≡ record-of (its s (layout s) (at .atom))
+  pub same : r ≡ record-of (record-at s (layout s) (at .atom))
   pub fits : ordered (r .low) (r .high) ≡ true
   pub count : c ≡ length (print-count (r .low) (high-of (r .high)))
   pub short : c ≤ 11
 
-module _ {s : Bytes} {A : ℕ} {at : Place} {d : ℕ} {r : Record} {c : ℕ} (h : Counted s A at d r c) where
-  module _ (k : r .kind ≡ 3 → ⊥) {x : Leaf} (l : LeafRead s A (at .pool) (leaf-read s A (r .kind) (r .a) (r .b) (at .pool)) x) where
-    pub leaf-bad : x ≡ leaf.Bad → AtomPassed s A at d passed.Bad
+module _ {s : Bytes} {A : ℕ} {at : Place} {d : ℕ} {r : Record} {c : ℕ} (h : CountMeasured s A at d r c) where
+  module _ (k : r .kind ≡ 3 → ⊥) {x : Leaf} (l : LeafPost s A (at .pool) (leaf-read s A (r .kind) (r .a) (r .b) (at .pool)) x) where
+    pub leaf-bad : x ≡ leaf.Bad → AtomPost s A at d passed.Bad
     leaf-bad e = record { past = tt; reads = atom-leafless s A at d r (h .same) (h .on) (h .fits) k (sym e ∙ l .reads) }
 
     module _ {v w : ℕ} (e : x ≡ leaf.Is v w) where
-      pub leaf-moved : Moved s A at (leaf-on at c v w)
+      pub leaf-moved : WalkMoved s A at (leaf-on at c v w)
       leaf-moved = let y = subst (Short s A (at .pool)) e (l .short) in moved-leaf c v w (h .short) (h .on) (y .0) (y .1)
 
-      pub leaf-passed : AtomPassed s A at d (passed.To (leaf-on at c v w))
+      pub leaf-passed : AtomPost s A at d (passed.To (leaf-on at c v w))
       leaf-passed = record {
         past = leaf-moved;
         reads = atom-leaf s A at d r (h .same) (h .on) (h .fits) c v w (h .count) k (sym e ∙ l .reads);
       }
 
   module _ (k : r .kind ≡ 3) where
-    pub too-deep : depth-limit ≤ d → AtomPassed s A at d passed.Bad
+    pub too-deep : depth-limit ≤ d → AtomPost s A at d passed.Bad
     too-deep e = record { past = tt; reads = atom-deep s A at d r (h .same) (h .on) (h .fits) k e }
 
     module _ (e : d < depth-limit) where
-      pub inner-ready : Ready s A (bracket-on at c) (d + 1)
+      pub inner-ready : WalkPre s A (bracket-on at c) (d + 1)
       inner-ready = ready-inside (h .ready) c (h .short) (h .on) e
 
-      module _ {x : Passed} (g : GroupPassed s A (bracket-on at c) (d + 1) (r .a) x) where
-        pub group-bad : x ≡ passed.Bad → AtomPassed s A at d passed.Bad
+      module _ {x : Passed} (g : GroupPost s A (bracket-on at c) (d + 1) (r .a) x) where
+        pub group-bad : x ≡ passed.Bad → AtomPost s A at d passed.Bad
         group-bad q = record { past = tt; reads = group-none s A at d r (h .same) (h .on) (h .fits) k c (h .count) e (λ f m. sym q ∙ g .reads f m) }
 
         module _ {dest : Place} (q : x ≡ passed.To dest) where
-          whole : GroupPassed s A (bracket-on at c) (d + 1) (r .a) (passed.To dest)
-          whole = subst (GroupPassed s A (bracket-on at c) (d + 1) (r .a)) q g
+          whole : GroupPost s A (bracket-on at c) (d + 1) (r .a) (passed.To dest)
+          whole = subst (GroupPost s A (bracket-on at c) (d + 1) (r .a)) q g
 
-          pub dest-ready : Ready s A dest (d + 1)
+          pub dest-ready : WalkPre s A dest (d + 1)
           dest-ready = ready-on inner-ready (whole .past)
 
-          pub group-elsewhere : (dest .atom ≡ r .b → ⊥) → AtomPassed s A at d passed.Bad
+          pub group-elsewhere : (dest .atom ≡ r .b → ⊥) → AtomPost s A at d passed.Bad
           group-elsewhere n = record { past = tt; reads = group-apart s A at d r (h .same) (h .on) (h .fits) k c (h .count) e dest (whole .reads) n }
 
-          pub group-passed : dest .atom ≡ r .b → AtomPassed s A at d (passed.To (byte-on dest))
+          pub group-passed : dest .atom ≡ r .b → AtomPost s A at d (passed.To (byte-on dest))
           group-passed n = record {
             past = moved-group c (h .short) (whole .past);
             reads = group-closed s A at d r (h .same) (h .on) (h .fits) k c (h .count) e dest (whole .reads) n;
@@ -86,39 +86,39 @@ further k walked.Bad = walked.Bad
 
 -- what is walked from now on is walked from the start, k atoms later
 pub record Going (s : Bytes) (A d : ℕ) (at now : Place) (k : ℕ) : Type 0 where
-  pub ready : Ready s A now d
+  pub ready : WalkPre s A now d
   pub on : at .atom + k ≤ now .atom
-  pub rest : (x : Walked) → PatternWalked s A now d x → PatternWalked s A at d (further k x)
+  pub rest : (x : Walked) → PatternPost s A now d x → PatternPost s A at d (further k x)
 
-pub going-start : {s : Bytes} {A d : ℕ} {at : Place} → Ready s A at d → Going s A d at at 0
+pub going-start : {s : Bytes} {A d : ℕ} {at : Place} → WalkPre s A at d → Going s A d at at 0
 unfolding further
 going-start {s} {A} {d} {at} r = record { ready = r; on = omega arith; rest = same }
   where
-    same : (x : Walked) → PatternWalked s A at d x → PatternWalked s A at d (further 0 x)
+    same : (x : Walked) → PatternPost s A at d x → PatternPost s A at d (further 0 x)
     same (walked.To next n) h = let e : 0 + n ≡ n = omega arith in rw e h
     same walked.Bad h = h
 
-module _ {s : Bytes} {A d : ℕ} {at now : Place} {k : ℕ} (g : Going s A d at now k) {x : Passed} (a : AtomPassed s A now d x) where
-  pub going-bad : x ≡ passed.Bad → PatternWalked s A at d walked.Bad
+module _ {s : Bytes} {A d : ℕ} {at now : Place} {k : ℕ} (g : Going s A d at now k) {x : Passed} (a : AtomPost s A now d x) where
+  pub going-bad : x ≡ passed.Bad → PatternPost s A at d walked.Bad
   unfolding further
   going-bad e = g .rest walked.Bad (record { past = tt; reads = pattern-none s A now d (λ f m. sym e ∙ a .reads f m) })
 
   module _ {next : Place} (e : x ≡ passed.To next) where
-    passed-to : AtomPassed s A now d (passed.To next)
-    passed-to = subst (AtomPassed s A now d) e a
+    passed-to : AtomPost s A now d (passed.To next)
+    passed-to = subst (AtomPost s A now d) e a
 
-    pub going-moved : Moved s A now next
+    pub going-moved : WalkMoved s A now next
     going-moved = passed-to .past
 
-    module _ {b : ℕ} (q : b ≡ its s (layout s) (now .atom) .ends) where
-      pub going-last : b ≡ 1 → PatternWalked s A at d (walked.To next (k + 1))
+    module _ {b : ℕ} (q : b ≡ record-at s (layout s) (now .atom) .ends) where
+      pub going-last : b ≡ 1 → PatternPost s A at d (walked.To next (k + 1))
       unfolding further
       going-last z = g .rest (walked.To next 1) (record {
         past = (going-moved, omega (arith, going-moved .on));
         reads = pattern-last s A now d next (passed-to .reads) (sym q ∙ z);
       })
 
-      pub going-other : (b ≡ 1 → ⊥) → (b ≡ 0 → ⊥) → PatternWalked s A at d walked.Bad
+      pub going-other : (b ≡ 1 → ⊥) → (b ≡ 0 → ⊥) → PatternPost s A at d walked.Bad
       unfolding further
       going-other y z = g .rest walked.Bad (record {
         past = tt;
@@ -126,7 +126,7 @@ module _ {s : Bytes} {A d : ℕ} {at now : Place} {k : ℕ} (g : Going s A d at 
       })
 
       module _ (z : b ≡ 0) where
-        rest-on : (y : Walked) → PatternWalked s A next d y → PatternWalked s A at d (further (k + 1) y)
+        rest-on : (y : Walked) → PatternPost s A next d y → PatternPost s A at d (further (k + 1) y)
         unfolding further
         rest-on (walked.To dest n) h =
             let e : k + 1 + n ≡ k + (1 + n) = omega arith in
@@ -146,29 +146,29 @@ module _ {s : Bytes} {A d : ℕ} {at now : Place} {k : ℕ} (g : Going s A d at 
 
 -- what is walked of the branches left is walked of all k
 pub record Branching (s : Bytes) (A d k : ℕ) (at now : Place) (left : ℕ) : Type 0 where
-  pub ready : Ready s A now d
+  pub ready : WalkPre s A now d
   pub on : at .atom ≤ now .atom
-  pub rest : (x : Passed) → GroupPassed s A now d left x → GroupPassed s A at d k x
+  pub rest : (x : Passed) → GroupPost s A now d left x → GroupPost s A at d k x
 
-pub branching-start : {s : Bytes} {A d k : ℕ} {at : Place} → Ready s A at d → Branching s A d k at at k
+pub branching-start : {s : Bytes} {A d k : ℕ} {at : Place} → WalkPre s A at d → Branching s A d k at at k
 branching-start r = record { ready = r; on = omega arith; rest = λ x h. h }
 
 module _ {s : Bytes} {A d k : ℕ} {at now : Place} {left : ℕ} (g : Branching s A d k at now left) where
-  pub branching-over : left ≡ 0 → GroupPassed s A at d k passed.Bad
+  pub branching-over : left ≡ 0 → GroupPost s A at d k passed.Bad
   branching-over e = g .rest passed.Bad (record { past = tt; reads = branches-none s A now d left e })
 
-  module _ (n : left ≡ 0 → ⊥) {x : Walked} (p : PatternWalked s A now d x) where
-    pub branching-bad : x ≡ walked.Bad → GroupPassed s A at d k passed.Bad
+  module _ (n : left ≡ 0 → ⊥) {x : Walked} (p : PatternPost s A now d x) where
+    pub branching-bad : x ≡ walked.Bad → GroupPost s A at d k passed.Bad
     branching-bad e = g .rest passed.Bad (record { past = tt; reads = branch-none s A now d left n (λ f m. sym e ∙ p .reads f m) })
 
     module _ {next : Place} {j : ℕ} (e : x ≡ walked.To next j) where
-      walked-to : PatternWalked s A now d (walked.To next j)
-      walked-to = subst (PatternWalked s A now d) e p
+      walked-to : PatternPost s A now d (walked.To next j)
+      walked-to = subst (PatternPost s A now d) e p
 
-      pub branch-ready : Ready s A next d
+      pub branch-ready : WalkPre s A next d
       branch-ready = ready-on (g .ready) (walked-to .past .0)
 
-      pub branching-last : left ≡ 1 → GroupPassed s A at d k (passed.To next)
+      pub branching-last : left ≡ 1 → GroupPost s A at d k (passed.To next)
       branching-last z = g .rest (passed.To next) (record { past = walked-to .past .0; reads = branch-only s A now d left n next (walked-to .reads) z })
 
       pub branching-more : (left ≡ 1 → ⊥) → Branching s A d k at (byte-on next) (left - 1)

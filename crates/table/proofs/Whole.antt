@@ -10,24 +10,24 @@ use lib.Dec.{leb}
 use borrow.Author.Tests.{eqb-true, leb-true, le-leb, lt-leb, eq-eqb}
 use lib.ListN.{length, getD, take, drop, take-append-drop, drop-of-length-le}
 use Rattle.pattern.specs.Numbers.{source-limit, atom-limit, atoms-place, length-place, header-size, record-size}
-use Rattle.pattern.specs.Bytes.{Bytes, same}
+use Rattle.pattern.specs.Bytes.{Bytes, equal}
 use Rattle.pattern.specs.Syntax.{pattern, Syntax, size}
-use Rattle.pattern.specs.Within.{Good, Limited}
+use Rattle.pattern.specs.Within.{InLimits, Limited}
 use Rattle.pattern.specs.Print.{print}
-use Rattle.pattern.specs.Table.{pool, records, flat, header, encode}
+use Rattle.pattern.specs.Table.{pool, records, record-bytes, header, encode}
 use Rattle.pattern.specs.Decode.{decode}
 use Rattle.pattern.proofs.Tests.{le-or-lt}
-use Rattle.pattern.proofs.Agree.{same-decides}
+use Rattle.pattern.proofs.Agree.{equal-decides}
 use Rattle.pattern.proofs.Accepted.{accepted-exactly}
 use Rattle.pattern.proofs.Records.{count-records, next-there, after-there}
 use Rattle.pattern.proofs.RoundTrip.{encode-length, encode-placed, good-exactly}
 use Rattle.pattern.proofs.Calls.{print-accepted}
 use Rattle.table.specs.Headers.{first-bytes, header-of, headed}
-use Rattle.table.specs.Checked.{after, only-if, read-pattern, read, walk}
+use Rattle.table.specs.Checked.{bind, only-if, read-pattern, read-table, walk}
 use Rattle.table.proofs.Standing.{Clean, Set}
 use Rattle.table.proofs.Options.{inside, after-some, only-some, kept, dropped, going-on, and-true, true-and}
 use Rattle.table.proofs.Places.{step, pair}
-use Rattle.table.proofs.Clean.{true-T, clean-spells, spells-clean}
+use Rattle.table.proofs.Clean.{true-T, clean-derives, derives-clean}
 use Rattle.table.proofs.Sound.{Laid, sound}
 use Rattle.table.proofs.Complete.{found}
 
@@ -41,9 +41,9 @@ pub record Opens (s : Bytes) : Type 0 where
 pub opens : (s : Bytes) → headed s ≡ true → Opens s
 unfolding headed
 opens s e =
-    let (x, c) = and-true (leb header-size (length s) && same (take atoms-place s) first-bytes) _ e in
-    let (a, b) = and-true (leb header-size (length s)) (same (take atoms-place s) first-bytes) x in
-    record { long = leb-true _ _ a; marked = same-decides (take atoms-place s) first-bytes .sound (true-T _ b); whole = eqb-true _ _ c }
+    let (x, c) = and-true (leb header-size (length s) && equal (take atoms-place s) first-bytes) _ e in
+    let (a, b) = and-true (leb header-size (length s)) (equal (take atoms-place s) first-bytes) x in
+    record { long = leb-true _ _ a; marked = equal-decides (take atoms-place s) first-bytes .sound (true-T _ b); whole = eqb-true _ _ c }
 
 -- ---- a tree that is read has these bytes as its table, and is good
 
@@ -59,8 +59,8 @@ module _ (s : Bytes) (bytes : (k : ℕ) → getD s k 0 < 256) where
       sym (take-append-drop atoms-place s) ∙ ap (λ x. x ++ drop atoms-place s) (o .marked)
       ∙ ap (λ x. first-bytes ++ x) (step s atoms-place length-place (omega arith) (omega (arith, o .long)) (pair s bytes length-place header-size (omega arith) (o .long) refl))
 
-  read-whole : (t : Syntax pattern) → read s ≡ some t → Whole s t
-  unfolding read encode
+  read-whole : (t : Syntax pattern) → read-table s ≡ some t → Whole s t
+  unfolding read-table encode
   read-whole t e =
       let A : ℕ = header-of s .atoms in
       let (h, g) = only-some _ _ e in
@@ -78,10 +78,10 @@ module _ (s : Bytes) (bytes : (k : ℕ) → getD s k 0 < 256) where
       let to-end : length s ≤ header-size + record-size * A + 0 + length (pool u) = omega (arith, o .whole, m2) in
       let over : st .placed .over ≡ [] = sym (after-there s _ _ (pool u) _ refl (st .placed .text)) ∙ drop-of-length-le s to-end in
       let rest : st .placed .left ≡ pool u = sym (next-there s _ _ (records 1 u 0 0) _ at-pool (st .placed .recs)) ∙ st .placed .text ∙ ap (λ x. pool u ++ x) over ∙ append-nil (pool u) in
-      let all : drop header-size s ≡ flat (records 1 u 0 0) (pool u) = st .placed .recs ∙ ap (flat (records 1 u 0 0)) rest in
+      let all : drop header-size s ≡ record-bytes (records 1 u 0 0) (pool u) = st .placed .recs ∙ ap (record-bytes (records 1 u 0 0)) rest in
       subst (Whole s) (inside g4)
       (record {
-        same = sym (open-table o ∙ ap (header A (header-of s .length)) all ∙ ap (λ k. header k (header-of s .length) (flat (records 1 u 0 0) (pool u))) (sym c2) ∙ ap (λ k. header (size u) k (flat (records 1 u 0 0) (pool u))) (sym m2));
+        same = sym (open-table o ∙ ap (header A (header-of s .length)) all ∙ ap (λ k. header k (header-of s .length) (record-bytes (records 1 u 0 0) (pool u))) (sym c2) ∙ ap (λ k. header (size u) k (record-bytes (records 1 u 0 0) (pool u))) (sym m2));
         limited = record { tree = st .good; atoms = omega (arith, c2, n2) };
         clean = st .clean;
       })
@@ -97,8 +97,8 @@ module _ (t : Syntax pattern) where
   unfolding encode header
   atoms-there = refl
 
-  marked-there : same (take atoms-place (encode t)) first-bytes ≡ true
-  unfolding encode header same
+  marked-there : equal (take atoms-place (encode t)) first-bytes ≡ true
+  unfolding encode header equal
   marked-there = refl
 
   headed-encode : headed (encode t) ≡ true
@@ -113,8 +113,8 @@ module _ (t : Syntax pattern) where
   set-encode g c =
       record { placed = encode-placed t; good = g .tree; clean = c; within = omega arith; pooled = omega (arith, encode-length t) }
 
-  read-encode : Limited t → Clean t → read (encode t) ≡ some t
-  unfolding read
+  read-encode : Limited t → Clean t → read-table (encode t) ≡ some t
+  unfolding read-table
   read-encode g c =
       let a = atoms-there in
       let f : 3 * size t + 1 < 3 * size t + 2 = omega arith in
@@ -127,24 +127,24 @@ module _ (t : Syntax pattern) where
 
 module _ (s : Bytes) (bytes : (k : ℕ) → getD s k 0 < 256) where
   -- what decodes is good, and is read
-  decoded : (u : Syntax pattern) → decode s ≡ some u → (read s ≡ some u) × Good 0 u × (length (print u) ≤ source-limit)
+  decoded : (u : Syntax pattern) → decode s ≡ some u → (read-table s ≡ some u) × InLimits 0 u × (length (print u) ≤ source-limit)
   decoded u e =
       let (source, a, m) = good-exactly s u .0 e in
       let (n, h, g) = accepted-exactly source u .0 a in
       let (k, _, _) = accepted-exactly (print u) u .0 (print-accepted s u e) in
-      (ap read (sym m) ∙ read-encode u g (spells-clean u source h), g .tree, k)
+      (ap read-table (sym m) ∙ read-encode u g (derives-clean u source h), g .tree, k)
 
   -- what is read is the tree of the bytes, if its source is short enough
   short-decodes : (t : Syntax pattern) → Whole s t → length (print t) ≤ source-limit → decode s ≡ some t
   short-decodes t w n =
-      good-exactly s t .1 (print t, accepted-exactly (print t) t .1 (n, clean-spells 0 t (w .limited .tree) (w .clean), w .limited), w .same)
+      good-exactly s t .1 (print t, accepted-exactly (print t) t .1 (n, clean-derives 0 t (w .limited .tree) (w .clean), w .limited), w .same)
 
   nothing-decodes : (o : Option (Syntax pattern)) → decode s ≡ o → ((u : Syntax pattern) → decode s ≡ some u → ⊥) → o ≡ none
   nothing-decodes none e f = refl
   nothing-decodes (some u) e f = absurd (f u e)
 
-  agree : (o : Option (Syntax pattern)) → read s ≡ o → after o (λ t. only-if (leb (length (print t)) source-limit) (some t)) ≡ decode s
-  unfolding after
+  agree : (o : Option (Syntax pattern)) → read-table s ≡ o → bind o (λ t. only-if (leb (length (print t)) source-limit) (some t)) ≡ decode s
+  unfolding bind
   agree none e =
       sym (nothing-decodes (decode s) refl (λ u d. Option·none-ne-some u (sym e ∙ decoded u d .0)))
   agree (some t) e =
@@ -157,4 +157,4 @@ module _ (s : Bytes) (bytes : (k : ℕ) → getD s k 0 < 256) where
   -- the checked walk is `decode`
   pub walk-is-decode : walk s ≡ decode s
   unfolding walk
-  walk-is-decode = agree (read s) refl
+  walk-is-decode = agree (read-table s) refl

@@ -6,48 +6,48 @@ use native.Mathlib.Omega.{arith}
 use lib.ListN.{length, take, set, length-append}
 use lib.Seq.{length-take-le}
 use Rattle.pattern.specs.Numbers.{atoms-place, length-place, header-size, record-size, mark, version}
-use Rattle.pattern.specs.Bytes.{Bytes, word}
-use Rattle.pattern.specs.Stores.{stored, Puts}
+use Rattle.pattern.specs.Bytes.{Bytes, le16}
+use Rattle.pattern.specs.Stores.{store-at, Puts}
 use Rattle.pattern.specs.Syntax.{pattern, Syntax, size}
-use Rattle.pattern.specs.Table.{pool, Rec, records, flat, header, encode}
+use Rattle.pattern.specs.Table.{pool, Rec, records, record-bytes, header, encode}
 use Rattle.pattern.specs.Answers.{put}
-use Rattle.pattern.proofs.Records.{flat-append, length-flat, count-records}
+use Rattle.pattern.proofs.Records.{record-bytes-append, length-record-bytes, count-records}
 use Rattle.pattern.proofs.Calls.{put-fits, put-short}
-use Rattle.pattern.proofs.Stores.{stored-then, stored-before, stored-over, take-over, puts-then, puts-more}
+use Rattle.pattern.proofs.Stores.{store-at-then, store-at-before, store-at-overwrite, take-overwrite, puts-then, puts-more}
 use Rattle.table.specs.Write.{put-records, WriteTablePre, table-of, output-of}
 use Rattle.table.specs.declared.write.Written.the-variants.{Length, Room}
 
 -- records before other bytes
-flat-over : (xs : List Rec) (s : Bytes) → flat xs s ≡ flat xs [] ++ s
-unfolding flat
-flat-over [] s = refl
-flat-over (r ∷ xs) s = ap (λ l. r .kind ∷ r .ends ∷ word (r .low) (word (r .high) (word (r .a) (word (r .b) l)))) (flat-over xs s)
+record-bytes-over : (xs : List Rec) (s : Bytes) → record-bytes xs s ≡ record-bytes xs [] ++ s
+unfolding record-bytes
+record-bytes-over [] s = refl
+record-bytes-over (r ∷ xs) s = ap (λ l. r .kind ∷ r .ends ∷ le16 (r .low) (le16 (r .high) (le16 (r .a) (le16 (r .b) l)))) (record-bytes-over xs s)
 
 -- records after others that are stored
 pub records-then : (recs : Bytes) (i j : ℕ) (xs ys : List Rec) → j ≡ i + length xs → put-records (put-records recs i xs) j ys ≡ put-records recs i (xs ++ ys)
 records-then recs i j xs ys e =
-    stored-then recs (record-size * i) (record-size * j) (flat xs []) (flat ys []) (omega (arith, length-flat xs []))
-    ∙ ap (stored recs (record-size * i)) (sym (flat-append xs ys [] ∙ flat-over xs (flat ys [])))
+    store-at-then recs (record-size * i) (record-size * j) (record-bytes xs []) (record-bytes ys []) (omega (arith, length-record-bytes xs []))
+    ∙ ap (store-at recs (record-size * i)) (sym (record-bytes-append xs ys [] ∙ record-bytes-over xs (record-bytes ys [])))
 
 -- and before them
 pub records-before : (recs : Bytes) (i j : ℕ) (xs ys : List Rec) → j ≡ i + length xs → put-records (put-records recs j ys) i xs ≡ put-records recs i (xs ++ ys)
 records-before recs i j xs ys e =
-    stored-before recs (record-size * i) (record-size * j) (flat xs []) (flat ys []) (omega (arith, length-flat xs []))
-    ∙ ap (stored recs (record-size * i)) (sym (flat-append xs ys [] ∙ flat-over xs (flat ys [])))
+    store-at-before recs (record-size * i) (record-size * j) (record-bytes xs []) (record-bytes ys []) (omega (arith, length-record-bytes xs []))
+    ∙ ap (store-at recs (record-size * i)) (sym (record-bytes-append xs ys [] ∙ record-bytes-over xs (record-bytes ys [])))
 
 -- ---- the table
 
-take-stored : (l v : Bytes) (n : ℕ) → n ≡ length v → n ≤ length l → take n (stored l 0 v) ≡ v
-take-stored l v n e h = rw (e, stored-over l v (omega arith)) (take-over v l)
+take-store-at : (l v : Bytes) (n : ℕ) → n ≡ length v → n ≤ length l → take n (store-at l 0 v) ≡ v
+take-store-at l v n e h = rw (e, store-at-overwrite l v (omega arith)) (take-overwrite v l)
 
 -- the records and the text of a tree, at the start of their buffers, make its table
 pub table-is : (recs text : Bytes) (t : Syntax pattern) → record-size * size t ≤ length recs → length (pool t) ≤ length text
-    → table-of (size t) (length (pool t)) (put-records recs 0 (records 1 t 0 0)) (stored text 0 (pool t)) ≡ encode t
+    → table-of (size t) (length (pool t)) (put-records recs 0 (records 1 t 0 0)) (store-at text 0 (pool t)) ≡ encode t
 unfolding table-of encode
 table-is recs text t h k =
     let xs : List Rec = records 1 t 0 0 in
-    let r = take-stored recs (flat xs []) (record-size * size t) (omega (arith, length-flat xs [], count-records 1 t 0 0)) h in
-    ap (header (size t) (length (pool t))) (ap₂ (λ r v. r ++ v) r (take-stored text (pool t) (length (pool t)) refl k) ∙ sym (flat-over xs (pool t)))
+    let r = take-store-at recs (record-bytes xs []) (record-size * size t) (omega (arith, length-record-bytes xs [], count-records 1 t 0 0)) h in
+    ap (header (size t) (length (pool t))) (ap₂ (λ r v. r ++ v) r (take-store-at text (pool t) (length (pool t)) refl k) ∙ sym (record-bytes-over xs (pool t)))
 
 module _ (position n m : ℕ) (recs text table : Bytes) (pre : WriteTablePre n m recs text) where
   table-size : length (table-of n m recs text) ≡ header-size + record-size * n + m
@@ -59,22 +59,22 @@ module _ (position n m : ℕ) (recs text table : Bytes) (pre : WriteTablePre n m
   no-room h = sym (put-short position (table-of n m recs text) table (omega (arith, table-size)))
 
   -- the stores one after the other
-  pub writes-table : (mark′ t₁ t₂ t₃ t₄ : Bytes) → header-size + record-size * n + m ≤ length table → mark′ ≡ mark ++ word version [] → t₁ ≡ stored table 0 (take atoms-place mark′)
-      → t₂ ≡ stored (set t₁ atoms-place n) length-place (word m []) → t₃ ≡ stored t₂ header-size (take (record-size * n) recs) → t₄ ≡ stored t₃ (header-size + record-size * n) (take m text)
+  pub writes-table : (mark′ t₁ t₂ t₃ t₄ : Bytes) → header-size + record-size * n + m ≤ length table → mark′ ≡ mark ++ le16 version [] → t₁ ≡ store-at table 0 (take atoms-place mark′)
+      → t₂ ≡ store-at (set t₁ atoms-place n) length-place (le16 m []) → t₃ ≡ store-at t₂ header-size (take (record-size * n) recs) → t₄ ≡ store-at t₃ (header-size + record-size * n) (take m text)
       → output-of position (Length (header-size + record-size * n + m)) t₄ ≡ put position (table-of n m recs text) table
   writes-table mark′ t₁ t₂ t₃ t₄ h e e₁ e₂ e₃ e₄ =
       let r : Bytes = take (record-size * n) recs in
       let v : Bytes = take m text in
-      let a : Puts table 0 (mark ++ word version []) t₁ atoms-place = record { bytes = e₁ ∙ rw e; next = refl } in
+      let a : Puts table 0 (mark ++ le16 version []) t₁ atoms-place = record { bytes = e₁ ∙ rw e; next = refl } in
       let b : Puts table 0 eight t₂ header-size = puts-then (puts-more a n) (record { bytes = e₂; next = refl }) in
       let c : Puts table 0 (eight ++ r) t₃ (header-size + record-size * n) = puts-then b (record { bytes = e₃; next = ap (λ k. header-size + k) (sym (length-take-le (record-size * n) recs (pre .recs-there))) }) in
       let d : Puts table 0 ((eight ++ r) ++ v) t₄ (header-size + record-size * n + m) = puts-then c (record { bytes = e₄; next = ap (λ k. header-size + record-size * n + k) (sym (length-take-le m text (pre .text-there))) }) in
       let z = table-size in
-      ap₂ (λ k l. output-of position (Length k) l) (sym z) (d .bytes ∙ ap (stored table 0) (append-assoc eight r v ∙ whole) ∙ stored-over table (table-of n m recs text) (omega arith))
+      ap₂ (λ k l. output-of position (Length k) l) (sym z) (d .bytes ∙ ap (store-at table 0) (append-assoc eight r v ∙ whole) ∙ store-at-overwrite table (table-of n m recs text) (omega arith))
       ∙ sym (put-fits position (table-of n m recs text) table (omega arith))
     where
       eight : Bytes
-      eight = ((mark ++ word version []) ++ n ∷ []) ++ word m []
+      eight = ((mark ++ le16 version []) ++ n ∷ []) ++ le16 m []
 
       whole : eight ++ (take (record-size * n) recs ++ take m text) ≡ table-of n m recs text
       whole = unfold table-of header in refl

@@ -10,14 +10,14 @@ use Rattle.pattern.specs.Bytes.{Bytes, between}
 use Rattle.pattern.specs.Syntax.{pattern, atom, body, branches, Syntax, last, then, repeat, codes, literal, group, only, or, size}
 use Rattle.pattern.specs.Print.{print}
 use Rattle.pattern.specs.Table.{pool}
-use Rattle.pattern.specs.Decode.{layout, its, high-of}
+use Rattle.pattern.specs.Decode.{layout, record-at, high-of}
 use Rattle.table.specs.Headers.{header-of, headed}
 
 -- ---- tests one after the other
 
-unfoldable pub after : {A B : Type 0} → Option A → (A → Option B) → Option B
-after (some x) k = k x
-after none k = none
+unfoldable pub bind : {A B : Type 0} → Option A → (A → Option B) → Option B
+bind (some x) k = k x
+bind none k = none
 
 unfoldable pub only-if : {A : Type 0} → Bool → Option A → Option A
 only-if true x = x
@@ -30,9 +30,9 @@ choose false x y = y
 -- ---- the fields of a record
 
 -- the bytes of a literal
-unfoldable pub plain : Bytes → Bool
-plain [] = true
-plain (b ∷ v) = between 32 126 b && plain v
+unfoldable pub all-plain : Bytes → Bool
+all-plain [] = true
+all-plain (b ∷ v) = between 32 126 b && all-plain v
 
 -- the numbers of a count, the high one as in a record
 unfoldable pub ordered : ℕ → ℕ → Bool
@@ -58,7 +58,7 @@ module _ (s : Bytes) (A : ℕ) where
   text-leaf a b p =
       only-if (eqb a p)
       (only-if (leb (header-size + record-size * A + p + b) (length s))
-      (only-if (plain (text p b)) (some (literal (text p b)))))
+      (only-if (all-plain (text p b)) (some (literal (text p b)))))
 
   -- a leaf, by its kind
   unfoldable pub leaf : (kind a b p : ℕ) → Option (Syntax body)
@@ -73,38 +73,38 @@ module _ (s : Bytes) (A : ℕ) where
     pub read-pattern : (f i p d : ℕ) → Option (Syntax pattern)
     read-pattern zero i p d = none
     read-pattern (suc f) i p d =
-        after (read-atom f i p d) λ a.
-        choose (eqb (its s (layout s) i .ends) 1) (some (last a))
-        (only-if (eqb (its s (layout s) i .ends) 0) (after (read-pattern f (i + size a) (p + length (pool a)) d) λ q. some (then a q)))
+        bind (read-atom f i p d) λ a.
+        choose (eqb (record-at s (layout s) i .ends) 1) (some (last a))
+        (only-if (eqb (record-at s (layout s) i .ends) 0) (bind (read-pattern f (i + size a) (p + length (pool a)) d) λ q. some (then a q)))
 
     pub read-atom : (f i p d : ℕ) → Option (Syntax atom)
     read-atom zero i p d = none
     read-atom (suc f) i p d =
         only-if (ltb i A)
-        (only-if (ordered (its s (layout s) i .low) (its s (layout s) i .high))
-        (after (
-        choose (eqb (its s (layout s) i .kind) group-kind)
-        (only-if (ltb d depth-limit) (after (read-branches f (its s (layout s) i .a) (suc i) p (suc d)) (closed (its s (layout s) i .b) i)))
-        (leaf (its s (layout s) i .kind) (its s (layout s) i .a) (its s (layout s) i .b) p)
-        ) λ b. some (repeat (its s (layout s) i .low) (high-of (its s (layout s) i .high)) b)))
+        (only-if (ordered (record-at s (layout s) i .low) (record-at s (layout s) i .high))
+        (bind (
+        choose (eqb (record-at s (layout s) i .kind) group-kind)
+        (only-if (ltb d depth-limit) (bind (read-branches f (record-at s (layout s) i .a) (suc i) p (suc d)) (closed (record-at s (layout s) i .b) i)))
+        (leaf (record-at s (layout s) i .kind) (record-at s (layout s) i .a) (record-at s (layout s) i .b) p)
+        ) λ b. some (repeat (record-at s (layout s) i .low) (high-of (record-at s (layout s) i .high)) b)))
 
     pub read-branches : (f k i p d : ℕ) → Option (Syntax branches)
     read-branches zero k i p d = none
     read-branches (suc f) k i p d =
         only-if (ltb 0 k)
-        (after (read-pattern f i p d) λ q.
+        (bind (read-pattern f i p d) λ q.
         choose (eqb k 1) (some (only q))
-        (after (read-branches f (pred k) (i + size q) (p + length (pool q)) d) λ bs. some (or q bs)))
+        (bind (read-branches f (pred k) (i + size q) (p + length (pool q)) d) λ bs. some (or q bs)))
 
 -- the tree of a whole table: all its atoms and its whole pool
-unfoldable pub read : Bytes → Option (Syntax pattern)
-read s =
+unfoldable pub read-table : Bytes → Option (Syntax pattern)
+read-table s =
     let A : ℕ = header-of s .atoms in
     only-if (headed s)
     (only-if (leb A atom-limit)
-    (after (read-pattern s A (3 * A + 2) 0 0 0) λ t.
+    (bind (read-pattern s A (3 * A + 2) 0 0 0) λ t.
     only-if (eqb (size t) A) (only-if (eqb (length (pool t)) (header-of s .length)) (some t))))
 
 -- and its source is short enough
 unfoldable pub walk : Bytes → Option (Syntax pattern)
-walk s = after (read s) λ t. only-if (leb (length (print t)) source-limit) (some t)
+walk s = bind (read-table s) λ t. only-if (leb (length (print t)) source-limit) (some t)

@@ -5,7 +5,7 @@ use Prim.Native.Nat.{_+_}
 use lib.Dec.{leb, eqb}
 use lib.ListN.{length, getD, take}
 use Rattle.pattern.specs.Numbers.{mark, version, atoms-place, length-place, header-size}
-use Rattle.pattern.specs.Bytes.{Bytes, word, same}
+use Rattle.pattern.specs.Bytes.{Bytes, le16, equal}
 use Rattle.pattern.specs.Decode.{field, layout}
 use Rattle.table.specs.declared.header.Header.{Header}
 use Rattle.table.specs.declared.header.HeaderRead.{HeaderRead}
@@ -17,7 +17,7 @@ pick false a b = b
 
 -- the mark and the version, as every table begins
 abbrev pub first-bytes : Bytes
-first-bytes = mark ++ word version []
+first-bytes = mark ++ le16 version []
 
 -- what the header says: the number of atoms and of bytes of the pool, and where the records and the pool begin
 abbrev pub header-of : Bytes → Header
@@ -27,7 +27,7 @@ header-of s =
 -- the mark is there, and the length is what the header says
 unfoldable pub headed : Bytes → Bool
 headed s =
-    leb header-size (length s) && same (take atoms-place s) first-bytes && eqb (length s) (header-of s .pool + header-of s .length)
+    leb header-size (length s) && equal (take atoms-place s) first-bytes && eqb (length s) (header-of s .pool + header-of s .length)
 
 unfoldable pub read-header : Bytes → HeaderRead
 read-header s = pick (headed s) (head.Is (header-of s)) head.Bad

@@ -9,15 +9,15 @@ use Rattle.pattern.specs.Syntax.{body, Syntax}
 use Rattle.pattern.specs.Table.{pool}
 use Rattle.pattern.specs.Print.{double, print}
 use Rattle.table.specs.Headers.{pick}
-use Rattle.table.specs.Checked.{plain}
-use Rattle.table.specs.declared.lengths.Text.{Text}
-use Rattle.table.specs.declared.lengths.Text.the-variants as texts
+use Rattle.table.specs.Checked.{all-plain}
+use Rattle.table.specs.declared.lengths.TextLength.{TextLength}
+use Rattle.table.specs.declared.lengths.TextLength.the-variants as texts
 use Rattle.table.specs.declared.walk.Leaf.{Leaf}
 use Rattle.table.specs.declared.walk.Leaf.the-variants as leaf
 
 -- the bytes of a literal's value with its quotes doubled, if it is plain
-unfoldable pub text-of : Bytes → Text
-text-of v = pick (plain v) (texts.Length (length (double v))) texts.Bad
+unfoldable pub text-of : Bytes → TextLength
+text-of v = pick (all-plain v) (texts.Length (length (double v))) texts.Bad
 
 unfoldable pub leaf-of : Option (Syntax body) → Leaf
 leaf-of (some b) = leaf.Is (length (pool b)) (length (print b))
@@ -29,11 +29,11 @@ Short s A p (leaf.Is v w) = (header-size + record-size * A + p + v ≤ length s)
 Short s A p leaf.Bad = Unit {0}
 
 -- where a leaf may be read
-pub record LeafReady (s : Bytes) (A p : ℕ) : Type 0 where
+pub record LeafPre (s : Bytes) (A p : ℕ) : Type 0 where
   pub pool : header-size + record-size * A + p ≤ length s
   pub small : length s < 70000
   pub few : A < 256
 
-pub record LeafRead (s : Bytes) (A p : ℕ) (o : Option (Syntax body)) (x : Leaf) : Type 0 where
+pub record LeafPost (s : Bytes) (A p : ℕ) (o : Option (Syntax body)) (x : Leaf) : Type 0 where
   pub short : Short s A p x
   pub reads : x ≡ leaf-of o

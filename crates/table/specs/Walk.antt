@@ -33,7 +33,7 @@ walked-by at (some t) = walked.To (beyond at t) (top-size t)
 walked-by at none = walked.Bad
 
 -- where a walk may begin
-pub record Ready (s : Bytes) (A : ℕ) (at : Place) (depth : ℕ) : Type 0 where
+pub record WalkPre (s : Bytes) (A : ℕ) (at : Place) (depth : ℕ) : Type 0 where
   pub few : A ≤ atom-limit
   pub small : length s < 70000
   pub atom : at .atom ≤ A
@@ -42,33 +42,33 @@ pub record Ready (s : Bytes) (A : ℕ) (at : Place) (depth : ℕ) : Type 0 where
   pub shallow : depth ≤ depth-limit
 
 -- how far it has come
-pub record Moved (s : Bytes) (A : ℕ) (at to : Place) : Type 0 where
+pub record WalkMoved (s : Bytes) (A : ℕ) (at to : Place) : Type 0 where
   pub on : at .atom < to .atom
   pub atom : to .atom ≤ A
   pub pool : header-size + record-size * A + to .pool ≤ length s
   pub source : to .source + 1 + 20 * at .atom + 2 * at .pool ≤ at .source + 20 * to .atom + 2 * to .pool
 
 abbrev pub Past : Bytes → ℕ → Place → Passed → Type 0
-Past s A at (passed.To next) = Moved s A at next
+Past s A at (passed.To next) = WalkMoved s A at next
 Past s A at passed.Bad = Unit {0}
 
 abbrev pub PastW : Bytes → ℕ → Place → Walked → Type 0
-PastW s A at (walked.To next k) = Moved s A at next × (at .atom + k ≤ next .atom)
+PastW s A at (walked.To next k) = WalkMoved s A at next × (at .atom + k ≤ next .atom)
 PastW s A at walked.Bad = Unit {0}
 
 -- how deep the calls go at most
 abbrev pub reach : ℕ → Place → ℕ
 reach A at = 3 * (A - at .atom)
 
-pub record AtomPassed (s : Bytes) (A : ℕ) (at : Place) (d : ℕ) (r : Passed) : Type 0 where
+pub record AtomPost (s : Bytes) (A : ℕ) (at : Place) (d : ℕ) (r : Passed) : Type 0 where
   pub past : Past s A at r
   pub reads : (f : ℕ) → reach A at < f → r ≡ passed-by at (read-atom s A f (at .atom) (at .pool) d)
 
-pub record PatternWalked (s : Bytes) (A : ℕ) (at : Place) (d : ℕ) (r : Walked) : Type 0 where
+pub record PatternPost (s : Bytes) (A : ℕ) (at : Place) (d : ℕ) (r : Walked) : Type 0 where
   pub past : PastW s A at r
   pub reads : (f : ℕ) → reach A at + 1 < f → r ≡ walked-by at (read-pattern s A f (at .atom) (at .pool) d)
 
-pub record GroupPassed (s : Bytes) (A : ℕ) (at : Place) (d k : ℕ) (r : Passed) : Type 0 where
+pub record GroupPost (s : Bytes) (A : ℕ) (at : Place) (d k : ℕ) (r : Passed) : Type 0 where
   pub past : Past s A at r
   pub reads : (f : ℕ) → reach A at + 2 < f → r ≡ passed-by at (read-branches s A f k (at .atom) (at .pool) d)
 

@@ -5,8 +5,8 @@ use Prim.Native.Nat.{ℕ, _*_, _≤_}
 use lib.ListN.{length, take}
 use Rattle.pattern.specs.Numbers.{source-limit, atom-limit, record-size, ROOM}
 use Rattle.pattern.specs.Bytes.{Bytes}
-use Rattle.pattern.specs.Table.{Rec, flat, header}
-use Rattle.pattern.specs.Stores.{stored}
+use Rattle.pattern.specs.Table.{Rec, record-bytes, header}
+use Rattle.pattern.specs.Stores.{store-at}
 use Rattle.pattern.specs.Answers.{refusal, result, Output, put}
 use Rattle.pattern.specs.declared.repeat.Repeat.{Repeat}
 use Rattle.table.specs.declared.write.Written.{Written}
@@ -22,7 +22,7 @@ records-room = record-size * atom-limit
 
 -- records in a buffer of records, the first of them that of atom i
 abbrev pub put-records : Bytes → (i : ℕ) → List Rec → Bytes
-put-records recs i xs = stored recs (record-size * i) (flat xs [])
+put-records recs i xs = store-at recs (record-size * i) (record-bytes xs [])
 
 -- the buffers hold the records of n atoms and m bytes of text
 pub record WriteTablePre (n m : ℕ) (recs text : Bytes) : Type 0 where

@@ -10,7 +10,7 @@ ghost use mathlib.Core.Path.{_≡_};
 ghost use Prim.Native.Nat.{_≤_};
 ghost use lib.ListN.{length, take};
 ghost use Rattle.pattern.specs.Numbers.{atoms-place, header-size};
-ghost use Rattle.pattern.specs.Bytes.{same};
+ghost use Rattle.pattern.specs.Bytes.{equal};
 ghost use Rattle.table.specs.Headers.{first-bytes, header-of, read-header};
 
 // How many atoms and how many bytes of pool there are, and where the records and the pool begin.
@@ -29,7 +29,7 @@ pub enum HeaderRead {
 // Whether a table begins with the mark and the version.
 fn marked(table: &[u8]) -> bool
     requires { ⌜ atoms-place ≤ length (now table) ⌝ }
-    ensures { λ r. ⌜ r ≡ same (take atoms-place (now (table .entry))) first-bytes ⌝ }
+    ensures { λ r. ⌜ r ≡ equal (take atoms-place (now (table .entry))) first-bytes ⌝ }
 {
     let mark = layout::first_bytes();
     equal(table, 0, &mark, 0, ATOMS_PLACE)
@@ -41,7 +41,7 @@ pub fn header_at(table: &[u8]) -> Header
     ensures { λ r. ⌜ r ≡ header-of (now (table .entry)) ⌝ }
 {
     let atoms = record::wide(table[ATOMS_PLACE]) as usize;
-    let length = record::word(table, LENGTH_PLACE) as usize;
+    let length = record::read16(table, LENGTH_PLACE) as usize;
     Header {
         atoms,
         length,

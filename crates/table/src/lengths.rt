@@ -14,7 +14,7 @@ ghost use Rattle.table.specs.Leaves.{text-of};
 const LETTERS: [u8; 16] = *b"\x00\x01\x01\x02\x01\x02\x02\x03\x01\x02\x02\x03\x02\x03\x03\x04";
 
 // The bytes of a literal's value with its quotes doubled.
-pub enum Text {
+pub enum TextLength {
     Length(usize),
     Bad,
 }
@@ -56,7 +56,7 @@ pub fn letters(set: u16) -> usize
 }
 
 // A value's bytes, if they are from 32 to 126.
-pub fn text_length(v: &[u8]) -> Text
+pub fn text_length(v: &[u8]) -> TextLength
     requires { ⌜ length (now v) < 70000 ⌝ }
     ensures { λ r. ⌜ r ≡ text-of (now (v .entry)) ⌝ }
 {
@@ -65,10 +65,10 @@ pub fn text_length(v: &[u8]) -> Text
     while i < v.len() {
         let b = v[i];
         if b < 32 {
-            return Text::Bad;
+            return TextLength::Bad;
         }
         if 126 < b {
-            return Text::Bad;
+            return TextLength::Bad;
         }
         if b == b'"' {
             n += 1;
@@ -76,5 +76,5 @@ pub fn text_length(v: &[u8]) -> Text
         n += 1;
         i += 1;
     }
-    Text::Length(n)
+    TextLength::Length(n)
 }

@@ -4,7 +4,7 @@ use crate::layout::RECORD_SIZE;
 ghost use mathlib.Core.Path.{_≡_};
 ghost use Prim.Native.Nat.{_+_, _≤_, _<_};
 ghost use lib.ListN.{length};
-ghost use Rattle.pattern.specs.Decode.{field, layout, its};
+ghost use Rattle.pattern.specs.Decode.{field, layout, record-at};
 ghost use Rattle.table.specs.Fields.{record-of, RecordIn};
 
 // What a record says.
@@ -25,7 +25,7 @@ pub fn wide(x: u8) -> u16
 }
 
 // The 16 bits at a place, the lower byte first.
-pub fn word(table: &[u8], at: usize) -> u16
+pub fn read16(table: &[u8], at: usize) -> u16
     requires { ⌜ at + 2 ≤ length (now table) ⌝ }
     ensures { λ r. ⌜ r ≡ field (now (table .entry)) at ⌝ }
 {
@@ -35,15 +35,15 @@ pub fn word(table: &[u8], at: usize) -> u16
 // The record of atom i.
 pub fn record_at(table: &[u8], i: usize) -> Record
     requires { ⌜ RecordIn (now table) i ⌝ }
-    ensures { λ r. ⌜ r ≡ record-of (its (now (table .entry)) (layout (now (table .entry))) i) ⌝ }
+    ensures { λ r. ⌜ r ≡ record-of (record-at (now (table .entry)) (layout (now (table .entry))) i) ⌝ }
 {
     let at = HEADER_SIZE + RECORD_SIZE * i;
     Record {
         kind: table[at],
         ends: table[at + 1],
-        low: word(table, at + 2),
-        high: word(table, at + 4),
-        a: word(table, at + 6),
-        b: word(table, at + 8),
+        low: read16(table, at + 2),
+        high: read16(table, at + 4),
+        a: read16(table, at + 6),
+        b: read16(table, at + 8),
     }
 }

@@ -1,6 +1,6 @@
 // The walk over a table's records: leaves, and a cycle of three functions for patterns, atoms and groups.
 use super::lengths;
-use super::lengths::Text;
+use super::lengths::TextLength;
 use crate::layout::HEADER_SIZE;
 use crate::layout::RECORD_SIZE;
 use crate::record::Record;
@@ -12,11 +12,11 @@ use pattern::limits::SET_LIMIT;
 use pattern::repeat::Repeat;
 ghost use mathlib.Core.Path.{_≡_};
 ghost use Prim.Native.Nat.{_<_};
-ghost use Rattle.pattern.specs.Decode.{layout, its};
+ghost use Rattle.pattern.specs.Decode.{layout, record-at};
 ghost use Rattle.table.specs.Fields.{RecordIn};
 ghost use Rattle.table.specs.Checked.{ordered, a-set, codes-leaf, text-leaf, leaf};
-ghost use Rattle.table.specs.Leaves.{LeafReady, LeafRead};
-ghost use Rattle.table.specs.Walk.{Ready, AtomPassed, PatternWalked, GroupPassed};
+ghost use Rattle.table.specs.Leaves.{LeafPre, LeafPost};
+ghost use Rattle.table.specs.Walk.{WalkPre, AtomPost, PatternPost, GroupPost};
 
 // The bytes of a leaf in the pool and in the source.
 pub enum Leaf {
@@ -69,8 +69,8 @@ fn is_set(a: u16) -> bool
 
 // The leaf of kind 1.
 fn codes_leaf(table: &[u8], atoms: usize, a: u16, b: u16, p: usize) -> Leaf
-    requires { ⌜ LeafReady (now table) atoms p ⌝ }
-    ensures { λ x. ⌜ LeafRead (now (table .entry)) atoms p (codes-leaf a b) x ⌝ }
+    requires { ⌜ LeafPre (now table) atoms p ⌝ }
+    ensures { λ x. ⌜ LeafPost (now (table .entry)) atoms p (codes-leaf a b) x ⌝ }
 {
     if is_set(a) {
         if b == 0 {
@@ -82,8 +82,8 @@ fn codes_leaf(table: &[u8], atoms: usize, a: u16, b: u16, p: usize) -> Leaf
 
 // The leaf of kind 2.
 fn text_leaf(table: &[u8], atoms: usize, a: u16, b: u16, p: usize) -> Leaf
-    requires { ⌜ LeafReady (now table) atoms p ⌝ }
-    ensures { λ x. ⌜ LeafRead (now (table .entry)) atoms p (text-leaf (now (table .entry)) atoms a b p) x ⌝ }
+    requires { ⌜ LeafPre (now table) atoms p ⌝ }
+    ensures { λ x. ⌜ LeafPost (now (table .entry)) atoms p (text-leaf (now (table .entry)) atoms a b p) x ⌝ }
 {
     if a as usize == p {
         let v = b as usize;
@@ -91,8 +91,8 @@ fn text_leaf(table: &[u8], atoms: usize, a: u16, b: u16, p: usize) -> Leaf
         let to = from + v;
         if to <= table.len() {
             match lengths::text_length(&table[from..to]) {
-                Text::Length(n) => return Leaf::Is(v, n + 2),
-                Text::Bad => return Leaf::Bad,
+                TextLength::Length(n) => return Leaf::Is(v, n + 2),
+                TextLength::Bad => return Leaf::Bad,
             }
         }
     }
@@ -101,8 +101,8 @@ fn text_leaf(table: &[u8], atoms: usize, a: u16, b: u16, p: usize) -> Leaf
 
 // The leaf that a record says, with p bytes of the pool before it.
 fn leaf_at(table: &[u8], atoms: usize, r: Record, p: usize) -> Leaf
-    requires { ⌜ LeafReady (now table) atoms p ⌝ }
-    ensures { λ x. ⌜ LeafRead (now (table .entry)) atoms p (leaf (now (table .entry)) atoms (r .kind) (r .a) (r .b) p) x ⌝ }
+    requires { ⌜ LeafPre (now table) atoms p ⌝ }
+    ensures { λ x. ⌜ LeafPost (now (table .entry)) atoms p (leaf (now (table .entry)) atoms (r .kind) (r .a) (r .b) p) x ⌝ }
 {
     if r.kind == kind::CODES {
         return codes_leaf(table, atoms, r.a, r.b, p);
@@ -116,15 +116,15 @@ fn leaf_at(table: &[u8], atoms: usize, r: Record, p: usize) -> Leaf
 // Whether atom i ends its branch: the second byte of its record.
 fn ends_of(table: &[u8], i: usize) -> u8
     requires { ⌜ RecordIn (now table) i × (i < 256) ⌝ }
-    ensures { λ r. ⌜ r ≡ its (now (table .entry)) (layout (now (table .entry))) i .ends ⌝ }
+    ensures { λ r. ⌜ r ≡ record-at (now (table .entry)) (layout (now (table .entry))) i .ends ⌝ }
 {
     table[HEADER_SIZE + RECORD_SIZE * i + 1]
 }
 
 // A pattern from a place on, inside depth groups.
 pub fn pattern(table: &[u8], atoms: usize, at: Place, depth: usize) -> Walked
-    requires { ⌜ Ready (now table) atoms at depth ⌝ }
-    ensures { λ r. ⌜ PatternWalked (now (table .entry)) atoms at depth r ⌝ }
+    requires { ⌜ WalkPre (now table) atoms at depth ⌝ }
+    ensures { λ r. ⌜ PatternPost (now (table .entry)) atoms at depth r ⌝ }
 {
     let mut from = at;
     let mut before: usize = 0;
@@ -148,8 +148,8 @@ pub fn pattern(table: &[u8], atoms: usize, at: Place, depth: usize) -> Walked
 
 // The atom at a place.
 fn atom(table: &[u8], atoms: usize, at: Place, depth: usize) -> Passed
-    requires { ⌜ Ready (now table) atoms at depth ⌝ }
-    ensures { λ r. ⌜ AtomPassed (now (table .entry)) atoms at depth r ⌝ }
+    requires { ⌜ WalkPre (now table) atoms at depth ⌝ }
+    ensures { λ r. ⌜ AtomPost (now (table .entry)) atoms at depth r ⌝ }
 {
     let i = at.atom;
     let p = at.pool;
@@ -192,8 +192,8 @@ fn atom(table: &[u8], atoms: usize, at: Place, depth: usize) -> Passed
 
 // k branches from a place on.
 fn group(table: &[u8], atoms: usize, at: Place, depth: usize, k: usize) -> Passed
-    requires { ⌜ Ready (now table) atoms at depth ⌝ }
-    ensures { λ r. ⌜ GroupPassed (now (table .entry)) atoms at depth k r ⌝ }
+    requires { ⌜ WalkPre (now table) atoms at depth ⌝ }
+    ensures { λ r. ⌜ GroupPost (now (table .entry)) atoms at depth k r ⌝ }
 {
     let mut from = at;
     let mut left = k;

@@ -8,8 +8,8 @@ use Rattle.matcher.proofs.run.Tie as tie
 add-w : tie.Need-add-w
 add-w c = omega (arith, c .before .before .before .before .pre .short)
 
-mul-top : tie.Need-mul-top
-mul-top c = omega (arith, run-few _ _ _ _ _ (c .before .before .before .before .pre))
+mul-temp : tie.Need-mul-temp
+mul-temp c = omega (arith, run-few _ _ _ _ _ (c .before .before .before .before .pre))
 
 add-len : tie.Need-add-len
 add-len c = omega (arith, run-few _ _ _ _ _ (c .before .before .before .before .pre))
@@ -95,4 +95,4 @@ returns-3 c =
 pub run-spec : {M : Type 1} → statement M
 run-spec =
     tie.close
-    (tie.spec add-w mul-top add-len mul-len mul-len-2 settle-all-requires clear-requires same-length returns holds-requires write-parts-requires clear-requires-2 same-length-2 same-length-3 returns-2 clear-requires-3 same-length-4 returns-3)
+    (tie.spec add-w mul-temp add-len mul-len mul-len-2 settle-all-requires clear-requires same-length returns holds-requires write-parts-requires clear-requires-2 same-length-2 same-length-3 returns-2 clear-requires-3 same-length-4 returns-3)

@@ -4,24 +4,24 @@ use Prim.Native.Nat.{_≤_, _-_, _+_}
 use native.Mathlib.Omega.{arith}
 use lib.ListN.{length, take, set, getD}
 use lib.Seq.{length-take-le}
-use Rattle.pattern.specs.Stores.{stored}
-use Rattle.pattern.proofs.Stores.{length-stored, stored-none, copied}
+use Rattle.pattern.specs.Stores.{store-at}
+use Rattle.pattern.proofs.Stores.{length-store-at, store-at-none, copied}
 use Rattle.stores.proofs.copy.Statement.{statement}
 use Rattle.stores.proofs.copy.Tie as tie
 
 abbrev Inv-loop : tie.InvT-loop
-Inv-loop from n to₀ at i₀ to i = (i ≤ n) × (to ≡ stored to₀ at (take i from))
+Inv-loop from n to₀ at i₀ to i = (i ≤ n) × (to ≡ store-at to₀ at (take i from))
 
 abbrev μ-loop : tie.MeasureT-loop
 μ-loop from n to₀ at i₀ to i = n - i
 
 loop-holds : tie.Need-loop-holds Inv-loop μ-loop
-loop-holds c = (omega arith, sym (stored-none _ _))
+loop-holds c = (omega arith, sym (store-at-none _ _))
 
 slice-write-to : tie.Need-slice-write-to Inv-loop μ-loop
 slice-write-to c =
     let start = c .before .before .before in
-    omega (arith, ap length (c .before .before .loop .inv .1), length-stored (start .args .to .now) (start .args .at) (take (c .before .before .loop .i) (start .args .from .now)))
+    omega (arith, ap length (c .before .before .loop .inv .1), length-store-at (start .args .to .now) (start .args .at) (take (c .before .before .loop .i) (start .args .from .now)))
 
 loop-again : tie.Need-loop-again Inv-loop μ-loop
 loop-again c =
@@ -29,7 +29,7 @@ loop-again c =
     (omega arith, ap (λ m. set m (start .args .at + c .before .before .loop .i) (getD (start .args .from .now) (c .before .before .loop .i) 0)) (c .before .before .loop .inv .1) ∙ copied (start .args .to .now) (start .args .from .now) (start .args .at) (c .before .before .loop .i) (omega arith))
 
 same-length : tie.Need-same-length Inv-loop μ-loop
-same-length c = ap length (c .before .loop .inv .1) ∙ length-stored _ _ _
+same-length c = ap length (c .before .loop .inv .1) ∙ length-store-at _ _ _
 
 returns : tie.Need-returns Inv-loop μ-loop
 returns c =

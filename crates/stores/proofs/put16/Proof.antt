@@ -2,7 +2,7 @@
 use mathlib.Core.Path.{refl, sym}
 use native.Mathlib.Omega.{arith}
 use lib.ListN.{length-set}
-use Rattle.pattern.proofs.Stores.{stored-two}
+use Rattle.pattern.proofs.Stores.{store-at-two}
 use borrow.Author.Needs.{needs}
 use Rattle.stores.proofs.put16.Statement.{statement}
 use Rattle.stores.proofs.put16.Tie as tie
@@ -11,7 +11,7 @@ slice-write-to-2 : tie.Need-slice-write-to-2
 slice-write-to-2 c = simp length-set (omega arith)
 
 returns : tie.Need-returns
-returns c = record { bytes = sym (stored-two _ _ _ _); next = refl }
+returns c = record { bytes = sym (store-at-two _ _ _ _); next = refl }
 
 pub put16-spec : {M : Type 1} → statement M
 put16-spec =

@@ -3,7 +3,7 @@ use mathlib.Core.Path.{_≡_, refl, sym, _∙_}
 use Prim.Native.Nat.{_+_, _-_, _≤_}
 use native.Mathlib.Omega.{arith}
 use lib.ListN.{length, length-set}
-use Rattle.pattern.specs.Stores.{stored}
+use Rattle.pattern.specs.Stores.{store-at}
 use Rattle.stores.specs.Little.{little}
 use Rattle.stores.proofs.Little.{store-next, store-end}
 use Rattle.stores.proofs.put64.Statement.{statement}
@@ -11,7 +11,7 @@ use Rattle.stores.proofs.put64.Tie as tie
 
 abbrev Inv-loop : tie.InvT-loop
 Inv-loop to₀ at x left₀ j₀ to left j =
-    (j ≤ 8) × (length to ≡ length to₀) × (stored to (at + j) (little (8 - j) left) ≡ stored to₀ at (little 8 x))
+    (j ≤ 8) × (length to ≡ length to₀) × (store-at to (at + j) (little (8 - j) left) ≡ store-at to₀ at (little 8 x))
 
 abbrev μ-loop : tie.MeasureT-loop
 μ-loop to₀ at x left₀ j₀ to left j = 8 - j

@@ -6,8 +6,8 @@ use native.Mathlib.Omega.{arith}
 use borrow.Author.Needs.{needs}
 use Rattle.scanner.specs.Counts.{CountIs}
 use Rattle.scanner.proofs.Places.{class-letter}
-use Rattle.compiler.specs.Readers.{Ready, Room}
-use Rattle.compiler.proofs.Readers.{reach, count-is, quote-is, letter-before, atom-fault, atom-coded, atom-worded, atom-other, opening-is, atom-deep, group-ready, atom-group-fault, atom-group, group-is, atom-is, pattern-is, Going, going-start, going-fault, going-last, going-more, comma-is, Branching, branching-start, branching-fault, branching-other, branching-close, branching-more, count-few}
+use Rattle.compiler.specs.Readers.{ReadPre, BuffersFit}
+use Rattle.compiler.proofs.Readers.{reach, count-is, quote-is, letter-before, atom-fault, atom-codes, atom-literal, atom-other, opening-is, atom-deep, group-ready, atom-group-fault, atom-group, group-is, atom-is, pattern-is, Going, going-start, going-fault, going-last, going-more, comma-is, Branching, branching-start, branching-fault, branching-other, branching-close, branching-more, count-few}
 use Prim.Native.Nat.{ℕ, _<_}
 use borrow.Fn.Kinds.{In}
 use borrow.Fn.PlainCycle.{Measures, is, falls, and}
@@ -25,8 +25,8 @@ use Rattle.scanner.proofs.count.count.Reads as count-reads
 use Rattle.scanner.proofs.cursor.Cursor.class.Reads as class-reads
 use Rattle.scanner.proofs.cursor.last.Reads as last-reads
 use Rattle.scanner.proofs.cursor.Cursor.separator.Reads as separator-reads
-use Rattle.compiler.proofs.reader.coded.Reads as coded-reads
-use Rattle.compiler.proofs.reader.worded.Reads as worded-reads
+use Rattle.compiler.proofs.reader.read_codes.Reads as coded-reads
+use Rattle.compiler.proofs.reader.read_literal.Reads as worded-reads
 use Rattle.compiler.proofs.reader.+read_atom+read_group+read_pattern.{statement}
 use Rattle.compiler.proofs.reader.+read_atom+read_group+read_pattern.Tie.{close}
 
@@ -80,10 +80,10 @@ read-atom-counted : (t : ℕ) (c : read-atom-lts.After-known-told (read-atom-cla
     → CountIs (c .before .before .before .before .before .before .before .before .args .s .now) (c .before .before .before .before .before .before .before .before .args .st .at .at) (c .before .before .before .before .before .before .before .before .args .st .atoms) (c .before .rep .given .0 .0) (c .before .rep .given .0 .1 .0)
 read-atom-counted t c = count-is _ _ _ _ _ _ (c .before .rep .given .1) (c .before .before .before .count .ensures)
 
-read-atom-ready : (t : ℕ) (c : read-atom-lts.After-known-told (read-atom-claims t) (read-atom-at t) read-atom.Post) → Ready (c .before .before .before .before .before .before .before .before .args .s .now) (c .before .before .before .before .before .before .before .before .args .st) (c .before .before .before .before .before .before .before .before .args .depth)
+read-atom-ready : (t : ℕ) (c : read-atom-lts.After-known-told (read-atom-claims t) (read-atom-at t) read-atom.Post) → ReadPre (c .before .before .before .before .before .before .before .before .args .s .now) (c .before .before .before .before .before .before .before .before .args .st) (c .before .before .before .before .before .before .before .before .args .depth)
 read-atom-ready t c = c .before .before .before .before .before .before .before .before .pre .1 .0
 
-read-atom-room : (t : ℕ) (c : read-atom-lts.After-known-told (read-atom-claims t) (read-atom-at t) read-atom.Post) → Room (c .before .before .before .before .before .before .before .before .args .s .now) (c .before .before .before .before .before .before .before .before .args .recs .now) (c .before .before .before .before .before .before .before .before .args .pool .now)
+read-atom-room : (t : ℕ) (c : read-atom-lts.After-known-told (read-atom-claims t) (read-atom-at t) read-atom.Post) → BuffersFit (c .before .before .before .before .before .before .before .before .args .s .now) (c .before .before .before .before .before .before .before .before .args .recs .now) (c .before .before .before .before .before .before .before .before .args .pool .now)
 read-atom-room t c = c .before .before .before .before .before .before .before .before .pre .1 .1
 
 read-atom-count-requires : (t : ℕ) → read-atom-lts.Need-count-requires (read-atom-claims t) (read-atom-at t) read-atom.Post
@@ -98,8 +98,8 @@ read-atom-class-requires t c κs = search needs
 read-atom-enum-known-b : (t : ℕ) → read-atom-lts.Need-enum-known-b (read-atom-claims t) (read-atom-at t) read-atom.Post
 read-atom-enum-known-b t c = search needs
 
-read-atom-coded-requires : (t : ℕ) → read-atom-lts.Need-coded-requires (read-atom-claims t) (read-atom-at t) read-atom.Post
-read-atom-coded-requires t c κs =
+read-atom-read-codes-requires : (t : ℕ) → read-atom-lts.Need-read-codes-requires (read-atom-claims t) (read-atom-at t) read-atom.Post
+read-atom-read-codes-requires t c κs =
     let after-b = c .before .before in
     let after-class = after-b .before .before in
     let there = after-class .before in
@@ -108,8 +108,8 @@ read-atom-coded-requires t c κs =
 read-atom-enum-known-after : (t : ℕ) → read-atom-lts.Need-enum-known-after (read-atom-claims t) (read-atom-at t) read-atom.Post
 read-atom-enum-known-after t c = search needs
 
-read-atom-worded-requires : (t : ℕ) → read-atom-lts.Need-worded-requires (read-atom-claims t) (read-atom-at t) read-atom.Post
-read-atom-worded-requires t c κs =
+read-atom-read-literal-requires : (t : ℕ) → read-atom-lts.Need-read-literal-requires (read-atom-claims t) (read-atom-at t) read-atom.Post
+read-atom-read-literal-requires t c κs =
     let after-after = c .before .before .before in
     let after-class = after-after .before .before in
     let there = after-class .before in
@@ -173,7 +173,7 @@ read-atom-returns-2 t c =
     let after-b = c .before .before .before .before .before in
     let after-class = after-b .before .before in
     let there = after-class .before in
-    atom-coded _ _ _ _ _ (read-atom-ready t there) _ _ (read-atom-counted t there) _ (after-class .class .ensures) _ _ _ _ (after-b .b .given .1) (c .before .before .coded .ensures)
+    atom-codes _ _ _ _ _ (read-atom-ready t there) _ _ (read-atom-counted t there) _ (after-class .class .ensures) _ _ _ _ (after-b .b .given .1) (c .before .before .read-codes .ensures)
 
 read-atom-same-length-2 : (t : ℕ) → read-atom-lts.Need-same-length-2 (read-atom-claims t) (read-atom-at t) read-atom.Post
 read-atom-same-length-2 t c = search needs
@@ -183,11 +183,11 @@ read-atom-same-length-3 t c = search needs
 
 read-atom-returns-3 : (t : ℕ) → read-atom-lts.Need-returns-3 (read-atom-claims t) (read-atom-at t) read-atom.Post
 read-atom-returns-3 t c =
-    let after-worded = c .before .before .before .before in
-    let after-after = after-worded .before .before .before .before in
+    let after-read-literal = c .before .before .before .before in
+    let after-after = after-read-literal .before .before .before .before in
     let after-class = after-after .before .before in
     let there = after-class .before in
-    atom-worded _ _ _ _ _ (read-atom-ready t there) _ _ (read-atom-counted t there) _ (after-class .class .ensures) _ _ _ _ (after-after .after .given .1) (after-worded .worded .ensures)
+    atom-literal _ _ _ _ _ (read-atom-ready t there) _ _ (read-atom-counted t there) _ (after-class .class .ensures) _ _ _ _ (after-after .after .given .1) (after-read-literal .read-literal .ensures)
 
 read-atom-same-length-4 : (t : ℕ) → read-atom-lts.Need-same-length-4 (read-atom-claims t) (read-atom-at t) read-atom.Post
 read-atom-same-length-4 t c = c .before .before .put-record .kept .0 ∙ c .before .before .before .before .before .before .before .before .before .before .before .before .before .before .read-group .kept .1 .1 .1 .0
@@ -414,9 +414,9 @@ pub +read-atom+read-group+read-pattern-spec : {M : Type 1} → statement M
     (read-atom-enum-known-rep t)
     (read-atom-class-requires t)
     (read-atom-enum-known-b t)
-    (read-atom-coded-requires t)
+    (read-atom-read-codes-requires t)
     (read-atom-enum-known-after t)
-    (read-atom-worded-requires t)
+    (read-atom-read-literal-requires t)
     (read-atom-enum-known-after-2 t)
     (read-atom-returns t)
     (read-atom-add-read-group t)

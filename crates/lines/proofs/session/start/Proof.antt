@@ -2,7 +2,7 @@
 use mathlib.Core.Path.{refl, _∙_}
 use native.Mathlib.Omega.{arith}
 use Rattle.pattern.specs.Bytes.{bytes}
-use Rattle.pattern.proofs.Stores.{stored-over}
+use Rattle.pattern.proofs.Stores.{store-at-overwrite}
 use Rattle.lines.specs.Output.{first-line}
 use borrow.Author.Needs.{needs}
 use Rattle.lines.proofs.session.start.Statement.{statement}
@@ -10,7 +10,7 @@ use Rattle.lines.proofs.session.start.Tie as tie
 
 returns : tie.Need-returns
 unfolding first-line bytes
-returns c = record { next = refl; bytes = c .before .before .copy .ensures .bytes ∙ stored-over _ first-line (omega arith) }
+returns c = record { next = refl; bytes = c .before .before .copy .ensures .bytes ∙ store-at-overwrite _ first-line (omega arith) }
 
 pub start-spec : {M : Type 1} → statement M
 start-spec = tie.close (tie.spec (search needs) (λ c κs. search needs) (search needs) returns)

@@ -12,7 +12,7 @@ fill-body-requires c κs = c .before .before .before .before .pre
 add-fill : tie.Need-add-fill
 add-fill c =
     let start = c .before .before .before .before .before .before .before .before in
-    omega (arith, work-few (start .pre .work), start .pre .topmost)
+    omega (arith, work-few (start .pre .work), start .pre .temp-is)
 
 fill-requires : tie.Need-fill-requires
 fill-requires c κs =

@@ -6,10 +6,10 @@ use Rattle.matcher.proofs.atom.settle_all.Statement.{statement}
 use Rattle.matcher.proofs.atom.settle_all.Tie as tie
 
 abbrev Inv-loop : tie.InvT-loop
-Inv-loop table label scratch₀ w top budget x₀ spent₀ scratch x spent = AllAt table label scratch₀ w top budget scratch x spent
+Inv-loop table label scratch₀ w temp budget x₀ spent₀ scratch x spent = AllAt table label scratch₀ w temp budget scratch x spent
 
 abbrev μ-loop : tie.MeasureT-loop
-μ-loop table label scratch₀ w top budget x₀ spent₀ scratch x spent = x
+μ-loop table label scratch₀ w temp budget x₀ spent₀ scratch x spent = x
 
 loop-holds : tie.Need-loop-holds Inv-loop μ-loop
 loop-holds c = all-start _ _ _ _ _ _ (c .before .before .before .pre .0) (c .before .before .before .pre .1)

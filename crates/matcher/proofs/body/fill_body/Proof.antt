@@ -1,6 +1,6 @@
 -- `matcher::body::fill_body` meets its contract: codes, a literal, a group. Assumes nothing.
 use borrow.Author.Needs.{needs}
-use Rattle.planes.specs.Filled.{Fit}
+use Rattle.planes.specs.Fill.{Fit}
 use Rattle.matcher.proofs.Groups.{body-fill, body-codes, body-literal}
 use Rattle.matcher.proofs.body.fill_body.Statement.{statement}
 use Rattle.matcher.proofs.body.fill_body.Tie as tie
@@ -30,8 +30,8 @@ returns-2 c =
     let after-literal-at = c .before .before .before .before in
     body-literal _ _ _ _ _ _ (after-literal-at .before .before .before .before .before .before .before .before .before .pre) (after-literal-at .literal-at .ensures) (c .before .before .fill2 .ensures)
 
-unite-requires : tie.Need-unite-requires
-unite-requires c κs =
+union-branches-requires : tie.Need-union-branches-requires
+union-branches-requires c κs =
     let after-if2 = c .before .before in
     let after-record-at = after-if2 .before .before .before .before in
     record { body = after-record-at .before .before .before .before .pre; group = after-record-at .record-at .ensures .is-group (after-if2 .before .before .if1 .left) (after-if2 .if2 .left) }
@@ -39,4 +39,4 @@ unite-requires c κs =
 pub fill-body-spec : {M : Type 1} → statement M
 fill-body-spec =
     tie.close
-    (tie.spec record-at-requires fill-requires (search needs) returns literal-at-requires fill-requires-2 (search needs) returns-2 (search needs) unite-requires (search needs) (λ c. search needs))
+    (tie.spec record-at-requires fill-requires (search needs) returns literal-at-requires fill-requires-2 (search needs) returns-2 (search needs) union-branches-requires (search needs) (λ c. search needs))

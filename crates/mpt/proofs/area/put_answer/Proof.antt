@@ -1,6 +1,6 @@
 -- `area::put_answer` meets its contract: four numbers, one after the other. Assumes nothing.
 use mathlib.Core.Path.{_∙_}
-use Rattle.pattern.proofs.Stores.{stored-over, puts-then}
+use Rattle.pattern.proofs.Stores.{store-at-overwrite, puts-then}
 use Rattle.stores.specs.Little.{little}
 use Rattle.mpt.specs.Area.{area}
 use borrow.Author.Needs.{needs}
@@ -27,7 +27,7 @@ returns c =
     let after-put64 = after-put642 .before .before .before .before in
     let start = after-put64 .before .before .before in
     let p = puts-then (puts-then (puts-then (after-put64 .put64 .ensures) (after-put642 .put642 .ensures)) (after-put643 .put643 .ensures)) (c .before .before .put644 .ensures) in
-    p .bytes ∙ stored-over _ _ (start .pre)
+    p .bytes ∙ store-at-overwrite _ _ (start .pre)
 
 pub put-answer-spec : {M : Type 1} → statement M
 put-answer-spec =

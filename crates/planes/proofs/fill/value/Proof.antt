@@ -2,7 +2,7 @@
 use mathlib.Core.Path.{sym, _∙_}
 use borrow.Author.Needs.{needs}
 use denote.Ref.{now}
-use Rattle.planes.specs.Filled.{held-in}
+use Rattle.planes.specs.Fill.{held-in}
 use Rattle.planes.proofs.Filling.{value-empty, value-codes, value-literal}
 use Rattle.planes.proofs.fill.value.Statement.{statement}
 use Rattle.planes.proofs.fill.value.Tie as tie

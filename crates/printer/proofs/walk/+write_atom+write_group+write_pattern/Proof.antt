@@ -10,7 +10,7 @@ use Rattle.atoms.specs.Atoms.{atoms}
 use Rattle.atoms.specs.Records.{GroupIn}
 use Rattle.atoms.proofs.Views.{record-in}
 use Rattle.printer.proofs.Storing.{partly-length}
-use Rattle.printer.proofs.Walking.{PatternAt, pattern-start, pattern-atom, pattern-end, pattern-less, pattern-next, GroupAt, group-start, group-pattern, group-end, comma-room, group-next, count-room, Counted, letters-room, letters-post, literal-room, literal-post, open-room, inner-pre, close-room, close-fits, group-post}
+use Rattle.printer.proofs.Walking.{PatternAt, pattern-start, pattern-atom, pattern-end, pattern-less, pattern-next, GroupAt, group-start, group-pattern, group-end, comma-room, group-next, count-room, CountWritten, letters-room, letters-post, literal-room, literal-post, open-room, inner-pre, close-room, close-fits, group-post}
 use Rattle.printer.proofs.walk.write_atom.Reads as atom
 use Rattle.printer.proofs.walk.write_atom.Kinds as atom-kinds
 use Rattle.printer.proofs.walk.+write_atom+write_group+write_pattern.Lts-write_atom as atom-lts
@@ -20,9 +20,9 @@ use Rattle.printer.proofs.walk.+write_atom+write_group+write_pattern.Lt
 use Rattle.printer.proofs.walk.write_pattern.Reads as pattern
 use Rattle.printer.proofs.walk.write_pattern.Kinds as pattern-kinds
 use Rattle.printer.proofs.walk.+write_atom+write_group+write_pattern.Lts-write_pattern as pattern-lts
-use Rattle.printer.proofs.parts.count.Reads as count-reads
-use Rattle.printer.proofs.parts.letters.Reads as letters-reads
-use Rattle.printer.proofs.parts.literal.Reads as literal-reads
+use Rattle.printer.proofs.tokens.count.Reads as count-reads
+use Rattle.printer.proofs.tokens.letters.Reads as letters-reads
+use Rattle.printer.proofs.tokens.literal.Reads as literal-reads
 use Rattle.atoms.proofs.record_at.Reads as record-at-reads
 use Rattle.atoms.proofs.literal_at.Reads as literal-at-reads
 use Rattle.printer.proofs.walk.+write_atom+write_group+write_pattern.{statement}
@@ -66,7 +66,7 @@ pattern-claims t = (atom-below t, atom.Post, record-at-reads.Asked, record-at-re
 
 -- what is known where a count was written
 atom-counted : (t : ℕ) (c : atom-lts.After-count (atom-claims t) (atom-at t) atom.Post)
-    → Counted (c .before .before .before .before .before .args .table .now) (c .before .before .before .before .before .args .out .now) (c .before .before .before .before .before .args .x) (c .before .before .before .before .before .args .n) (c .before .before .record-at .result) (c .count .last .0) (c .count .result)
+    → CountWritten (c .before .before .before .before .before .args .table .now) (c .before .before .before .before .before .args .out .now) (c .before .before .before .before .before .args .x) (c .before .before .before .before .before .args .n) (c .before .before .record-at .result) (c .count .last .0) (c .count .result)
 atom-counted t c = record { pre = c .before .before .before .before .before .pre .1; got = c .before .before .record-at .ensures; puts = c .count .ensures }
 
 atom-record-at-requires : (t : ℕ) → atom-lts.Need-record-at-requires (atom-claims t) (atom-at t) atom.Post

@@ -4,7 +4,7 @@ use mathlib.Core.List.{[]}
 use lib.Seq.{length-take-le}
 use native.Mathlib.Omega.{arith}
 use Rattle.replies.specs.Sizes.{reply-room}
-use Rattle.replies.proofs.Replies.{replied-same, replied, stored-within, refused-short, table-fits, table-reply-is, refused-reply-is}
+use Rattle.replies.proofs.Replies.{replied-same, replied, store-at-within, refused-short, table-fits, table-reply-is, refused-reply-is}
 use borrow.Author.Needs.{needs}
 use Rattle.replies.proofs.reply.put_cut.Statement.{statement}
 use Rattle.replies.proofs.reply.put_cut.Tie as tie
@@ -28,7 +28,7 @@ returns-2 c =
     let after-known-told2 = c .before .before .before .before in
     let after-number = after-known-told2 .before in
     let after-compile = after-number .before .before .before in
-    replied-same (refused-reply-is _ _ _ _ _ (after-compile .compile .ensures) _ _ (after-number .number .given .1)) (replied (stored-within reply-room (omega (arith, refused-short (after-number .number .given .0 .0) (after-number .number .given .0 .1 .0) (omega (arith, after-known-told2 .known-told2 .given)) (omega (arith, after-known-told2 .known-told2 .given)))) (c .before .before .put-refused .ensures)))
+    replied-same (refused-reply-is _ _ _ _ _ (after-compile .compile .ensures) _ _ (after-number .number .given .1)) (replied (store-at-within reply-room (omega (arith, refused-short (after-number .number .given .0 .0) (after-number .number .given .0 .1 .0) (omega (arith, after-known-told2 .known-told2 .given)) (omega (arith, after-known-told2 .known-told2 .given)))) (c .before .before .put-refused .ensures)))
 
 pub put-cut-spec : {M : Type 1} → statement M
 put-cut-spec =

@@ -3,7 +3,7 @@ use mathlib.Core.Path.{sym, _∙_}
 use native.Mathlib.Omega.{arith}
 use Rattle.pattern.specs.Numbers.{TABLE}
 use Rattle.replies.specs.Sizes.{reply-room}
-use Rattle.replies.proofs.Replies.{replied-same, replied, stored-within, unmatched-short, bad-reply}
+use Rattle.replies.proofs.Replies.{replied-same, replied, store-at-within, unmatched-short, bad-reply}
 use borrow.Author.Needs.{needs}
 use Rattle.replies.proofs.reply.put_label.Statement.{statement}
 use Rattle.replies.proofs.reply.put_label.Tie as tie
@@ -12,7 +12,7 @@ put-match-requires : tie.Need-put-match-requires
 put-match-requires c κs = (sym (c .before .before .before .sizes .given .1) ∙ c .before .before .before .before .before .test .ensures, c .before .before .before .before .before .before .before .before .before .before .pre)
 
 returns : tie.Need-returns
-returns c = replied-same (bad-reply _ _ _ (sym (c .before .before .before .before .enum-told .given .1) ∙ c .before .before .before .before .before .before .test .ensures)) (replied (stored-within reply-room (omega (arith, unmatched-short TABLE (omega arith))) (c .before .before .put-unmatched .ensures)))
+returns c = replied-same (bad-reply _ _ _ (sym (c .before .before .before .before .enum-told .given .1) ∙ c .before .before .before .before .before .before .test .ensures)) (replied (store-at-within reply-room (omega (arith, unmatched-short TABLE (omega arith))) (c .before .before .put-unmatched .ensures)))
 
 returns-2 : tie.Need-returns-2
 returns-2 c = c .before .before .before .before .put-match .ensures

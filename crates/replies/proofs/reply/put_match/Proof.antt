@@ -5,7 +5,7 @@ use lib.Seq.{length-take-le}
 use native.Mathlib.Omega.{arith}
 use Rattle.replies.specs.Sizes.{reply-room}
 use Rattle.matcher.proofs.Refusals.{few-tops}
-use Rattle.replies.proofs.Replies.{replied-same, replied, stored-within, within-more, unmatched-short, match-texts}
+use Rattle.replies.proofs.Replies.{replied-same, replied, store-at-within, within-more, unmatched-short, match-texts}
 use borrow.Author.Needs.{needs}
 use Rattle.replies.proofs.reply.put_match.Statement.{statement}
 use Rattle.replies.proofs.reply.put_match.Tie as tie
@@ -14,10 +14,10 @@ match-good-requires : tie.Need-match-good-requires
 match-good-requires c κs = c .before .before .before .before .before .before .pre .0
 
 returns : tie.Need-returns
-returns c = let m = c .before .before .before .before .before .before .before .before .before .before .before .match-good in let a = c .before .before .before .before .before .before .before .numbers in replied-same (match-texts _ _ _ _ (c .before .before .before .before .before .before .before .before .before .before .before .before .before .before .before .before .before .before .pre .0) (m .result) _ _ (m .ensures) _ (a .ensures) .refused-is (c .before .before .before .before .before .if1 .taken)) (replied (stored-within reply-room (omega (arith, unmatched-short (a .result .number) (omega (arith, c .before .before .before .before .before .before .struct-known .given)))) (c .before .before .put-unmatched .ensures)))
+returns c = let m = c .before .before .before .before .before .before .before .before .before .before .before .match-good in let a = c .before .before .before .before .before .before .before .numbers in replied-same (match-texts _ _ _ _ (c .before .before .before .before .before .before .before .before .before .before .before .before .before .before .before .before .before .before .pre .0) (m .result) _ _ (m .ensures) _ (a .ensures) .refused-is (c .before .before .before .before .before .if1 .taken)) (replied (store-at-within reply-room (omega (arith, unmatched-short (a .result .number) (omega (arith, c .before .before .before .before .before .before .struct-known .given)))) (c .before .before .put-unmatched .ensures)))
 
 returns-2 : tie.Need-returns-2
-returns-2 c = let m = c .before .before .before .before .before .before .before .before .before .before .before .before .match-good in let a = c .before .before .before .before .before .before .before .before .numbers in replied-same (match-texts _ _ _ _ (c .before .before .before .before .before .before .before .before .before .before .before .before .before .before .before .before .before .before .before .pre .0) (m .result) _ _ (m .ensures) _ (a .ensures) .no-is (c .before .before .before .before .before .before .if1 .left) (c .before .before .before .before .if2 .taken)) (replied (stored-within reply-room (omega arith) (c .before .before .put-byte .ensures)))
+returns-2 c = let m = c .before .before .before .before .before .before .before .before .before .before .before .before .match-good in let a = c .before .before .before .before .before .before .before .before .numbers in replied-same (match-texts _ _ _ _ (c .before .before .before .before .before .before .before .before .before .before .before .before .before .before .before .before .before .before .before .pre .0) (m .result) _ _ (m .ensures) _ (a .ensures) .no-is (c .before .before .before .before .before .before .if1 .left) (c .before .before .before .before .if2 .taken)) (replied (store-at-within reply-room (omega arith) (c .before .before .put-byte .ensures)))
 
 mul-parts : tie.Need-mul-parts
 mul-parts c = omega (arith, few-tops _ _ (c .before .before .before .before .before .before .before .before .before .before .before .before .before .before .before .before .pre .0))

@@ -4,13 +4,13 @@ use Prim.Native.Nat.{_≤_, _-_, _+_}
 use native.Mathlib.Omega.{arith}
 use lib.ListN.{length, drop}
 use Rattle.replies.specs.Sizes.{tab-byte}
-use Rattle.replies.specs.Reply.{first}
+use Rattle.replies.specs.Reply.{index-of}
 use Rattle.replies.proofs.Firsts.{first-here, first-later, first-none}
 use Rattle.replies.proofs.reply.tab_at.Statement.{statement}
 use Rattle.replies.proofs.reply.tab_at.Tie as tie
 
 abbrev Inv-loop : tie.InvT-loop
-Inv-loop line i₀ i = (i ≤ length line) × (first tab-byte line ≡ i + first tab-byte (drop i line))
+Inv-loop line i₀ i = (i ≤ length line) × (index-of tab-byte line ≡ i + index-of tab-byte (drop i line))
 
 abbrev μ-loop : tie.MeasureT-loop
 μ-loop line i₀ i = length line - i

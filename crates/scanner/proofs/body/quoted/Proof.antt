@@ -4,7 +4,7 @@ use Prim.Native.Nat.{_-_}
 use native.Mathlib.Omega.{arith}
 use lib.ListN.{length}
 use Rattle.scanner.proofs.Bodies.{Quoting, quoting-start, quoting-past, quoting-more, quoting-ends, quoting-broken}
-use Rattle.pattern.proofs.Stores.{length-stored}
+use Rattle.pattern.proofs.Stores.{length-store-at}
 use borrow.Author.Needs.{needs}
 use Rattle.scanner.proofs.body.quoted.Statement.{statement}
 use Rattle.scanner.proofs.body.quoted.Tie as tie
@@ -34,13 +34,13 @@ loop-again : tie.Need-loop-again Inv-loop μ-loop
 loop-again c = quoting-more _ _ _ _ _ _ _ (c .before .before .before .before .loop .inv) _ (c .before .before .before .text .ensures) _ _ (c .before .b .given .1)
 
 same-length : tie.Need-same-length Inv-loop μ-loop
-same-length c = ap length (c .before .before .before .before .loop .inv .wrote) ∙ length-stored _ _ _
+same-length c = ap length (c .before .before .before .before .loop .inv .wrote) ∙ length-store-at _ _ _
 
 returns : tie.Need-returns Inv-loop μ-loop
 returns c = quoting-ends _ _ _ _ _ _ _ (c .before .before .before .before .loop .inv) _ (c .before .before .before .text .ensures) _ (c .before .next .given .1)
 
 same-length-2 : tie.Need-same-length-2 Inv-loop μ-loop
-same-length-2 c = ap length (c .before .before .before .loop .inv .wrote) ∙ length-stored _ _ _
+same-length-2 c = ap length (c .before .before .before .loop .inv .wrote) ∙ length-store-at _ _ _
 
 returns-2 : tie.Need-returns-2 Inv-loop μ-loop
 returns-2 c = quoting-broken _ _ _ _ _ _ _ (c .before .before .before .loop .inv) _ (c .before .before .text .ensures) (c .enum-told .given .1)

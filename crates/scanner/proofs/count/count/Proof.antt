@@ -13,7 +13,7 @@ returns c =
     let after-next = after-digits2 .before .before in
     let after-point = after-next .before .before in
     let after-digits = after-point .before .before in
-    count-open _ _ _ _ (after-digits .digits .ensures) _ (after-point .point .ensures) _ (after-next .next .given .1) _ (after-digits2 .digits2 .ensures) _ _ (c .judged .ensures) (c .before .before .if1 .taken) (c .before .«open» .ensures)
+    count-open _ _ _ _ (after-digits .digits .ensures) _ (after-point .point .ensures) _ (after-next .next .given .1) _ (after-digits2 .digits2 .ensures) _ _ (c .check-count .ensures) (c .before .before .if1 .taken) (c .before .«open» .ensures)
 
 returns-2 : tie.Need-returns-2
 returns-2 c =
@@ -21,7 +21,7 @@ returns-2 c =
     let after-next = after-digits2 .before .before in
     let after-point = after-next .before .before in
     let after-digits = after-point .before .before in
-    count-closed _ _ _ _ (after-digits .digits .ensures) _ (after-point .point .ensures) _ (after-next .next .given .1) _ (after-digits2 .digits2 .ensures) _ _ (c .judged2 .ensures) (c .before .before .if1 .left) (c .before .closed .ensures)
+    count-closed _ _ _ _ (after-digits .digits .ensures) _ (after-point .point .ensures) _ (after-next .next .given .1) _ (after-digits2 .digits2 .ensures) _ _ (c .check-count2 .ensures) (c .before .before .if1 .left) (c .before .closed .ensures)
 
 returns-3 : tie.Need-returns-3
 returns-3 c = count-form _ _ _ _ (c .before .before .before .before .before .before .digits .ensures) _ (c .before .before .before .before .point .ensures) (c .before .before .enum-told .given .1) (c .if2 .taken)
@@ -31,7 +31,7 @@ returns-4 c =
     let after-enum-told = c .before .before .before .before in
     let after-point = after-enum-told .before .before in
     let after-digits = after-point .before .before in
-    count-exact _ _ _ _ (after-digits .digits .ensures) _ (after-point .point .ensures) _ _ (after-enum-told .enum-told .given .1) (c .before .before .if2 .left) (c .before .exact .ensures) (c .judged3 .ensures)
+    count-exact _ _ _ _ (after-digits .digits .ensures) _ (after-point .point .ensures) _ _ (after-enum-told .enum-told .given .1) (c .before .before .if2 .left) (c .before .exact .ensures) (c .check-count3 .ensures)
 
 pub count-spec : {M : Type 1} → statement M
 count-spec =

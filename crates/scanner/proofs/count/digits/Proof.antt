@@ -17,8 +17,8 @@ abbrev μ-loop : tie.MeasureT-loop
 loop-holds : tie.Need-loop-holds Inv-loop μ-loop
 loop-holds c = digits-start _ _ (c .before .pre)
 
-grown-requires : tie.Need-grown-requires Inv-loop μ-loop
-grown-requires c κs =
+push-digit-requires : tie.Need-push-digit-requires Inv-loop μ-loop
+push-digit-requires c κs =
     let after-digit = c .before .before .before in
     let turn = after-digit .before in
     (turn .loop .inv .small, digit-small _ _ _ _ (turn .loop .inv) _ (after-digit .digit .ensures) _ _ (c .before .d .given .1))
@@ -27,7 +27,7 @@ loop-less : tie.Need-loop-less Inv-loop μ-loop
 loop-less c = let o = digit-past _ _ _ _ (c .before .before .before .before .before .loop .inv) _ (c .before .before .before .before .digit .ensures) _ _ (c .before .before .d .given .1) in omega (arith, o .on, o .within)
 
 loop-again : tie.Need-loop-again Inv-loop μ-loop
-loop-again c = digits-more _ _ _ _ (c .before .before .before .before .before .loop .inv) _ (c .before .before .before .before .digit .ensures) _ _ (c .before .before .d .given .1) _ (c .grown .ensures .0) (c .grown .ensures .1)
+loop-again c = digits-more _ _ _ _ (c .before .before .before .before .before .loop .inv) _ (c .before .before .before .before .digit .ensures) _ _ (c .before .before .d .given .1) _ (c .push-digit .ensures .0) (c .push-digit .ensures .1)
 
 returns : tie.Need-returns Inv-loop μ-loop
 returns c = digits-end _ _ _ _ (c .before .before .before .loop .inv) _ (c .before .before .digit .ensures) _ refl refl (c .enum-told .given .1)
@@ -41,7 +41,7 @@ digits-spec =
     loop-holds
     (λ c κs. search needs)
     (search needs)
-    grown-requires
+    push-digit-requires
     loop-less
     loop-again
     (search needs)

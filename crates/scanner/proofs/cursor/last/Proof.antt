@@ -1,7 +1,7 @@
 -- `cursor::last` meets its contract. Assumes nothing.
 use mathlib.Core.Path.{sym, ap, _∙_}
 use Rattle.pattern.specs.Bytes.{between}
-use Rattle.pattern.specs.Spelling.{kind}
+use Rattle.pattern.specs.Grammar.{char-class}
 use Rattle.scanner.specs.Places.{count-flag}
 use Rattle.scanner.proofs.Places.{byte-is, byte-end, digit-is, flag-is, flag-end, flag-other}
 use borrow.Author.Needs.{needs}
@@ -12,8 +12,8 @@ returns : tie.Need-returns
 returns c = sym (flag-is _ _ _ _ (byte-is _ _ _ _ _ (c .before .before .before .b .given .1) (c .before .before .before .before .before .byte .ensures)) ∙ ap count-flag (digit-is _ (sym (c .before .is-digit .ensures) ∙ c .if1 .taken)))
 
 returns-2 : tie.Need-returns-2
-unfolding kind between
-returns-2 c = sym (flag-is _ _ _ _ (byte-is _ _ _ _ _ (c .before .before .before .before .b .given .1) (c .before .before .before .before .before .before .byte .ensures)) ∙ ap (λ b. count-flag (kind b)) (c .if2 .taken))
+unfolding char-class between
+returns-2 c = sym (flag-is _ _ _ _ (byte-is _ _ _ _ _ (c .before .before .before .before .b .given .1) (c .before .before .before .before .before .before .byte .ensures)) ∙ ap (λ b. count-flag (char-class b)) (c .if2 .taken))
 
 returns-3 : tie.Need-returns-3
 returns-3 c = sym (flag-is _ _ _ _ (byte-is _ _ _ _ _ (c .before .before .before .before .b .given .1) (c .before .before .before .before .before .before .byte .ensures)) ∙ flag-other _ (sym (c .before .before .is-digit .ensures) ∙ c .before .if1 .left) (c .if2 .left))

@@ -4,14 +4,14 @@ use Prim.Native.Nat.{_≤_, _+_}
 use native.Mathlib.Omega.{arith}
 use lib.ListN.{length, length-set}
 use Rattle.pattern.specs.Print.{decimal}
-use Rattle.pattern.specs.Stores.{stored}
+use Rattle.pattern.specs.Stores.{store-at}
 use Rattle.pattern.proofs.Decimal.{decimal-one, decimal-longer}
 use Rattle.stores.proofs.Digits.{last-digit, only-digit}
 use Rattle.stores.proofs.decimal.put_decimal.Statement.{statement}
 use Rattle.stores.proofs.decimal.put_decimal.Tie as tie
 
 abbrev Inv-loop : tie.InvT-loop
-Inv-loop to₀ at x end left₀ o₀ to left o = (end ≡ at + length (decimal x)) × (o ≡ at + length (decimal left)) × (o ≤ end) × (length to ≡ length to₀) × (stored to at (decimal left) ≡ stored to₀ at (decimal x))
+Inv-loop to₀ at x end left₀ o₀ to left o = (end ≡ at + length (decimal x)) × (o ≡ at + length (decimal left)) × (o ≤ end) × (length to ≡ length to₀) × (store-at to at (decimal left) ≡ store-at to₀ at (decimal x))
 
 abbrev μ-loop : tie.MeasureT-loop
 μ-loop to₀ at x end left₀ o₀ to left o = left

@@ -12,7 +12,7 @@ returns : tie.Need-returns
 returns c =
     let s = c .before .before .before .before .args .table .now in
     let a : c .before .wide .result ≡ getD s atoms-place 0 = c .before .wide .ensures .0 in
-    let n : c .word .result ≡ field s length-place = c .word .ensures in
+    let n : c .read16 .result ≡ field s length-place = c .read16 .ensures in
     λ j. record { atoms = a j; length = n j; records = header-size; pool = header-size + record-size * a j }
 
 pub header-at-spec : {M : Type 1} → statement M

@@ -5,13 +5,13 @@ use Prim.Native.Nat.{_+_, _*_, _-_, _≤_}
 use native.Mathlib.Omega.{arith}
 use lib.ListN.{length, drop}
 use Rattle.pattern.specs.Print.{double}
-use Rattle.table.specs.Checked.{plain}
+use Rattle.table.specs.Checked.{all-plain}
 use Rattle.table.proofs.Measures.{text-low, text-high, text-on, text-end, quote-on, other-on}
 use Rattle.table.proofs.lengths.text_length.Statement.{statement}
 use Rattle.table.proofs.lengths.text_length.Tie as tie
 
 abbrev Inv-loop : tie.InvT-loop
-Inv-loop v n₀ i₀ n i = (i ≤ length v) × (n ≤ 2 * i) × (plain v ≡ plain (drop i v)) × (length (double v) ≡ n + length (double (drop i v)))
+Inv-loop v n₀ i₀ n i = (i ≤ length v) × (n ≤ 2 * i) × (all-plain v ≡ all-plain (drop i v)) × (length (double v) ≡ n + length (double (drop i v)))
 
 abbrev μ-loop : tie.MeasureT-loop
 μ-loop v n₀ i₀ n i = length v - i

@@ -8,11 +8,11 @@ use Rattle.table.proofs.record.record_at.Tie as tie
 
 returns : tie.Need-returns
 returns c =
-    let after-word = c .before .before .before in
-    let start = after-word .before .before .before .before in
+    let after-read16 = c .before .before .before in
+    let start = after-read16 .before .before .before .before in
     let s = start .args .table .now in
     let at = header-size + record-size * start .args .i in
-    λ j. record { kind = getD s at 0; ends = getD s (at + 1) 0; low = after-word .word .ensures j; high = c .before .before .word2 .ensures j; a = c .before .word3 .ensures j; b = c .word4 .ensures j }
+    λ j. record { kind = getD s at 0; ends = getD s (at + 1) 0; low = after-read16 .read16 .ensures j; high = c .before .before .read162 .ensures j; a = c .before .read163 .ensures j; b = c .read164 .ensures j }
 
 pub record-at-spec : {M : Type 1} → statement M
 record-at-spec =

@@ -9,7 +9,7 @@ use borrow.Fn.PlainCycle.{Measures, is, falls, and}
 use Rattle.table.specs.Walk.{reach}
 use Rattle.table.proofs.Moves.{ready-leaf, ready-on, short-source, record-in}
 use Rattle.table.proofs.Steps.{atom-over, atom-unordered}
-use Rattle.table.proofs.Walks.{Counted, leaf-bad, leaf-moved, leaf-passed, too-deep, inner-ready, group-bad, dest-ready, group-elsewhere, group-passed, Going, going-start, going-bad, going-moved, going-last, going-other, going-more, Branching, branching-start, branching-over, branching-bad, branch-ready, branching-last, branching-more}
+use Rattle.table.proofs.Walks.{CountMeasured, leaf-bad, leaf-moved, leaf-passed, too-deep, inner-ready, group-bad, dest-ready, group-elsewhere, group-passed, Going, going-start, going-bad, going-moved, going-last, going-other, going-more, Branching, branching-start, branching-over, branching-bad, branch-ready, branching-last, branching-more}
 use Rattle.table.proofs.walk.atom.Reads as atom
 use Rattle.table.proofs.walk.atom.Kinds as atom-kinds
 use Rattle.table.proofs.walk.+atom+group+pattern.Lts-atom as atom-lts
@@ -65,7 +65,7 @@ pattern-claims t = (atom-below t, atom.Post, ends-of-reads.Asked, ends-of-reads.
 
 -- what is known where the length of a count was found
 atom-counted : (t : ℕ) (c : atom-lts.After-count-length (atom-claims t) (atom-at t) atom.Post)
-    → Counted (c .before .before .before .before .before .before .args .table .now) (c .before .before .before .before .before .before .args .atoms) (c .before .before .before .before .before .before .args .at) (c .before .before .before .before .before .before .args .depth) (c .before .before .before .record-at .result) (c .count-length .result)
+    → CountMeasured (c .before .before .before .before .before .before .args .table .now) (c .before .before .before .before .before .before .args .atoms) (c .before .before .before .before .before .before .args .at) (c .before .before .before .before .before .before .args .depth) (c .before .before .before .record-at .result) (c .count-length .result)
 atom-counted t c =
     let after-record-at = c .before .before .before in
     let after-if1 = after-record-at .before in

@@ -1,12 +1,12 @@
 -- `write::put_record` meets its contract: six stores, each where the one before ended. Assumes nothing.
-use Rattle.pattern.specs.Table.{flat}
+use Rattle.pattern.specs.Table.{record-bytes}
 use Rattle.pattern.proofs.Stores.{puts-then}
 use borrow.Author.Needs.{needs}
 use Rattle.table.proofs.write.put_record.Statement.{statement}
 use Rattle.table.proofs.write.put_record.Tie as tie
 
 returns : tie.Need-returns
-unfolding flat
+unfolding record-bytes
 returns c =
     let after-put163 = c .before .before .before .before .before .before in
     let after-put162 = after-put163 .before .before .before .before in

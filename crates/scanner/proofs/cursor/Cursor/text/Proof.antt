@@ -1,6 +1,6 @@
 -- `Cursor::text` meets its contract. Assumes nothing.
 use mathlib.Core.Path.{sym, _∙_}
-use Rattle.pattern.specs.Spelling.{quote, starts}
+use Rattle.pattern.specs.Grammar.{quote, body-start}
 use Rattle.scanner.proofs.Places.{byte-is, byte-end, end-not, not-only}
 use Rattle.scanner.proofs.Texts.{text-plain, text-barred, text-ends, text-doubled, text-short}
 use borrow.Author.Needs.{needs}
@@ -24,14 +24,14 @@ returns-3 c =
     let after-if2 = after-byte2 .before in
     let after-b = after-if2 .before .before .before .before in
     let after-byte = after-b .before .before in
-    text-ends _ _ _ _ (byte-is _ _ _ _ _ (after-b .b .given .1) (after-byte .byte .ensures)) (after-if2 .if2 .taken) (not-only _ _ _ _ (byte-is _ _ _ _ _ (c .before .before .d .given .1) (after-byte2 .byte2 .ensures)) _ (starts quote) (λ h. h) (c .if3 .left))
+    text-ends _ _ _ _ (byte-is _ _ _ _ _ (after-b .b .given .1) (after-byte .byte .ensures)) (after-if2 .if2 .taken) (not-only _ _ _ _ (byte-is _ _ _ _ _ (c .before .before .d .given .1) (after-byte2 .byte2 .ensures)) _ (body-start quote) (λ h. h) (c .if3 .left))
 
 returns-4 : tie.Need-returns-4
 returns-4 c =
     let after-if2 = c .before .before .before in
     let after-b = after-if2 .before .before .before .before in
     let after-byte = after-b .before .before in
-    text-ends _ _ _ _ (byte-is _ _ _ _ _ (after-b .b .given .1) (after-byte .byte .ensures)) (after-if2 .if2 .taken) (end-not _ _ _ (c .enum-told .given .1) (c .before .before .byte2 .ensures) (starts quote))
+    text-ends _ _ _ _ (byte-is _ _ _ _ _ (after-b .b .given .1) (after-byte .byte .ensures)) (after-if2 .if2 .taken) (end-not _ _ _ (c .enum-told .given .1) (c .before .before .byte2 .ensures) (body-start quote))
 
 returns-5 : tie.Need-returns-5
 returns-5 c = text-barred _ _ _ _ (byte-is _ _ _ _ _ (c .before .before .before .before .b .given .1) (c .before .before .before .before .before .before .byte .ensures)) (sym (c .before .before .is-plain .ensures) ∙ c .before .if1 .left) (c .if2 .left)
