@@ -17,7 +17,7 @@ use Rattle.pattern.proofs.RoundTrip.{tree-encode}
 use Rattle.pattern.proofs.Calls.{print-accepted, decoded-encode}
 use Rattle.table.specs.declared.Sizes.{Sizes}
 use Rattle.table.specs.declared.Tested.the-variants as verdict
-use Rattle.table.specs.Walk.{tested}
+use Rattle.table.specs.Tested.{tested}
 use Rattle.atoms.specs.Atoms.{GoodTable, atoms, node, head, AtomIn}
 
 -- ---- the test's answer

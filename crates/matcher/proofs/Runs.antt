@@ -25,7 +25,7 @@ use Rattle.atoms.specs.Atoms.{atoms}
 use Rattle.matcher.specs.Settled.{StepPre}
 use Rattle.matcher.specs.Steps.{SettleAllPost}
 use Rattle.matcher.specs.WriteParts.{WritePartsPre, WritePartsPost}
-use Rattle.matcher.specs.Answered.{RunPre, unrefused}
+use Rattle.matcher.specs.Run.{RunPre, unrefused}
 use Rattle.planes.proofs.Planes.{plane-on}
 use Rattle.planes.proofs.Counting.{counted-room, counted-all, counted-past}
 use Rattle.matcher.proofs.Groups.{work-long, work-room}

@@ -3,8 +3,9 @@ ghost use mathlib.Core.Path.{_≡_};
 ghost use Rattle.pattern.specs.Decode.{decode};
 ghost use Rattle.pattern.specs.Answers.{ended};
 ghost use Rattle.table.specs.declared.Tested.the-variants.{Good};
-ghost use Rattle.table.specs.Walk.{tested};
-ghost use Rattle.matcher.specs.Answered.{answer-of, outcome-of, RunPre, unrefused, MatchPost};
+ghost use Rattle.table.specs.Tested.{tested};
+ghost use Rattle.matcher.specs.Answered.{answer-of, outcome-of, MatchPost};
+ghost use Rattle.matcher.specs.Run.{RunPre, unrefused};
 
 mod atom;
 mod body;

@@ -1,4 +1,4 @@
--- What the calls from C return, and every lent byte afterwards. Assumes nothing.
+-- What the calls from C return, and every lent byte afterwards. To be believed.
 use mathlib.Core.Bool.{Bool, true, false}
 use Prim.Native.Nat.{ℕ}
 use lib.Dec.{leb}

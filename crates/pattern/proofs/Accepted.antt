@@ -17,12 +17,12 @@ use Rattle.pattern.specs.Meaning.{UpTo}
 use Rattle.pattern.specs.Grammar.{BodyStart, letter, quote, opening, BranchEnd, closing, comma, neither, CountChar, digit, point, CharClass, count-char, body-start, branch-end, char-class, LiteralClass, plain, quoting, barred, literal-class, Derives}
 use Rattle.pattern.specs.Parser.{CountState, empty, first, pointed, second, Phase, counting, inside, after, Stack, top, within, chain, fork, next, ParserState, enter, extend, leave, quoted, grow, counted, move, step, finish, read-from, start, read}
 use Rattle.pattern.specs.ParserInvariant.{before-size, others-size, stack-size, begun-at}
-use Rattle.pattern.specs.Scan.{low, high, longest-count, depth, body-begins, an-atom, begins, begun, large, falls, refuse, atom-fault, fault, Outcome, refused, accepted, scan, outcome}
+use Rattle.pattern.specs.Scan.{low, high, longest-count, depth, body-begins, an-atom, begins, begun, large, falls, refuse, fault, Outcome, refused, accepted, scan, outcome}
 use Rattle.pattern.specs.Within.{Small, Fits, InLimits, Limited}
 use Rattle.pattern.proofs.Tests.{Decides, On, le-or-lt, leb-decides, both, no-test}
 use Rattle.pattern.proofs.Begun.{chain-size, next-size, leave-count, move-count}
 use Rattle.pattern.proofs.ParserCorrect.{form}
-use Rattle.pattern.proofs.TableRows.{atom-fault-is}
+use Rattle.pattern.proofs.TableRows.{atom-fault-is, atom-fault}
 
 -- how far the count at a place was looked at: its longest run has no fault yet, none but perhaps a large second number, or none
 Looked : CountState → CountState → Type 0

@@ -13,7 +13,7 @@ use Rattle.pattern.specs.Syntax.{pattern, Syntax}
 use Rattle.pattern.specs.Grammar.{char-class}
 use Rattle.pattern.specs.Parser.{CountState, ParserState, step, finish}
 use Rattle.pattern.specs.ParserInvariant.{begun-at}
-use Rattle.pattern.specs.Scan.{low, high, depth, Begins, an-atom, a-second, a-code, a-group, nothing, begins, large, falls, refuse, atom-rows, rows, atom-fault, fault}
+use Rattle.pattern.specs.Scan.{low, high, depth, Begins, an-atom, a-second, a-code, a-group, nothing, begins, large, falls, refuse, atom-rows, rows, fault}
 use Rattle.pattern.specs.Faults.{form-row, rows-there, Applies}
 
 -- ---- the first test that passes
@@ -75,7 +75,11 @@ range-row l (some m) = go (leb l number-limit) (ltb number-limit m) (ltb m l) (l
     go true true false f g h = refl
     go true true true f g h = absurd (let x = f tt in let y = g tt in let z = h tt in omega arith)
 
--- an atom's fault without the test that is implied
+-- the lowest fault of an atom that begins after n others with this count
+abbrev pub atom-fault : ℕ → CountState → Option ℕ
+atom-fault n r = refuse (atom-rows n r)
+
+-- the same without the test that is implied
 pub atom-fault-is : (n : ℕ) (r : CountState) → atom-fault n r
     ≡ refuse ((ltb number-limit (low r), NUMBER) ∷ (leb (low r) number-limit && falls (low r) (high r), RANGE) ∷ (leb atom-limit n, ATOMS) ∷ [])
 unfolding atom-rows

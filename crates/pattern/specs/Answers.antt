@@ -1,10 +1,12 @@
--- What the three calls answer, and every lent byte afterwards. Assumes nothing.
+-- What the three calls answer, and every lent byte afterwards. To be believed.
+use mathlib.Core.Path.{_≡_}
+use mathlib.Core.Logic.{_⊎_}
 use mathlib.Core.Bool.{Bool, true, false}
 use mathlib.Core.List.{List, [], _∷_}
 use mathlib.Core.Option.{Option, none, some}
-use Prim.Native.Nat.{ℕ, _+_, _*_}
+use Prim.Native.Nat.{ℕ, _+_, _*_, _≤_}
 use lib.Dec.{leb, ltb}
-use lib.ListN.{length}
+use lib.ListN.{length, take}
 use Rattle.pattern.specs.Numbers.{label-limit, ROOM, TABLE, LABEL, WORK, PARTS, BUDGET}
 use Rattle.pattern.specs.Bytes.{Bytes, le16, overwrite, zeroed}
 use Rattle.pattern.specs.Syntax.{pattern, Syntax, size, top-size}
@@ -110,3 +112,22 @@ match-ending (some t) label scratch parts budget =
 
 unfoldable pub matchOf : (table label scratch parts : Bytes) → (budget : ℕ) → Matched
 matchOf table label scratch parts budget = ended (match-ending (decode table) label scratch parts budget) scratch parts
+
+-- ---- what the demands say of answers
+
+-- what an output that is not refused has at its start
+abbrev pub result-bytes : Output → Bytes
+result-bytes o = take (o .answer .value) (o .bytes)
+
+-- the numbers that a match may answer: 0, and 11 to 15
+abbrev pub MatchNumber : ℕ → Type 0
+MatchNumber n = (n ≡ 0) ⊎ ((TABLE ≤ n) × (n ≤ BUDGET))
+
+-- "a refused call writes nothing, save one": after BUDGET scratch is zeroed
+pub record Untouched (scratch parts : Bytes) (m : Matched) : Type 0 where
+  pub kept-parts : ¬ (m .answer .number ≡ 0) → m .parts ≡ parts
+  pub kept-scratch : ¬ (m .answer .number ≡ 0) → ¬ (m .answer .number ≡ BUDGET) → m .scratch ≡ scratch
+
+-- what a match shows: its answer and the parts, not scratch
+abbrev pub shown : Matched → Answer × Bytes
+shown m = (m .answer, m .parts)

@@ -1,4 +1,4 @@
--- The meaning as tests that compute, on a label and two places of it. Assumes nothing.
+-- The meaning as tests that compute, on a label and two places of it. To be believed.
 use mathlib.Core.Bool.{Bool, false, _&&_, _||_}
 use mathlib.Core.List.{[], _∷_}
 use mathlib.Core.Option.{Option, none, some}

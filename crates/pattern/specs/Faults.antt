@@ -1,4 +1,4 @@
--- The refusals of a source as the paper lists them: where the form stops, and which rows of the table apply at each position. Assumes nothing.
+-- The refusals of a source as the paper lists them: where FORM stands, and which rows of the table apply at each position. To be believed.
 use mathlib.Core.Path.{_≡_}
 use mathlib.Core.Logic.{_⊎_}
 use mathlib.Core.Bool.{Bool, true}

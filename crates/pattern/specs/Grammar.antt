@@ -1,4 +1,4 @@
--- In which ways a source may spell a tree: the grammar. Any letter counts as a code here, and no number is limited. Assumes nothing.
+-- The grammar: which sources a tree derives. Any letter counts as a code here, and no number is limited. To be believed.
 use mathlib.Core.Path.{_≡_}
 use mathlib.Core.Bool.{_||_, cond}
 use mathlib.Core.List.{[], _∷_, _++_}

@@ -1,4 +1,4 @@
--- The numbers of the paper: limits, refusals, mark and sizes, each named once. Assumes nothing.
+-- The numbers of the paper: limits, refusals, mark, layout and sizes, each named once. To be believed, all but `length-place`.
 use mathlib.Core.List.{List, [], _∷_}
 use Prim.Native.Nat.{ℕ, _+_, _*_}
 

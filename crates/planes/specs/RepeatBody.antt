@@ -1,4 +1,4 @@
--- Stretches made of several bodies: what the loop over their number asks and promises. Assumes nothing.
+-- Powers of a body: what the loop over the number of bodies asks and promises. Private: a model for this crate's contracts.
 use mathlib.Core.Path.{_≡_}
 use mathlib.Core.Bool.{false, _&&_, _||_}
 use mathlib.Core.List.{List}

@@ -12,7 +12,7 @@ use Rattle.pattern.specs.Answers.{result, written-back, writeOf}
 use Rattle.pattern.proofs.RoundTrip.{some-pattern}
 use Rattle.pattern.proofs.Stores.{puts-as, puts-length, store-at-overwrite}
 use Rattle.pattern.proofs.Calls.{put-fits, put-short}
-use Rattle.table.specs.Walk.{tested}
+use Rattle.table.specs.Tested.{tested}
 use Rattle.table.specs.declared.Sizes.{Sizes}
 use Rattle.table.specs.declared.Tested.the-variants as verdict
 use Rattle.atoms.specs.Atoms.{node}

@@ -18,11 +18,12 @@ use Rattle.pattern.proofs.Longest.{verdict-length}
 use Rattle.pattern.proofs.Calls.{match-cases}
 use Rattle.table.specs.declared.Sizes.{Sizes}
 use Rattle.table.specs.declared.Tested.the-variants.{Bad, Good}
-use Rattle.table.specs.Walk.{tested}
+use Rattle.table.specs.Tested.{tested}
 use Rattle.atoms.proofs.Goods.{tested-good, tested-bad}
 use Rattle.pattern.proofs.Tests.{if-true, if-false}
 use Rattle.pattern.specs.Print.{decimal}
-use Rattle.replies.specs.Sizes.{line-limit, budget, tab-byte, space-byte, refused-letter, number-room, coded-room, refused-room}
+use Rattle.replies.specs.Sizes.{line-limit, budget, tab-byte, space-byte, refused-letter}
+use Rattle.replies.specs.Rooms.{number-room, coded-room, refused-room}
 use Rattle.replies.specs.Text.{coded-text, refused-text, unmatched-text, numbers-in, matched-text, ending-text}
 use Rattle.replies.specs.Reply.{index-of, cut-at, cut, Reply, ending-reply, label-reply, table-reply, source-reply, cut-reply, reply}
 use Rattle.pattern.specs.Stores.{Puts}

@@ -14,12 +14,12 @@ use Rattle.pattern.specs.Numbers.{number-limit, atom-limit, open-high, FORM, NU
 use Rattle.pattern.specs.Bytes.{Bytes}
 use Rattle.pattern.specs.Table.{high-field}
 use Rattle.pattern.specs.Repeats.{repeat-of}
-use Rattle.pattern.specs.Grammar.{CountChar, digit, point, CharClass, count-char, body-start, branch-end, char-class}
+use Rattle.pattern.specs.Grammar.{CountChar, digit, point, CharClass, count-char, body-start, branch-end}
 use Rattle.pattern.specs.Parser.{CountState, empty, first, pointed, second, counting, Stack, grow, move, step, finish}
-use Rattle.pattern.specs.Scan.{low, high, longest-count, large, falls, refuse, atom-fault}
+use Rattle.pattern.specs.Scan.{low, high, longest-count, large, falls, refuse}
 use Rattle.pattern.specs.declared.repeat.Repeat.{Repeat}
 use Rattle.pattern.proofs.Tests.{le-or-lt}
-use Rattle.pattern.proofs.TableRows.{atom-fault-is}
+use Rattle.pattern.proofs.TableRows.{atom-fault-is, atom-fault}
 use Rattle.scanner.specs.declared.cursor.Cursor.{Cursor}
 use Rattle.scanner.specs.declared.cursor.Point.{Point}
 use Rattle.scanner.specs.declared.cursor.Point.the-variants as points

@@ -11,7 +11,8 @@ use Rattle.pattern.specs.Numbers.{FORM, NUMBER}
 use Rattle.pattern.specs.Bytes.{Bytes}
 use Rattle.pattern.specs.Grammar.{CountChar, digit, point, CharClass, count-char, body-start, branch-end, char-class}
 use Rattle.pattern.specs.Parser.{CountState, empty, first, pointed, second, counting, Stack, top, ParserState, grow, counted, move, step}
-use Rattle.pattern.specs.Scan.{high, longest-count, depth, begins, begun, large, refuse, atom-fault, fault, Outcome, refused, scan}
+use Rattle.pattern.specs.Scan.{high, longest-count, depth, begins, begun, large, refuse, fault, Outcome, refused, scan}
+use Rattle.pattern.proofs.TableRows.{atom-fault}
 use Rattle.scanner.specs.Counts.{lead}
 
 -- how many bytes the longest run that begins so still takes

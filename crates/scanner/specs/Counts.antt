@@ -1,4 +1,4 @@
--- Repeat counts: the promises of their readers. Assumes nothing.
+-- Repeat counts: what their readers promise. Private: a model for this crate's contracts.
 use mathlib.Core.Path.{_≡_}
 use mathlib.Core.Bool.{cond}
 use mathlib.Core.List.{[], _∷_}

@@ -1,4 +1,4 @@
--- What stands at a place of a source: the promises of the cursor's methods and of `last`. Assumes nothing.
+-- What stands at a place of a source: what the cursor's methods and `last` promise. Private: a model for this crate's contracts.
 use mathlib.Core.Path.{_≡_}
 use mathlib.Core.Bool.{Bool, true, false, cond}
 use Prim.Native.Nat.{ℕ, suc, _-_, _≤_, _<_}
