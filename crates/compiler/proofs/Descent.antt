@@ -146,7 +146,7 @@ module _ (s : Bytes) (j m : ℕ) (t : Syntax pattern) (k : Stack) (l : ℕ) (h :
   unfolding char-class between chain
   parts w e = branch-next s j m w comma (ap char-class (sym e)) t (within k l h others []) _ (rw e at (ended-parts k l h others t []))
 
--- the byte does not end a branch here: at the top nothing does
+-- the byte does not end a branch here: outside all groups nothing does
 Ends-not : Stack → CharClass → Type 0
 Ends-not (top before) x = Unit {0}
 Ends-not (within k l h others before) x = ¬ (x ≡ branch-end closing) × ¬ (x ≡ branch-end comma)

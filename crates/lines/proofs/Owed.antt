@@ -1,4 +1,4 @@
--- What the line tool writes is the output: at each step what was written and what is still owed come to it. Assumes nothing.
+-- What the line tool writes is the output: at each step what was written and what is still to come make it up. Assumes nothing.
 use mathlib.Core.Path.{_≡_, refl, sym, ap, ap₂, _∙_}
 use mathlib.Core.Logic.{_⊎_, inl, inr, ⊎-elim}
 use mathlib.Core.Bool.{Bool, true, false, not, _&&_, _||_}

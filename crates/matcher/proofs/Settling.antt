@@ -123,7 +123,7 @@ module _ (table label s : Bytes) (w temp x budget spent : ℕ) (ok : FillBodyPre
       ∙ sum-same (max-count (length label) high) _ _ (λ k h. join-trials-same w _ _ _ _ bodies (power-same w _ _ bodies k) ∙ ap (λ (v : ℕ). join-trials v R (power R k)) z ∙ sym (joins-all (length label) R (power R k)))
       ∙ sym (repeats-is label a (r .low) high (is .count))
 
-  -- the stretches made of enough bodies, numbers cut to the label's length
+  -- the stretches that are enough bodies, numbers cut to the label's length
   enough : t .stopped ≡ false → Plane s₂ w (2 * x) (fewer R low (suc times))
   enough e = plane-same (made-of .whole e) (λ i j hi hj. any-same _ _ (suc times) (λ k h. ap (λ (b : Bool). leb low k && b) (power-same w _ _ bodies k i j hi hj)))
 

@@ -254,7 +254,7 @@ unfolding Least rows-at
 outcome-number source f p e =
     ⊎-elim (λ (h, x, y). (omega arith, omega arith)) (λ (h, (a, b, c)). let (x, y) = row-number _ _ f a in (omega arith, omega arith)) (refused-exactly source f p .0 e)
 
--- demand 2: a source is compiled just when it spells a tree within the limits and its table has room
+-- demand 2: a source is compiled just when a tree within the limits derives it and its table has room
 pub compile-accepted : (source table : Bytes) (t : Syntax pattern) → length source ≤ source-limit → Derives t source → Limited t → length (encode t) ≤ length table
     → compileOf source table ≡ record { answer = result (length (encode t)) 0; bytes = overwrite (encode t) table }
 unfolding compileOf compiled

@@ -92,7 +92,7 @@ pub examples-hold : (map answered examples ≡ map due examples) × (map answere
 unfolding computed run examples easy-errors counts answered due
 examples-hold = (refl, refl, refl)
 
--- ---- whole calls, with bare numbers: 4 atoms of which 2 stand at the top, 2 bytes of label, so 108 bytes of scratch and 4 of parts
+-- ---- whole calls, with bare numbers: 4 atoms, of which 2 are top-level, 2 bytes of label, so 108 bytes of scratch and 4 of parts
 
 unfoldable pub table-of : Bytes → Bytes
 table-of source = let c : Output = compileOf source (replicate 128 7) in take (c .answer .value) (c .bytes)

@@ -52,7 +52,7 @@ unfolding UpTo
 upto-max none j k u v = tt
 upto-max (some m) j k u v = omega arith
 
--- a stretch of at most n bytes is made of low to high bodies just when it is so with both numbers cut to n, and a body is empty where low is above n
+-- a stretch of at most n bytes is low to high bodies just when it is so with both numbers cut to n, and a body is empty where low is above n
 pub few : (P : Bytes → Type 0) (low : ℕ) (high : Option ℕ) (n : ℕ) (s : Bytes) → UpTo high low → length s ≤ n
     → (((k : ℕ) × (k < suc (max-count n high)) × ((min low n ≤ k) × Power P k s)) × ((low ≤ n) ⊎ P [])) ↔ ((k : ℕ) × (low ≤ k) × UpTo high k × Power P k s)
 few P low high n s o h = (

@@ -17,12 +17,12 @@ use Rattle.pattern.proofs.Notation.{Byte, class-byte}
 use Rattle.pattern.proofs.ParserSound.{grow-runs}
 use Rattle.pattern.proofs.ParserComplete.{place-append, place-exactly}
 
--- the next byte does not go on with a run
+-- the next byte does not belong to the count
 Halts : CountState → Bytes → Type 0
 Halts r [] = Unit {0}
 Halts r (c ∷ s) = (m : CountChar) → char-class c ≡ count-char m → grow r m c ≡ none
 
--- the run that bytes u have begun goes on for some bytes of s, and then halts
+-- the count that bytes u have begun goes on for some bytes of s, and then ends
 Extends : CountState → Bytes → Bytes → Type 0
 Extends r u s = (w rest : Bytes) × (s ≡ w ++ rest) × CountSoFar (top []) r (u ++ w) × Halts r rest
 
@@ -44,7 +44,7 @@ extends (c ∷ s) r u h = go (char-class c) refl (class-byte c) (λ r′ l. exte
     go (body-start b) k e f = ([], c ∷ s, refl, rw append-nil h, λ m i. absurd (let z : _≡_ {A = ℕ} 0 1 = cc in omega arith))
     go (branch-end b) k e f = ([], c ∷ s, refl, rw append-nil h, λ m i. absurd (let z : _≡_ {A = ℕ} 0 1 = cc in omega arith))
 
--- ---- no longer run
+-- ---- no longer count
 
 -- every byte is a digit or a point
 Marks : Bytes → Type 0
@@ -81,7 +81,7 @@ unfolding Marks
 mark-at [] c v h = h .0
 mark-at (x ∷ u) c v h = mark-at u c v (h .1)
 
--- where a run leads
+-- where a count leads
 run-place : (r : CountState) (u : Bytes) → CountSoFar (top []) r u → state-after start u ≡ some (counting r, top [])
 unfolding ReadSoFar Cut StackSoFar AtomsBefore
 run-place r u h = place-exactly u (counting r, top []) .1 ([], u, refl, refl, h)
@@ -98,7 +98,7 @@ halted r r′ w c x y h halts g =
     let e : step q c ≡ none = ap (λ z. move (counting r) (top []) z c) k ∙ ap (counted (top [])) (halts m k) in
     Option·none-ne-some _ (sym (no-step q c x e) ∙ sym (place-append w start q (c ∷ x) (run-place r w h)) ∙ run-place r′ (w ++ c ∷ x) g)
 
--- what the scan looks at is the longest run
+-- the count that the scan looks at is the longest
 pub longest-run : (s : Bytes) → LongestCount (longest-count empty s) s
 unfolding LongestCount Extends CountSoFar AtBranchStart
 longest-run s =

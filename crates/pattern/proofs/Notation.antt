@@ -1,4 +1,4 @@
--- Which byte a kind is. Assumes nothing.
+-- Which byte a class is. Assumes nothing.
 use mathlib.Core.Path.{_≡_}
 use mathlib.Core.Bool.{_||_}
 use Prim.Native.Nat.{ℕ, _≤_}
@@ -8,7 +8,7 @@ use Rattle.pattern.specs.Bytes.{between}
 use Rattle.pattern.specs.Grammar.{letter, quote, opening, closing, comma, neither, digit, point, CharClass, count-char, body-start, branch-end, char-class, LiteralClass, plain, quoting, barred, literal-class}
 use Rattle.pattern.proofs.Tests.{and-both, cond-case}
 
--- what a kind says of its byte
+-- what a class says of its byte
 abbrev pub Byte : CharClass → ℕ → Type 0
 Byte (count-char digit) c = c ≤ 57
 Byte (count-char point) c = c ≡ point-byte

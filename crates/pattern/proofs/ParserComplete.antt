@@ -1,4 +1,4 @@
--- The automaton reads every source that spells a tree, and reads that tree. Assumes nothing.
+-- The parser reads every source that a tree derives, as that tree. Assumes nothing.
 use mathlib.Core.Path.{_≡_, refl, ap, _∙_}
 use mathlib.Core.List.{List, [], _∷_, _++_, append-assoc, append-nil}
 use mathlib.Core.Logic.{_↔_}
@@ -13,12 +13,12 @@ use Rattle.pattern.specs.Parser.{empty, first, pointed, second, Phase, c
 use Rattle.pattern.specs.ParserInvariant.{state-after, AtomsBefore, BranchesBefore, AtBranchStart, CountSoFar, StackSoFar, ReadSoFar}
 use Rattle.pattern.proofs.ParserSound.{read-on, read-after, reached-derives}
 
--- the place after a pattern
+-- the state after a pattern
 unfoldable pub ended : Stack → Syntax pattern → ParserState
 ended k (last (repeat low high b)) = (after low high b, k)
 ended k (then a p) = ended (next k a) p
 
--- the bytes lead from one place to another
+-- the bytes lead from one state to another
 pub record Leads (q : ParserState) (w : Bytes) (q′ : ParserState) : Type 0 where
   pub to : state-after q w ≡ some q′
 
@@ -45,11 +45,11 @@ pub reads-on : {q q′ : ParserState} {w : Bytes} → Leads q w q′ → (rest :
 unfolding read-on
 reads-on {q} {w = w} h rest = read-after w q rest ∙ ap (λ o. read-on o rest) (h .to)
 
--- at the place an atom may begin, and k then stands before it
+-- an atom may begin in the state, with this stack
 record AtomMayBegin (q : ParserState) (k : Stack) : Type 0 where
   on : (m : CountChar) (c : ℕ) → char-class c ≡ count-char m → step q c ≡ counted k (grow empty m c)
 
--- at the place a body may begin
+-- a body may begin in the state
 record Enters (q : ParserState) (low : ℕ) (high : Option ℕ) (k : Stack) : Type 0 where
   on : (b : BodyStart) (c : ℕ) → char-class c ≡ body-start b → step q c ≡ some (enter low high k b c)
 
@@ -145,12 +145,12 @@ follows (or p bs) w (x, y, e, h, g) = λ q k low high others r.
     let z : Stack = within k low high (p ∷ others) [] in
     rw (e, append-assoc) (follows p x h q (within k low high others []) r ⨾ (by-step 44 (ended-parts k low high others p []) ⨾ follows bs y g (counting empty, z) k low high (p ∷ others) (ready z)))
 
--- a source that spells a tree is read as that tree
+-- a source that a tree derives is read as that tree
 pub complete : (t : Syntax pattern) (s : Bytes) → Derives t s → read s ≡ some t
 unfolding read chain
 complete t s h = rw append-nil at (reads-on (follows t s h start (top []) (ready (top []))) []) ∙ ended-finishes t []
 
--- ---- places
+-- ---- states
 
 -- after what stands before an atom, the atom may begin
 record Reached (k : Stack) (u : Bytes) : Type 0 where
@@ -195,7 +195,7 @@ reached (within k low high others before) u (x, y, z, w, e, s, c, o, b) =
     let g = opened-group k low high others x y z (reached k x s) c o in
     rw e (simp append-assoc (simp append-assoc at (all-before before (within k low high others) (λ xs a. refl) _ w (record { at = (counting empty, i); leads = g; ready = ready i }) b)))
 
--- what spells a place leads there
+-- the bytes that a state stands for lead to it
 spelt-leads : (p : Phase) (k : Stack) (u : Bytes) → ReadSoFar p k u → Leads start u (p, k)
 unfolding ReadSoFar Cut CountSoFar StackSoFar AtomsBefore AtBranchStart ended state-after
 spelt-leads (counting empty) (top []) u (x, y, e, s, (f, o)) = rw (e, f, s) (record { to = refl })
@@ -216,6 +216,6 @@ spelt-leads (after low high b) k u (x, y, e, s, h) =
     let r = reached k x s in
     rw e (r .leads ⨾ follows (repeat low high b) y h (r .at) k (r .ready))
 
--- the reading stands at a place just where the bytes before spell it
+-- the parser is in a state just after the bytes that the state stands for
 pub place-exactly : (u : Bytes) (q : ParserState) → (state-after start u ≡ some q) ↔ ReadSoFar (q .0) (q .1) u
 place-exactly u q = (λ e. rw e at (reached-derives u), λ h. spelt-leads (q .0) (q .1) u h .to)

@@ -1,4 +1,4 @@
--- What the automaton has read spells what it has built: a source that it accepts spells its tree. Assumes nothing.
+-- Each state of the parser stands for what has been read: the tree of a source that is read derives it. Assumes nothing.
 use mathlib.Core.Path.{_≡_, refl}
 use mathlib.Core.List.{List, [], _∷_, _++_, append-assoc, append-nil}
 use mathlib.Core.Option.{Option, none, some}
@@ -122,7 +122,7 @@ finish-derives (inside low high value) k u h = tt
 finish-derives (after low high b) (top before) u (x, y, f, h, g) = rw f (chain-derives before (last (repeat low high b)) x y h g)
 finish-derives (after low high b) (within k l h others before) u g = tt
 
--- a place that is reached spells what was read
+-- a state that is reached stands for what was read
 place-derives : (s : Bytes) (q : ParserState) (u : Bytes) → ReadSoFar (q .0) (q .1) u → On (state-after q s) (λ q′. ReadSoFar (q′ .0) (q′ .1) (u ++ s))
 unfolding state-after step
 place-derives [] q u h = rw append-nil h
@@ -137,7 +137,7 @@ pub reached-derives : (u : Bytes) → On (state-after start u) (λ q. ReadSoFar 
 unfolding ReadSoFar StackSoFar AtomsBefore Cut CountSoFar AtBranchStart
 reached-derives u = place-derives u start [] ([], [], refl, refl, (refl, refl))
 
--- what is read from a place on, if it was reached
+-- what is read from a state on, if it was reached
 unfoldable pub read-on : Option ParserState → Bytes → Option (Syntax pattern)
 read-on none rest = none
 read-on (some q) rest = read-from q rest
@@ -152,7 +152,7 @@ read-after (c ∷ w) q rest = go (step q c) (λ q′. read-after w q′ rest)
     go none f = refl
     go (some q′) f = f q′
 
--- a source that is read spells its tree
+-- the tree of a source that is read derives it
 pub sound : (s : Bytes) → On (read s) (λ t. Derives t s)
 unfolding read read-from
 sound s =

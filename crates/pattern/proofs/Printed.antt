@@ -1,4 +1,4 @@
--- The printed source spells the tree. Assumes nothing.
+-- A tree derives its printed source. Assumes nothing.
 use mathlib.Core.Path.{_≡_, refl, sym}
 use mathlib.Core.Bool.{Bool, true, false, _&&_, _||_}
 use mathlib.Core.List.{List, [], _∷_, _++_, append-assoc, append-nil}
@@ -150,7 +150,7 @@ quoted-printable start = tt
 quoted-printable (byte {v} h c e) = printable-more v c (quoted-printable h) (rw e at (text-byte c))
 quoted-printable (Quoted.quote {v} h) = printable-more v 34 (quoted-printable h) tt
 
--- a good tree that some source spells is spelt by its printed source
+-- a tree within the limits that derives some source derives its printed source
 pub printed : {s : Sort} (d : ℕ) (x : Syntax s) (w : Bytes) → InLimits d x → Derives x w → Derives x (print x)
 unfolding Derives Cut InLimits print
 printed d (last a) w g h = printed d a w g h

@@ -1,4 +1,4 @@
--- The scan's fault at a place is the lowest of the table's rows that apply there. Assumes nothing.
+-- The scan's fault in a state is the lowest of the refusal table's rows that apply there. Assumes nothing.
 use mathlib.Core.Path.{_≡_, refl, ap}
 use mathlib.Core.Logic.{_⊎_, inl, inr, ⊎-elim}
 use mathlib.Core.Bool.{Bool, true, false, not, _&&_}
@@ -85,7 +85,7 @@ pub atom-fault-is : (n : ℕ) (r : CountState) → atom-fault n r
 unfolding atom-rows
 atom-fault-is n r = ap (λ b. refuse ((ltb number-limit (low r), NUMBER) ∷ (b, RANGE) ∷ (leb atom-limit n, ATOMS) ∷ [])) (range-row (low r) (high r))
 
--- the lowest fault at a place, in the scan's order
+-- the lowest fault in a state, in the scan's order
 unfoldable pub found : ParserState → Bytes → Option ℕ
 found q [] = elim (finish (q .0) (q .1)) [ none ↦ some FORM | some t ↦ none ]
 found q (c ∷ s) = elim (step q c) [ none ↦ some FORM | some q′ ↦ fault (begins (q .0) (char-class c)) (depth (q .1)) (begun-at (q .0) (q .1)) c s ]

@@ -22,7 +22,7 @@ number-limit = 9999
 abbrev pub label-limit : ℕ
 label-limit = 255
 
--- sets of codes are below this; in a spelling it is the bit of every letter other than the seven
+-- sets of codes are below this; it is the bit of every letter other than the seven, which the grammar allows and CODE refuses
 abbrev pub set-limit : ℕ
 set-limit = 128
 

@@ -1,4 +1,4 @@
--- A count that was judged by numbers held at 10,000 is judged as the scan does. Assumes nothing.
+-- The faults of a count whose numbers are held at 10,000 are those that the scan finds. Assumes nothing.
 use mathlib.Core.Path.{_≡_, refl, sym, ap, ap₂, _∙_, subst}
 use mathlib.Core.Logic.{⊎-elim}
 use mathlib.Core.Bool.{Bool, true, false, _&&_, cond}

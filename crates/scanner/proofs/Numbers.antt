@@ -1,4 +1,4 @@
--- A run of digits: how many, and the number that they spell, held at 10,000. Assumes nothing.
+-- Digits: how many there are, and their number, held at 10,000. Assumes nothing.
 use mathlib.Core.Path.{_≡_, refl, sym, _∙_, subst}
 use mathlib.Core.Logic.{_⊎_, inl, inr, ⊎-elim}
 use mathlib.Core.List.{[], _∷_}

@@ -32,7 +32,7 @@ pub plain-test : (b : ℕ) → b < 256 → cond (eqb b 34) false (cond (leb 32 b
 unfolding is-plain literal-class between all agree
 plain-test b h = agreed _ _ (all-at 256 (λ b. agree (cond (eqb b 34) false (cond (leb 32 b) (leb b 126) false)) (is-plain b)) tt b h)
 
--- what they say of its kind
+-- what they say of its class
 pub digit-is : (b : ℕ) → is-digit b ≡ true → char-class b ≡ count-char digit
 unfolding is-digit
 digit-is b e = go (char-class b) e
@@ -70,7 +70,7 @@ digit-range b h e = go (leb 48 b) refl (digit-test b h ∙ e)
     go true f g = (leb-true 48 b f, leb-true b 57 g)
     go false f g = let y : _≡_ {A = ℕ} 0 1 = cc in absurd (omega arith)
 
--- what a kind of one byte only says of it
+-- what a class of one byte says of the byte
 only-at : (b c : ℕ) (x : CharClass) → (Spelt x b → b ≡ c) → ¬ (b ≡ c) → ¬ (char-class b ≡ x)
 only-at b c x f d h = d (f (rw h at (class-byte b)))
 
@@ -105,7 +105,7 @@ module _ (s : Bytes) (at : ℕ) where
     pub no-letter : (t : Bool) → t ≡ is-letter c → t ≡ false → ClassNot s at (body-start letter)
     no-letter t e f = not-class (body-start letter) (letter-not c (sym e ∙ f))
 
-    -- it is not the one byte of a kind
+    -- it is not the one byte of a class
     pub not-only : (b : ℕ) (x : CharClass) → (Spelt x c → c ≡ b) → ¬ (c ≡ b) → ClassNot s at x
     not-only b x f d = not-class x (only-at c b x f d)
 

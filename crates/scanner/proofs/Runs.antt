@@ -18,7 +18,7 @@ use Rattle.scanner.specs.Counts.{lead, number}
 use Rattle.scanner.proofs.Pass.{extent, Halts, run-ahead, run-extent, halted}
 use Rattle.scanner.proofs.Numbers.{lead-more, number-more, no-lead, no-number, digit-or, lead-nil, number-nil}
 
--- the run that begins so with these bytes to come, and how many of them it takes
+-- the longest count that begins so with these bytes to come, and how many of them it takes
 pub record CountTaken (r : CountState) (l : Bytes) (r′ : CountState) (n : ℕ) : Type 0 where
   pub run : longest-count r l ≡ r′
   pub size : extent r l ≡ n
@@ -27,7 +27,7 @@ runs-end : (r : CountState) → CountTaken r [] r 0
 unfolding longest-count extent
 runs-end r = record { run = refl; size = refl }
 
--- a byte that belongs to the run
+-- a byte that belongs to the count
 module _ {r₀ : CountState} {l : Bytes} {n : ℕ} (r : CountState) (c : ℕ) (r′ : CountState) (h : CountTaken r′ l r₀ n) where
   runs-digit : char-class c ≡ count-char digit → grow r digit c ≡ some r′ → CountTaken r (c ∷ l) r₀ (suc n)
   runs-digit e g = record { run = run-ahead r digit c l (top []) e r′ g ∙ h .run; size = run-extent r digit c l (top []) e r′ g ∙ ap suc (h .size) }

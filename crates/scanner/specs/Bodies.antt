@@ -21,7 +21,7 @@ use Rattle.scanner.specs.Places.{Onward, ClassNot}
 use Rattle.scanner.specs.Scans.{scanned}
 use Rattle.pattern.specs.Stores.{store-at}
 
--- a place in a body, after a count and inside groups
+-- a state of the parser in or after a body, for any count and any stack
 abbrev pub Inside : Type 0
 Inside = ℕ → Option ℕ → Stack → ParserState
 

@@ -25,16 +25,16 @@ unfoldable pub lead : Bytes → ℕ
 lead [] = 0
 lead (c ∷ s) = elim (char-class c) [ count-char m ↦ elim m [ digit ↦ suc (lead s) | point ↦ 0 ] | body-start b ↦ 0 | branch-end e ↦ 0 ]
 
--- the number that they spell, after v
+-- the number that these digits give after those of v
 unfoldable pub number : ℕ → Bytes → ℕ
 number v [] = v
 number v (c ∷ s) = elim (char-class c) [ count-char m ↦ elim m [ digit ↦ number (10 * v + (c - zero-byte)) s | point ↦ v ] | body-start b ↦ v | branch-end e ↦ v ]
 
--- the code's number for every one over the limit
+-- the code's number for every number over the limit
 abbrev pub large-number : ℕ
 large-number = 10000
 
--- a number, held at that
+-- a number, or that one if it is over the limit
 unfoldable pub cap : ℕ → ℕ
 cap x = cond (leb x number-limit) x large-number
 
