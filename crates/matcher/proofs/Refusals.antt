@@ -18,7 +18,7 @@ use Rattle.pattern.proofs.Rooms.{top-le}
 use Rattle.table.specs.declared.Sizes.{Sizes}
 use Rattle.table.specs.declared.Tested.the-variants.{Bad, Good}
 use Rattle.table.specs.Tested.{tested}
-use Rattle.atoms.proofs.Goods.{Sized, tested-good, tested-bad}
+use Rattle.atoms.proofs.Goods.{GoodSizes, tested-good, tested-bad}
 use Rattle.atoms.specs.Atoms.{atoms}
 use Rattle.matcher.specs.Answered.{MatchPost}
 use Rattle.matcher.specs.Run.{RunPre, unrefused}
@@ -30,7 +30,7 @@ bad-table table label scratch parts budget e = sym (ap (λ o. ended (match-endin
 
 module _ (table : Bytes) where
   module _ (s : Sizes) (e : Good s ≡ tested (decode table)) where
-    told : Sized table s
+    told : GoodSizes table s
     told = tested-good table s e
 
     pub few-atoms : s .atoms ≤ atom-limit

@@ -3,7 +3,7 @@ use mathlib.Core.Path.{_≡_}
 use Prim.Native.Nat.{ℕ}
 use Rattle.pattern.specs.Numbers.{TABLE, LABEL, WORK, PARTS, BUDGET}
 use Rattle.pattern.specs.Bytes.{Bytes}
-use Rattle.pattern.specs.Answers.{Answer, refusal, result, matchOf, Matched as Outcome}
+use Rattle.pattern.specs.Answers.{Answer, refusal, result, matchOf, MatchOutput}
 use Rattle.matcher.specs.declared.Matched.{Matched}
 use Rattle.matcher.specs.declared.Matched.the-variants.{Table, Label, Work, Parts, Budget, No, Yes}
 
@@ -18,9 +18,9 @@ answer-of budget (No trials) = result 0 trials
 answer-of budget (Yes trials) = result 1 trials
 
 -- the answer with scratch and parts afterwards
-abbrev pub outcome-of : (budget : ℕ) → Matched → (scratch parts : Bytes) → Outcome
-outcome-of budget r scratch parts = record { answer = answer-of budget r; scratch = scratch; parts = parts }
+abbrev pub match-output : (budget : ℕ) → Matched → (scratch parts : Bytes) → MatchOutput
+match-output budget r scratch parts = record { answer = answer-of budget r; scratch = scratch; parts = parts }
 
 -- what `match_label` promises of its answer, and of scratch and parts afterwards
 abbrev pub MatchPost : (table label scratch parts : Bytes) → (budget : ℕ) → Matched → (scratch′ parts′ : Bytes) → Type 0
-MatchPost table label scratch parts budget r scratch′ parts′ = outcome-of budget r scratch′ parts′ ≡ matchOf table label scratch parts budget
+MatchPost table label scratch parts budget r scratch′ parts′ = match-output budget r scratch′ parts′ ≡ matchOf table label scratch parts budget

@@ -25,7 +25,7 @@ NoPlane q i j = ⊥
 
 -- s and s′ are the lists before and after
 pub record BeginPost (table label s s′ : Bytes) (w temp x : ℕ) : Type 0 where
-  pub making : RepeatBodyPre s′ w temp (2 * x)
+  pub repeatable : RepeatBodyPre s′ w temp (2 * x)
   pub body : Plane s′ w temp (decide label (body-of (head (node table x))))
   pub kept : Kept s s′ w (temp + 4) (Later temp x)
 

@@ -24,7 +24,7 @@ use Rattle.pattern.specs.Faults.{rows-at, Applies, Least}
 use Rattle.pattern.specs.Print.{print}
 use Rattle.pattern.specs.Table.{encode}
 use Rattle.pattern.specs.Decode.{decode}
-use Rattle.pattern.specs.Answers.{Answer, refusal, result, put-if, put, compiled, compileOf, written-back, writeOf, Matched, scratch-needed, part-bytes, lent-fault, Ending, untried, exhausted, decided, ended, ending, match-ending, matchOf, result-bytes, MatchNumber, Untouched, shown}
+use Rattle.pattern.specs.Answers.{Answer, refusal, result, put-if, put, compiled, compileOf, written-back, writeOf, MatchOutput, scratch-needed, part-bytes, lent-fault, Ending, untried, exhausted, decided, ended, ending, match-ending, matchOf, result-bytes, MatchNumber, Untouched, shown}
 use Rattle.pattern.proofs.Tests.{le-or-lt, if-true, if-false}
 use Rattle.pattern.proofs.Longest.{partition-satisfies, verdict-means, verdict-length, part-bytes-length}
 use Rattle.pattern.proofs.Bound.{bound}
@@ -138,7 +138,7 @@ match-cases P (some t) label scratch parts budget refuses stops decides = lent (
     lent none e = within e (leb (trials label t) budget) refl
 
 -- what a verdict reports, whichever it is
-record Reported (used count : ℕ) (scratch : Bytes) (m : Matched) : Type 0 where
+record Reported (used count : ℕ) (scratch : Bytes) (m : MatchOutput) : Type 0 where
   number-zero : m .answer .number ≡ 0
   trials-count : m .answer .trials ≡ count
   used-zeroed : m .scratch ≡ zeroed used scratch
@@ -151,17 +151,17 @@ decided-reports used count (some ends) scratch parts = record { number-zero = re
 -- where no other refusal applies: the table is good, the label and the lent slices fit
 module _ (table label scratch parts : Bytes) (t : Syntax pattern) (good : decode table ≡ some t) (lent : lent-fault t label scratch parts ≡ none) where
   -- the call makes the trials of the table's tree
-  match-tried : (budget : ℕ) → matchOf table label scratch parts budget ≡ ended (ending none (scratch-needed t (length label)) (trials label t) budget (verdict label t)) scratch parts
+  match-counted : (budget : ℕ) → matchOf table label scratch parts budget ≡ ended (ending none (scratch-needed t (length label)) (trials label t) budget (verdict label t)) scratch parts
   unfolding matchOf match-ending
-  match-tried budget = rw (good, lent)
+  match-counted budget = rw (good, lent)
 
   -- demand 3: a verdict, with the defined count, where the count is within the budget
   pub within-budget : (budget : ℕ) → trials label t ≤ budget → matchOf table label scratch parts budget ≡ ended (decided (scratch-needed t (length label)) (trials label t) (verdict label t)) scratch parts
-  within-budget budget h = match-tried budget ∙ ap (λ e. ended e scratch parts) (ending-within _ _ budget _ h)
+  within-budget budget h = match-counted budget ∙ ap (λ e. ended e scratch parts) (ending-within _ _ budget _ h)
 
   -- otherwise BUDGET, which reports the budget, writes no parts and clears scratch
   pub beyond-budget : (budget : ℕ) → budget < trials label t → matchOf table label scratch parts budget ≡ ended (exhausted (scratch-needed t (length label)) budget) scratch parts
-  beyond-budget budget h = match-tried budget ∙ ap (λ e. ended e scratch parts) (ending-beyond _ _ budget _ h)
+  beyond-budget budget h = match-counted budget ∙ ap (λ e. ended e scratch parts) (ending-beyond _ _ budget _ h)
 
   -- what they report
   pub within-reports : (budget : ℕ) → trials label t ≤ budget → matchOf table label scratch parts budget .answer .trials ≡ trials label t

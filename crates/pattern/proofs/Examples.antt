@@ -6,11 +6,11 @@ use Prim.Native.Nat.{ℕ}
 use lib.ListN.{take, replicate}
 use Rattle.pattern.specs.Numbers.{BUDGET}
 use Rattle.pattern.specs.Bytes.{Bytes, overwrite, bytes}
-use Rattle.pattern.specs.Answers.{Output, compileOf, Matched, part-bytes, matchOf}
+use Rattle.pattern.specs.Answers.{Output, compileOf, MatchOutput, part-bytes, matchOf}
 use Rattle.pattern.proofs.Computed.{computed}
 
 -- what a source and a label give under a budget: compiled into 128 bytes, then matched with 1,024 bytes of scratch and 8 of parts
-unfoldable pub run : Bytes → Bytes → ℕ → Matched
+unfoldable pub run : Bytes → Bytes → ℕ → MatchOutput
 run source label budget =
     let c : Output = compileOf source (replicate 128 7) in
     matchOf (take (c .answer .value) (c .bytes)) label (replicate 1024 7) (replicate 8 7) budget
@@ -80,7 +80,7 @@ counts =
 -- what an example is found to answer, its trials only where the example says them
 unfoldable pub answered : Example → ℕ × ℕ × Bytes × Option ℕ
 answered e =
-    let m : Matched = run (e .source) (e .label) (e .budget) in
+    let m : MatchOutput = run (e .source) (e .label) (e .budget) in
     (m .answer .number, m .answer .value, m .parts, elim (e .count) [ none ↦ none | some c ↦ some (m .answer .trials) ])
 
 -- what it must answer; parts are written on yes only
@@ -100,7 +100,7 @@ table-of source = let c : Output = compileOf source (replicate 128 7) in take (c
 abbrev table-4 : Bytes
 table-4 = table-of (bytes "1(1N,1A)1N")
 
-abbrev left-alone : ℕ → (scratch parts : ℕ) → Matched
+abbrev left-alone : ℕ → (scratch parts : ℕ) → MatchOutput
 left-alone number scratch parts =
     record { answer = record { number = number; position = 0; value = 0; trials = 0 }; scratch = replicate scratch 7; parts = replicate parts 7 }
 

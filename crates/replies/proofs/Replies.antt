@@ -13,7 +13,7 @@ use Rattle.pattern.specs.Bytes.{Bytes, zeroed, bytes}
 use Rattle.pattern.specs.Syntax.{pattern, Syntax, top-size}
 use Rattle.pattern.specs.Parts.{verdict}
 use Rattle.pattern.specs.Decode.{tree-of, decode}
-use Rattle.pattern.specs.Answers.{Answer, refusal, result, Output, compileOf, Matched, untried, exhausted, decided, ended, match-ending, matchOf}
+use Rattle.pattern.specs.Answers.{Answer, refusal, result, Output, compileOf, MatchOutput, untried, exhausted, decided, ended, match-ending, matchOf}
 use Rattle.pattern.proofs.Longest.{verdict-length}
 use Rattle.pattern.proofs.Calls.{match-cases}
 use Rattle.table.specs.declared.Sizes.{Sizes}
@@ -30,7 +30,7 @@ use Rattle.pattern.specs.Stores.{Puts}
 use Rattle.replies.specs.Stores.{PutsWithin, Replied}
 use Rattle.matcher.specs.declared.Matched as call
 use Rattle.matcher.specs.declared.Answer as called
-use Rattle.matcher.specs.Answered.{answer-of as numbers-of, outcome-of}
+use Rattle.matcher.specs.Answered.{answer-of as numbers-of, match-output}
 use Rattle.compiler.specs.declared.Compiled as compiler
 use Rattle.compiler.specs.declared.Compiled.the-variants as outcome
 use Rattle.compiler.specs.Compiling.{answer-of}
@@ -69,7 +69,7 @@ abbrev texted : Bytes → Bytes → Reply
 texted s v = record { text = v; scratch = s }
 
 -- a match is answered so, by its numbers and T ends in its parts
-pub record Texts (T : ℕ) (m : Matched) (reply : Reply) : Type 0 where
+pub record Texts (T : ℕ) (m : MatchOutput) (reply : Reply) : Type 0 where
   pub refused-is : 0 < m .answer .number → texted (m .scratch) (unmatched-text (m .answer .number)) ≡ reply
   pub no-is : m .answer .number ≤ 0 → m .answer .value ≡ 0 → texted (m .scratch) (zero-byte ∷ []) ≡ reply
   pub yes-is : m .answer .number ≤ 0 → ¬ (m .answer .value ≡ 0) → texted (m .scratch) (matched-text (numbers-in (take (2 * T) (m .parts)))) ≡ reply
@@ -108,7 +108,7 @@ bad-reply table label scratch e = sym (rw (tested-bad table e))
 
 -- what the matching call answers, and the scratch and parts that it leaves
 module _ (table label scratch : Bytes) (sizes : Sizes) (g : Good sizes ≡ tested (decode table)) (r : call.Matched) (s p : Bytes)
-    (e : outcome-of budget r s p ≡ matchOf table label scratch (replicate parts-room 0) budget)
+    (e : match-output budget r s p ≡ matchOf table label scratch (replicate parts-room 0) budget)
     (a : called.Answer) (n : record { number = a .number; position = 0; value = a .value; trials = a .trials } ≡ numbers-of budget r) where
   pub match-texts : Texts (sizes .top) (record { answer = record { number = a .number; position = 0; value = a .value; trials = a .trials }; scratch = s; parts = p }) (label-reply table label scratch)
   unfolding label-reply matchOf
@@ -144,8 +144,8 @@ module _ (source label scratch : Bytes) (r : compiler.Compiled) (t : Bytes) (e :
   compiled-by : (q : compiler.Compiled) → r ≡ q → compiling source label scratch t (answer-of q) ≡ compileOf source (replicate table-room 0)
   compiled-by q d = ap (λ x. compiling source label scratch t (answer-of x)) (sym d) ∙ e
 
-  pub table-fits : (n : ℕ) → r ≡ outcome.Table n → n ≤ length t
-  table-fits n d =
+  pub compiled-fits : (n : ℕ) → r ≡ outcome.Table n → n ≤ length t
+  compiled-fits n d =
       let c = compiled-by (outcome.Table n) d in
       let f = compile-fits source (replicate table-room 0) in
       rw (ap (λ o. o .answer .value) c, ap (λ o. length (o .bytes)) c) f

@@ -10,7 +10,7 @@ use denote.Enum.Declared.{tagOf}
 use Rattle.pattern.specs.Bytes.{Bytes, between}
 use Rattle.pattern.specs.Grammar.{letter, quote, opening, digit, point, CharClass, count-char, body-start, branch-end, char-class, literal-class}
 use Rattle.pattern.proofs.Tests.{agree, agreed, all, all-at}
-use Rattle.pattern.proofs.Notation.{Byte as Spelt, class-byte}
+use Rattle.pattern.proofs.Notation.{ByteIn as Spelt, class-byte}
 use Rattle.scanner.specs.declared.cursor.Cursor.{Cursor}
 use Rattle.scanner.specs.declared.cursor.Byte.{Byte}
 use Rattle.scanner.specs.declared.cursor.Byte.the-variants as byte

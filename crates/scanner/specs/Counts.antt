@@ -14,7 +14,7 @@ use Rattle.pattern.specs.Parser.{CountState, empty, counting, Stack, grow}
 use Rattle.pattern.specs.Scan.{low, high, refused}
 use Rattle.pattern.specs.declared.repeat.Repeat.{Repeat}
 use Rattle.scanner.specs.declared.cursor.Cursor.{Cursor}
-use Rattle.scanner.specs.declared.count.Number.{Number}
+use Rattle.scanner.specs.declared.count.DigitsRead.{DigitsRead}
 use Rattle.scanner.specs.declared.count.CountResult.{CountResult}
 use Rattle.scanner.specs.declared.count.CountResult.the-variants as counted
 use Rattle.scanner.specs.Places.{Onward, class-at}
@@ -38,7 +38,7 @@ large-number = 10000
 unfoldable pub cap : ℕ → ℕ
 cap x = cond (leb x number-limit) x large-number
 
-pub record DigitsPost (s : Bytes) (i : ℕ) (r : Number) : Type 0 where
+pub record DigitsPost (s : Bytes) (i : ℕ) (r : DigitsRead) : Type 0 where
   pub value : r .value ≡ cap (number 0 (drop i s))
   pub end : r .end .at ≡ i + lead (drop i s)
   pub within : r .end .at ≤ length s
@@ -53,13 +53,13 @@ check-count rep n start from end =
 
 -- the scan goes on after the longest run
 pub record CountIs (s : Bytes) (i n : ℕ) (rep : Repeat) (next : Cursor) : Type 0 where
-  pub run : CountState
-  pub some-run : ¬ (run ≡ empty)
-  pub rep-is : rep ≡ repeat-of (low run) (high run)
+  pub state : CountState
+  pub begun : ¬ (state ≡ empty)
+  pub rep-is : rep ≡ repeat-of (low state) (high state)
   pub onward : Onward s i next
   pub room : n < atom-limit
-  pub stops : (m : CountChar) → next .at < length s → class-at s (next .at) ≡ count-char m → grow run m (getD s (next .at) 0) ≡ none
-  pub scan : (k : Stack) → scanned s (counting empty, k) i n ≡ scanned s (counting run, k) (next .at) (suc n)
+  pub stops : (m : CountChar) → next .at < length s → class-at s (next .at) ≡ count-char m → grow state m (getD s (next .at) 0) ≡ none
+  pub scan : (k : Stack) → scanned s (counting empty, k) i n ≡ scanned s (counting state, k) (next .at) (suc n)
 
 pub record CountRefused (s : Bytes) (i n f p : ℕ) : Type 0 where
   pub scan : (k : Stack) → scanned s (counting empty, k) i n ≡ refused f p

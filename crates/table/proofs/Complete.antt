@@ -56,12 +56,12 @@ module _ (s : Bytes) (A : ℕ) where
       record { placed = tail-there (h .placed); good = h .good .1 .1; clean = h .clean; within = omega (arith, h .within); pooled = h .pooled }
 
   -- the record of an atom
-  its-there : (e low : ℕ) (high : Option ℕ) (b : Syntax body) (i p : ℕ) → Placed s (laid-out A) e (repeat low high b) i p → record-at s (layout s) i ≡ rec e low high b i p
+  record-there : (e low : ℕ) (high : Option ℕ) (b : Syntax body) (i p : ℕ) → Placed s (laid-out A) e (repeat low high b) i p → record-at s (layout s) i ≡ rec e low high b i p
   unfolding records
-  its-there e low high b i p h = head-there h
+  record-there e low high b i p h = head-there h
 
-  its-ends : (e : ℕ) (a : Syntax atom) (i p : ℕ) → Placed s (laid-out A) e a i p → record-at s (layout s) i .ends ≡ e
-  its-ends e (repeat low high b) i p h = ap (λ (r : Rec). r .ends) (its-there e low high b i p h)
+  record-ends : (e : ℕ) (a : Syntax atom) (i p : ℕ) → Placed s (laid-out A) e a i p → record-at s (layout s) i .ends ≡ e
+  record-ends e (repeat low high b) i p h = ap (λ (r : Rec). r .ends) (record-there e low high b i p h)
 
   -- an atom, by its record
   abbrev pub by-record : ℕ → Record → ℕ → ℕ → ℕ → Option (Syntax atom)
@@ -89,7 +89,7 @@ module _ (s : Bytes) (A : ℕ) where
   read-body f e low high b i p d h g =
       let n : i < A = omega (arith, h .within) in
       let x = h .good .0 in
-      ap (λ r. by-record f (record-of r) i p d) (its-there e low high b i p (h .placed))
+      ap (λ r. by-record f (record-of r) i p d) (record-there e low high b i p (h .placed))
       ∙ kept _ _ (lt-ltb _ _ n)
       ∙ kept _ _ (fits-ordered low high x)
       ∙ going-on _ _ g
@@ -113,10 +113,10 @@ module _ (s : Bytes) (A : ℕ) where
   unfolding read-pattern size
   complete-pattern f ih e (last a) i p d h n =
       let b = set-last h in
-      going-on _ _ (ih .atoms 1 a i p d b (omega (arith, n))) ∙ first _ _ _ (eq-eqb _ _ (its-ends 1 a i p (b .placed)))
+      going-on _ _ (ih .atoms 1 a i p d b (omega (arith, n))) ∙ first _ _ _ (eq-eqb _ _ (record-ends 1 a i p (b .placed)))
   complete-pattern f ih e (then a q) i p d h n =
       let (b, c) = set-then e a q i p d h in
-      let z = its-ends 0 a i p (b .placed) in
+      let z = record-ends 0 a i p (b .placed) in
       going-on _ _ (ih .atoms 0 a i p d b (omega (arith, n)))
       ∙ second _ _ _ (ne-eqb (record-at s (layout s) i .ends) 1 (λ x. omega (arith, z, x)))
       ∙ kept _ _ (eq-eqb _ _ z)

@@ -137,14 +137,14 @@ module _ (s : Bytes) (A : ℕ) (at : Place) (d : ℕ) where
 
   module _ (r : Record) (same : r ≡ record-of (record-at s (layout s) (at .atom))) (on : at .atom < A) where
     -- the model at the record that the code has read
-    by-its : (f : ℕ) → read-atom s A (suc f) (at .atom) (at .pool) d ≡ by-record s A f r (at .atom) (at .pool) d
+    by-fields : (f : ℕ) → read-atom s A (suc f) (at .atom) (at .pool) d ≡ by-record s A f r (at .atom) (at .pool) d
     unfolding read-pattern
-    by-its f = ap (λ (x : Record). by-record s A f x (at .atom) (at .pool) d) (sym same)
+    by-fields f = ap (λ (x : Record). by-record s A f x (at .atom) (at .pool) d) (sym same)
 
     pub atom-unordered : ordered (r .low) (r .high) ≡ false → AtomReads s A at d passed.Bad
     unfolding passed-by
     atom-unordered e zero n = absurd (omega arith)
-    atom-unordered e (suc f) n = sym (ap (passed-by at) (by-its f ∙ kept _ _ (lt-ltb _ _ on) ∙ dropped _ _ e))
+    atom-unordered e (suc f) n = sym (ap (passed-by at) (by-fields f ∙ kept _ _ (lt-ltb _ _ on) ∙ dropped _ _ e))
 
     module _ (o : ordered (r .low) (r .high) ≡ true) where
       abbrev body-read : ℕ → Option (Syntax body)
@@ -155,12 +155,12 @@ module _ (s : Bytes) (A : ℕ) (at : Place) (d : ℕ) where
 
       no-body : (f : ℕ) → body-read f ≡ none → passed.Bad ≡ passed-by at (read-atom s A (suc f) (at .atom) (at .pool) d)
       unfolding passed-by
-      no-body f e = sym (ap (passed-by at) (by-its f ∙ kept _ _ (lt-ltb _ _ on) ∙ kept _ _ o ∙ stopped _ _ e))
+      no-body f e = sym (ap (passed-by at) (by-fields f ∙ kept _ _ (lt-ltb _ _ on) ∙ kept _ _ o ∙ stopped _ _ e))
 
       some-body : (f : ℕ) (b : Syntax body) → body-read f ≡ some b → (dest : Place) → dest ≡ beyond at (repeat (r .low) (high-of (r .high)) b)
           → passed.To dest ≡ passed-by at (read-atom s A (suc f) (at .atom) (at .pool) d)
       unfolding passed-by
-      some-body f b e dest u = ap passed.To u ∙ sym (ap (passed-by at) (by-its f ∙ kept _ _ (lt-ltb _ _ on) ∙ kept _ _ o ∙ going-on _ _ e))
+      some-body f b e dest u = ap passed.To u ∙ sym (ap (passed-by at) (by-fields f ∙ kept _ _ (lt-ltb _ _ on) ∙ kept _ _ o ∙ going-on _ _ e))
 
       -- ---- a leaf
 

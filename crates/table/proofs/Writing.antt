@@ -15,7 +15,7 @@ use Rattle.pattern.proofs.Records.{record-bytes-append, length-record-bytes, co
 use Rattle.pattern.proofs.Calls.{put-fits, put-short}
 use Rattle.pattern.proofs.Stores.{store-at-then, store-at-before, store-at-overwrite, take-overwrite, puts-then, puts-more}
 use Rattle.table.specs.Write.{put-records, WriteTablePre, table-of, output-of}
-use Rattle.table.specs.declared.write.Written.the-variants.{Length, Room}
+use Rattle.table.specs.declared.write.TableWritten.the-variants.{Length, Room}
 
 -- records before other bytes
 record-bytes-over : (xs : List Rec) (s : Bytes) → record-bytes xs s ≡ record-bytes xs [] ++ s

@@ -7,7 +7,7 @@ use borrow.Author.Needs.{needs}
 use Rattle.scanner.specs.Counts.{CountIs}
 use Rattle.scanner.proofs.Places.{class-letter}
 use Rattle.compiler.specs.Readers.{ReadPre, BuffersFit}
-use Rattle.compiler.proofs.Readers.{reach, count-is, quote-is, letter-before, atom-fault, atom-codes, atom-literal, atom-other, opening-is, atom-deep, group-ready, atom-group-fault, atom-group, group-is, atom-is, pattern-is, Going, going-start, going-fault, going-last, going-more, comma-is, Branching, branching-start, branching-fault, branching-other, branching-close, branching-more, count-few}
+use Rattle.compiler.proofs.Readers.{read-measure, count-is, quote-is, letter-before, atom-fault, atom-codes, atom-literal, atom-other, opening-is, atom-deep, group-ready, atom-group-fault, atom-group, group-is, atom-is, pattern-is, ReadPatternAt, read-pattern-start, going-fault, read-pattern-last, read-pattern-more, comma-is, ReadGroupAt, read-group-start, branching-fault, branching-other, branching-close, read-group-more, count-few}
 use Prim.Native.Nat.{ℕ, _<_}
 use borrow.Fn.Kinds.{In}
 use borrow.Fn.PlainCycle.{Measures, is, falls, and}
@@ -31,13 +31,13 @@ use Rattle.compiler.proofs.reader.+read_atom+read_group+read_pattern.{s
 use Rattle.compiler.proofs.reader.+read_atom+read_group+read_pattern.Tie.{close}
 
 abbrev μ-read-atom : Measures 3 read-atom-kinds.ps ℕ
-μ-read-atom κs a = reach (a .0 .now) (a .1 .0)
+μ-read-atom κs a = read-measure (a .0 .now) (a .1 .0)
 
 abbrev μ-read-group : Measures 3 read-group-kinds.ps ℕ
-μ-read-group κs a = reach (a .0 .now) (a .1 .0) + 2
+μ-read-group κs a = read-measure (a .0 .now) (a .1 .0) + 2
 
 abbrev μ-read-pattern : Measures 3 read-pattern-kinds.ps ℕ
-μ-read-pattern κs a = reach (a .0 .now) (a .1 .0) + 1
+μ-read-pattern κs a = read-measure (a .0 .now) (a .1 .0) + 1
 
 abbrev read-atom-at : ℕ → In 3 read-atom-kinds.ps
 read-atom-at t = and 3 read-atom-kinds.ps (is 3 read-atom-kinds.ps μ-read-atom t) read-atom.Pre
@@ -228,13 +228,13 @@ read-atom-returns-7 : (t : ℕ) → read-atom-lts.Need-returns-7 (read-atom-clai
 read-atom-returns-7 t c = atom-fault _ _ _ _ _ _ _ _ _ _ (c .before .no2 .given .1) (c .before .before .before .count .ensures)
 
 abbrev read-group-Inv-loop : read-group-lts.InvT-loop
-read-group-Inv-loop s depth recs₀ pool₀ from₀ before₀ recs pool from before = Branching s depth from₀ from recs₀ recs pool₀ pool before
+read-group-Inv-loop s depth recs₀ pool₀ from₀ before₀ recs pool from before = ReadGroupAt s depth from₀ from recs₀ recs pool₀ pool before
 
 abbrev read-group-μ-loop : read-group-lts.MeasureT-loop
-read-group-μ-loop s depth recs₀ pool₀ from₀ before₀ recs pool from before = reach s from
+read-group-μ-loop s depth recs₀ pool₀ from₀ before₀ recs pool from before = read-measure s from
 
 read-group-loop-holds : (t : ℕ) → read-group-lts.Need-loop-holds (read-group-claims t) (read-group-at t) read-group.Post read-group-Inv-loop read-group-μ-loop
-read-group-loop-holds t c = branching-start _ _ _ _ _ (c .before .before .before .pre .1 .0)
+read-group-loop-holds t c = read-group-start _ _ _ _ _ (c .before .before .before .pre .1 .0)
 
 read-group-read-pattern-requires : (t : ℕ) → read-group-lts.Need-read-pattern-requires (read-group-claims t) (read-group-at t) read-group.Post read-group-Inv-loop read-group-μ-loop
 read-group-read-pattern-requires t c κs =
@@ -266,7 +266,7 @@ read-group-loop-again t c =
     let after-next = after-separator .before .before .before in
     let after-read-pattern = after-next .before .before .before .before .before .before in
     let turn = after-read-pattern .before .before .before in
-    branching-more _ _ _ _ _ _ _ _ _ (turn .loop .inv) _ _ _ (pattern-is _ _ _ _ _ _ _ _ _ (after-next .next .given .1) (after-read-pattern .read-pattern .ensures)) _ (after-separator .separator .ensures) _ (c .before .after .given .1) (after-read-pattern .read-pattern .kept .1 .1 .1 .0) (after-read-pattern .read-pattern .kept .1 .1 .1 .1 .0)
+    read-group-more _ _ _ _ _ _ _ _ _ (turn .loop .inv) _ _ _ (pattern-is _ _ _ _ _ _ _ _ _ (after-next .next .given .1) (after-read-pattern .read-pattern .ensures)) _ (after-separator .separator .ensures) _ (c .before .after .given .1) (after-read-pattern .read-pattern .kept .1 .1 .1 .0) (after-read-pattern .read-pattern .kept .1 .1 .1 .1 .0)
 
 read-group-enum-known-after-2 : (t : ℕ) → read-group-lts.Need-enum-known-after-2 (read-group-claims t) (read-group-at t) read-group.Post read-group-Inv-loop read-group-μ-loop
 read-group-enum-known-after-2 t c = search needs
@@ -338,13 +338,13 @@ read-group-returns-3 t c =
     branching-fault _ _ _ _ _ _ _ _ _ (turn .loop .inv) _ _ _ _ _ (c .before .no .given .1) (after-read-pattern .read-pattern .ensures)
 
 abbrev read-pattern-Inv-loop : read-pattern-lts.InvT-loop
-read-pattern-Inv-loop s depth recs₀ pool₀ from₀ recs pool from = Going s depth from₀ from recs₀ recs pool₀ pool
+read-pattern-Inv-loop s depth recs₀ pool₀ from₀ recs pool from = ReadPatternAt s depth from₀ from recs₀ recs pool₀ pool
 
 abbrev read-pattern-μ-loop : read-pattern-lts.MeasureT-loop
-read-pattern-μ-loop s depth recs₀ pool₀ from₀ recs pool from = reach s from
+read-pattern-μ-loop s depth recs₀ pool₀ from₀ recs pool from = read-measure s from
 
 read-pattern-loop-holds : (t : ℕ) → read-pattern-lts.Need-loop-holds (read-pattern-claims t) (read-pattern-at t) read-pattern.Post read-pattern-Inv-loop read-pattern-μ-loop
-read-pattern-loop-holds t c = going-start _ _ _ _ _ (c .before .before .before .pre .1 .0)
+read-pattern-loop-holds t c = read-pattern-start _ _ _ _ _ (c .before .before .before .pre .1 .0)
 
 read-pattern-read-atom-requires : (t : ℕ) → read-pattern-lts.Need-read-atom-requires (read-pattern-claims t) (read-pattern-at t) read-pattern.Post read-pattern-Inv-loop read-pattern-μ-loop
 read-pattern-read-atom-requires t c κs =
@@ -374,7 +374,7 @@ read-pattern-returns t c =
     let after-next = c .before .before .before .before in
     let after-read-atom = after-next .before .before .before .before .before .before in
     let turn = after-read-atom .before .before .before in
-    going-last _ _ _ _ _ _ _ _ (turn .loop .inv) _ _ _ (atom-is _ _ _ _ _ _ _ _ _ (after-next .next .given .1) (after-read-atom .read-atom .ensures)) _ (c .before .last .ensures) (c .if1 .taken)
+    read-pattern-last _ _ _ _ _ _ _ _ (turn .loop .inv) _ _ _ (atom-is _ _ _ _ _ _ _ _ _ (after-next .next .given .1) (after-read-atom .read-atom .ensures)) _ (c .before .last .ensures) (c .if1 .taken)
 
 read-pattern-loop-less : (t : ℕ) → read-pattern-lts.Need-loop-less (read-pattern-claims t) (read-pattern-at t) read-pattern.Post read-pattern-Inv-loop read-pattern-μ-loop
 read-pattern-loop-less t c = let h = (atom-is _ _ _ _ _ _ _ _ _ (c .before .before .before .before .next .given .1) (c .before .before .before .before .before .before .before .before .before .before .read-atom .ensures)) in let m = h .moved in omega (arith, m .on, m .within)
@@ -384,7 +384,7 @@ read-pattern-loop-again t c =
     let after-next = c .before .before .before .before in
     let after-read-atom = after-next .before .before .before .before .before .before in
     let turn = after-read-atom .before .before .before in
-    going-more _ _ _ _ _ _ _ _ (turn .loop .inv) _ _ _ (atom-is _ _ _ _ _ _ _ _ _ (after-next .next .given .1) (after-read-atom .read-atom .ensures)) _ (c .before .last .ensures) (c .if1 .left) (after-read-atom .read-atom .kept .1 .1 .1 .0) (after-read-atom .read-atom .kept .1 .1 .1 .1 .0)
+    read-pattern-more _ _ _ _ _ _ _ _ (turn .loop .inv) _ _ _ (atom-is _ _ _ _ _ _ _ _ _ (after-next .next .given .1) (after-read-atom .read-atom .ensures)) _ (c .before .last .ensures) (c .if1 .left) (after-read-atom .read-atom .kept .1 .1 .1 .0) (after-read-atom .read-atom .kept .1 .1 .1 .1 .0)
 
 read-pattern-enum-known-no : (t : ℕ) → read-pattern-lts.Need-enum-known-no (read-pattern-claims t) (read-pattern-at t) read-pattern.Post read-pattern-Inv-loop read-pattern-μ-loop
 read-pattern-enum-known-no t c = search needs
