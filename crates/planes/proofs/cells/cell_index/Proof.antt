@@ -1,14 +1,14 @@
--- `planes::cells::place` meets its contract: the index is below the end of its plane, and each number on the way to it is no more than the index. Assumes nothing.
+-- `planes::cells::cell_index` meets its contract: the index is below the end of its plane, and each number on the way to it is no more than the index. Assumes nothing.
 use Prim.Native.Nat.{_+_, _*_, _≤_, _<_}
 use native.Mathlib.Omega.{arith}
 use borrow.Author.Needs.{needs}
-use Rattle.planes.specs.Cells.{at}
-use Rattle.planes.proofs.Planes.{at-below, row-le}
-use Rattle.planes.proofs.cells.place.Statement.{statement}
-use Rattle.planes.proofs.cells.place.Tie as tie
+use Rattle.planes.specs.Cells.{cell-index}
+use Rattle.planes.proofs.Planes.{index-below, row-le}
+use Rattle.planes.proofs.cells.cell_index.Statement.{statement}
+use Rattle.planes.proofs.cells.cell_index.Tie as tie
 
 index : (c : tie.Start) → at (c .args .w) (c .args .p) (c .args .i) (c .args .j) < (c .args .p + 1) * c .args .w * c .args .w
-index c = at-below (c .args .w) (c .args .p) (c .args .i) (c .args .j) (c .pre .0) (c .pre .1 .0) (c .args .p + 1) (omega arith)
+index c = index-below (c .args .w) (c .args .p) (c .args .i) (c .args .j) (c .pre .0) (c .pre .1 .0) (c .args .p + 1) (omega arith)
 
 row : (c : tie.Start) → c .args .p * c .args .w + c .args .i ≤ (c .args .p * c .args .w + c .args .i) * c .args .w
 row c = row-le (c .args .w) (c .args .p) (c .args .i) (c .args .j) (c .pre .0) (c .pre .1 .0)
@@ -25,5 +25,5 @@ mul-result-2 c = omega (arith, index c)
 add-result-2 : tie.Need-add-result-2
 add-result-2 c = omega (arith, index c)
 
-pub place-spec : {M : Type 1} → statement M
-place-spec = tie.close (tie.spec mul-result add-result mul-result-2 add-result-2 (search needs))
+pub cell-index-spec : {M : Type 1} → statement M
+cell-index-spec = tie.close (tie.spec mul-result add-result mul-result-2 add-result-2 (search needs))
