@@ -98,7 +98,13 @@ fn read_literal(
     }
 }
 
-pub fn read_pattern(s: &[u8], st: ReaderState, depth: usize, recs: &mut [u8], pool: &mut [u8]) -> Parsed
+pub fn read_pattern(
+    s: &[u8],
+    st: ReaderState,
+    depth: usize,
+    recs: &mut [u8],
+    pool: &mut [u8],
+) -> Parsed
     requires { ⌜ ReadPre (now s) st depth × BuffersFit (now s) (now recs) (now pool) ⌝ }
     ensures { λ r. ⌜ ReadPatternPost (now (s .entry)) st depth (now (recs .entry)) (now (recs .exit)) (now (pool .entry)) (now (pool .exit)) r ⌝ }
 {

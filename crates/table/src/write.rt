@@ -38,7 +38,13 @@ pub fn put_record(recs: &mut [u8], i: usize, kind: u8, last: u8, rep: Repeat, a:
 }
 
 // The table of the first atoms of these records and the first text bytes of this pool; too little room writes nothing.
-pub fn write_table(atoms: usize, text: usize, recs: &[u8], pool: &[u8], table: &mut [u8]) -> TableWritten
+pub fn write_table(
+    atoms: usize,
+    text: usize,
+    recs: &[u8],
+    pool: &[u8],
+    table: &mut [u8],
+) -> TableWritten
     requires { ⌜ WriteTablePre atoms text (now recs) (now pool) ⌝ }
     ensures { λ r. ⌜ WriteTablePost atoms text (now (recs .entry)) (now (pool .entry)) (now (table .entry)) r (now (table .exit)) ⌝ }
 {

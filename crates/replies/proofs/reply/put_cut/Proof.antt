@@ -4,7 +4,8 @@ use mathlib.Core.List.{[]}
 use lib.Seq.{length-take-le}
 use native.Mathlib.Omega.{arith}
 use Rattle.replies.specs.Sizes.{reply-room}
-use Rattle.replies.proofs.Replies.{replied-same, replied, store-at-within, refused-short, compiled-fits, table-reply-is, refused-reply-is}
+use Rattle.replies.proofs.Replies.{replied-same, replied, store-at-within, refused-short}
+use Rattle.replies.proofs.Compiling.{compiled-fits, table-reply-is, refused-reply-is}
 use borrow.Author.Needs.{needs}
 use Rattle.replies.proofs.reply.put_cut.Statement.{statement}
 use Rattle.replies.proofs.reply.put_cut.Tie as tie
