@@ -29,10 +29,10 @@ loop-holds : tie.Need-loop-holds Inv-loop μ-loop
 loop-holds c = pass-start _ _ _ _
 
 -- where the cells of a turn lie
-read : (c : tie.In-loop Inv-loop μ-loop) → let s = c .before .before .before .before .before in at (s .args .w) (s .args .from) 0 0 + c .before .loop .k < length (c .before .loop .scratch)
+read : (c : tie.In-loop Inv-loop μ-loop) → let s = c .before .before .before .before .before in cell-index (s .args .w) (s .args .from) 0 0 + c .before .loop .k < length (c .before .loop .scratch)
 read c = let p = c .before .before .before .before .before .pre in pass-in _ _ _ _ _ _ (c .before .loop .inv) (p .wide) (c .loop-test .taken) _ (p .added .room)
 
-written : (c : tie.In-loop Inv-loop μ-loop) → let s = c .before .before .before .before .before in at (s .args .w) (s .args .out) 0 0 + c .before .loop .k < length (c .before .loop .scratch)
+written : (c : tie.In-loop Inv-loop μ-loop) → let s = c .before .before .before .before .before in cell-index (s .args .w) (s .args .out) 0 0 + c .before .loop .k < length (c .before .loop .scratch)
 written c = let p = c .before .before .before .before .before .pre in pass-in _ _ _ _ _ _ (c .before .loop .inv) (p .wide) (c .loop-test .taken) _ (p .into .room)
 
 add-scratch : tie.Need-add-scratch Inv-loop μ-loop

@@ -25,7 +25,7 @@ loop-holds : tie.Need-loop-holds Inv-loop μ-loop
 loop-holds c = pass-start _ _ _ _
 
 -- where the cell of a turn lies
-written : (c : tie.In-loop Inv-loop μ-loop) → let s = c .before .before .before .before in at (s .args .w) (s .args .out) 0 0 + c .before .loop .k < length (c .before .loop .scratch)
+written : (c : tie.In-loop Inv-loop μ-loop) → let s = c .before .before .before .before in cell-index (s .args .w) (s .args .out) 0 0 + c .before .loop .k < length (c .before .loop .scratch)
 written c = let p = c .before .before .before .before .pre in pass-in _ _ _ _ _ _ (c .before .loop .inv) (p .0) (c .loop-test .taken) _ (p .1)
 
 add-scratch : tie.Need-add-scratch Inv-loop μ-loop

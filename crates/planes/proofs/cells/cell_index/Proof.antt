@@ -7,7 +7,7 @@ use Rattle.planes.proofs.Planes.{index-below, row-le}
 use Rattle.planes.proofs.cells.cell_index.Statement.{statement}
 use Rattle.planes.proofs.cells.cell_index.Tie as tie
 
-index : (c : tie.Start) → at (c .args .w) (c .args .p) (c .args .i) (c .args .j) < (c .args .p + 1) * c .args .w * c .args .w
+index : (c : tie.Start) → cell-index (c .args .w) (c .args .p) (c .args .i) (c .args .j) < (c .args .p + 1) * c .args .w * c .args .w
 index c = index-below (c .args .w) (c .args .p) (c .args .i) (c .args .j) (c .pre .0) (c .pre .1 .0) (c .args .p + 1) (omega arith)
 
 row : (c : tie.Start) → c .args .p * c .args .w + c .args .i ≤ (c .args .p * c .args .w + c .args .i) * c .args .w

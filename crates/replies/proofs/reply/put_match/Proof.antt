@@ -47,7 +47,7 @@ put-matched-requires c κs =
     let after-match = c .before .before .before .before .before .before .before .before .before .before .before in
     let m = after-match .match-good in
     let first = after-match .before .before .before .before .before .before .before in
-    omega (arith, parts-in-room _ _ _ (first .pre .0) (m .kept .1 .1 .1 .1 .0) .text, first .pre .1)
+    omega (arith, parts-in-room _ _ (m .last .1 .1 .1 .1 .0) (first .pre .0) (m .kept .1 .1 .1 .1 .0) .text, first .pre .1)
 
 returns-3 : tie.Need-returns-3
 returns-3 c =
