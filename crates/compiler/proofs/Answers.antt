@@ -20,7 +20,7 @@ use Rattle.compiler.specs.declared.reader.Parsed.the-variants as parsed
 use Rattle.scanner.specs.Scans.{scanned}
 use Rattle.compiler.specs.Readers.{Refused, PatternIs, ReadPatternPost}
 use Rattle.table.specs.declared.write.TableWritten.{TableWritten}
-use Rattle.table.specs.Write.{records-room, table-of, output-of, WriteTablePost}
+use Rattle.table.specs.Write.{records-room, table-of, table-output, WriteTablePost}
 use Rattle.table.proofs.Writing.{table-is}
 use Rattle.compiler.proofs.Descent.{whole-form, whole-accepted}
 use Rattle.compiler.proofs.Leaves.{state}
@@ -57,7 +57,7 @@ module _ (s table : Bytes) (short : length s ≤ source-limit) (recs recs′ tex
     compile-form w = compile-by s table (refused FORM (u .at .at)) (short-outcome s short ∙ h .scan (top []) refl ∙ whole-form s (u .at .at) (u .atoms) (h .tree) (h .body-ends) (h .over) w)
 
     module _ (fits : records-room ≤ length recs) (room : source-limit ≤ length text) where
-      pub compile-table : length s ≤ u .at .at → {x : TableWritten} {table′ : Bytes} → WriteTablePost (u .atoms) (u .pool) recs′ text′ table x table′ → (y : TableWritten) → x ≡ y → output-of (u .at .at) y table′ ≡ compileOf s table
+      pub compile-table : length s ≤ u .at .at → {x : TableWritten} {table′ : Bytes} → WriteTablePost (u .atoms) (u .pool) recs′ text′ table x table′ → (y : TableWritten) → x ≡ y → table-output (u .at .at) y table′ ≡ compileOf s table
       unfolding depth compiled
       compile-table g {table′ = table′} post y e =
           let m = h .moved in
@@ -69,4 +69,4 @@ module _ (s table : Bytes) (short : length s ≤ source-limit) (recs recs′ tex
           let b : table-of (u .atoms) (u .pool) recs′ text′ ≡ encode t =
           (λ j. table-of (n j) (l j) (w .recs-are j) (w .text-is j)) ∙ table-is recs text t (omega (arith, n, m .atoms)) (omega (arith, l, m .pool, m .within)) in
           let k : scan start 0 0 s ≡ accepted t = h .scan (top []) refl ∙ ap (λ j. scanned s (after-pattern (top []) t) j (u .atoms)) a ∙ whole-accepted s (u .atoms) t in
-          ap (λ x. output-of (u .at .at) x table′) (sym e) ∙ post .puts (u .at .at) ∙ ap₂ (λ p q. put p q table) a b ∙ compile-by s table (accepted t) (short-outcome s short ∙ k)
+          ap (λ x. table-output (u .at .at) x table′) (sym e) ∙ post .puts (u .at .at) ∙ ap₂ (λ p q. put p q table) a b ∙ compile-by s table (accepted t) (short-outcome s short ∙ k)

@@ -17,7 +17,7 @@ use Rattle.pattern.specs.Scan.{low, high, depth, body-begins, begins, begun, re
 use Rattle.pattern.proofs.Tests.{le-or-lt}
 use Rattle.pattern.proofs.Notation.{class-byte}
 use Rattle.pattern.proofs.ParserComplete.{after-pattern, ended-closes, ended-parts}
-use Rattle.scanner.specs.Places.{class-at, count-flag, flag, ClassNot}
+use Rattle.scanner.specs.Places.{class-at, ends-class, ends-at, ClassNot}
 use Rattle.scanner.specs.Scans.{scanned}
 use Rattle.compiler.specs.Readers.{BodyEnds, tail}
 use Rattle.scanner.proofs.Steps.{fault-here, begun-here, onward, faulty, stuck, short}
@@ -107,20 +107,20 @@ depth-next (top before) a = refl
 depth-next (within k l h others before) a = refl
 
 -- an atom begins just where the flag is 0
-pub flag-count : (s : Bytes) (j : ℕ) → flag s j ≡ 0 → (x : CountChar) × (j < length s) × (class-at s j ≡ count-char x)
-unfolding flag
+pub flag-count : (s : Bytes) (j : ℕ) → ends-at s j ≡ 0 → (x : CountChar) × (j < length s) × (class-at s j ≡ count-char x)
+unfolding ends-at
 flag-count s j = ⊎-elim (λ h. rw (le-ltb j (length s) h) (λ e. absurd (omega arith))) (λ h. rw (lt-ltb j (length s) h) (λ e. go h (class-at s j) refl e)) (le-or-lt (length s) j)
   where
-    go : j < length s → (y : CharClass) → class-at s j ≡ y → count-flag y ≡ 0 → (x : CountChar) × (j < length s) × (class-at s j ≡ count-char x)
+    go : j < length s → (y : CharClass) → class-at s j ≡ y → ends-class y ≡ 0 → (x : CountChar) × (j < length s) × (class-at s j ≡ count-char x)
     go h (count-char x) e f = (x, h, e)
     go h (body-start b) e f = absurd (omega arith)
     go h (branch-end b) e f = absurd (omega arith)
 
-pub flag-one : (s : Bytes) (j : ℕ) → ¬ (flag s j ≡ 0) → flag s j ≡ 1
-unfolding flag
+pub flag-one : (s : Bytes) (j : ℕ) → ¬ (ends-at s j ≡ 0) → ends-at s j ≡ 1
+unfolding ends-at
 flag-one s j = ⊎-elim (λ h. rw (le-ltb j (length s) h) (λ e. refl)) (λ h. rw (lt-ltb j (length s) h) (go (class-at s j))) (le-or-lt (length s) j)
   where
-    go : (y : CharClass) → ¬ (count-flag y ≡ 0) → count-flag y ≡ 1
+    go : (y : CharClass) → ¬ (ends-class y ≡ 0) → ends-class y ≡ 1
     go (count-char x) e = absurd (e refl)
     go (body-start b) e = refl
     go (branch-end b) e = refl
@@ -175,18 +175,18 @@ idle s j l h (group bs) k x c w e o = refl
 
 -- nothing goes on after a pattern that rests
 module _ (s : Bytes) (j : ℕ) (w : j < length s) where
-  at-rest : (t : Syntax pattern) (k : Stack) (x : CharClass) → class-at s j ≡ x → BodyEnds s j (tail t) → count-flag x ≡ 1 → Ends-not k x → move (after-pattern k t .0) (after-pattern k t .1) x (getD s j 0) ≡ none
+  at-rest : (t : Syntax pattern) (k : Stack) (x : CharClass) → class-at s j ≡ x → BodyEnds s j (tail t) → ends-class x ≡ 1 → Ends-not k x → move (after-pattern k t .0) (after-pattern k t .1) x (getD s j 0) ≡ none
   unfolding after-pattern tail move
   at-rest (last (repeat l h b)) k (count-char m) e o f d = absurd (omega arith)
   at-rest (last (repeat l h b)) k (body-start x) e o f d = idle s j l h b k x (getD s j 0) w e o
   at-rest (last (repeat l h b)) k (branch-end x) e o f d = leave-none k (repeat l h b) x d
   at-rest (then a t) k x e o f d = at-rest t (next k a) x e o f (next-not k a x d)
 
-  flag-here : flag s j ≡ 1 → count-flag (class-at s j) ≡ 1
-  unfolding flag
+  flag-here : ends-at s j ≡ 1 → ends-class (class-at s j) ≡ 1
+  unfolding ends-at
   flag-here e = rw (lt-ltb j (length s) w) at e
 
-  rests : (t : Syntax pattern) (k : Stack) (m : ℕ) → BodyEnds s j (tail t) → flag s j ≡ 1 → Ends-not k (class-at s j) → scanned s (after-pattern k t) j m ≡ refused FORM j
+  rests : (t : Syntax pattern) (k : Stack) (m : ℕ) → BodyEnds s j (tail t) → ends-at s j ≡ 1 → Ends-not k (class-at s j) → scanned s (after-pattern k t) j m ≡ refused FORM j
   unfolding step
   rests t k m o f d = stuck s j m w (after-pattern k t) (at-rest t k (class-at s j) refl o (flag-here f) d)
 
@@ -198,7 +198,7 @@ ended-short (last (repeat x y b)) k l h others before = refl
 ended-short (then a t) k l h others before = ended-short t k l h others (a ∷ before)
 
 -- a branch that neither a comma nor a bracket follows
-pub branch-form : (s : Bytes) (j m : ℕ) (t : Syntax pattern) (k : Stack) (l : ℕ) (h : Option ℕ) (others : List (Syntax pattern)) → BodyEnds s j (tail t) → flag s j ≡ 1
+pub branch-form : (s : Bytes) (j m : ℕ) (t : Syntax pattern) (k : Stack) (l : ℕ) (h : Option ℕ) (others : List (Syntax pattern)) → BodyEnds s j (tail t) → ends-at s j ≡ 1
     → (j < length s → ¬ (getD s j 0 ≡ closing-byte) × ¬ (getD s j 0 ≡ comma-byte)) → scanned s (after-pattern (within k l h others []) t) j m ≡ refused FORM j
 unfolding Ends-not
 branch-form s j m t k l h others o f d = ⊎-elim
@@ -207,7 +207,7 @@ branch-form s j m t k l h others o f d = ⊎-elim
     (le-or-lt (length s) j)
 
 -- the whole source
-pub whole-form : (s : Bytes) (j m : ℕ) (t : Syntax pattern) → BodyEnds s j (tail t) → flag s j ≡ 1 → j < length s → scanned s (after-pattern (top []) t) j m ≡ refused FORM j
+pub whole-form : (s : Bytes) (j m : ℕ) (t : Syntax pattern) → BodyEnds s j (tail t) → ends-at s j ≡ 1 → j < length s → scanned s (after-pattern (top []) t) j m ≡ refused FORM j
 unfolding Ends-not
 whole-form s j m t o f w = rests s j w t (top []) m o f tt
 

@@ -16,7 +16,7 @@ use Rattle.scanner.specs.declared.body.LiteralRead.{LiteralRead}
 use Rattle.scanner.specs.declared.body.LiteralRead.the-variants as literals
 use Rattle.compiler.specs.declared.reader.ReaderState.{ReaderState}
 use Rattle.compiler.specs.declared.reader.Parsed.the-variants as parsed
-use Rattle.scanner.specs.Places.{flag}
+use Rattle.scanner.specs.Places.{ends-at}
 use Rattle.table.specs.Write.{rec-of, put-records}
 use Rattle.scanner.specs.Bodies.{CodesFromPost, LiteralIs, QuotedPost}
 use Rattle.compiler.specs.Readers.{BodyEnds, ReadLeafPost, ReadCodesPost, ReadLiteralPost}
@@ -26,7 +26,7 @@ state at n p = record { at = at; atoms = n; pool = p }
 
 module _ (s : Bytes) (i n p : ℕ) (rep : Repeat) (recs recs′ : Bytes) where
   module _ (r : LettersRead) (read : CodesFromPost s i r) where
-    pub codes-done : (set f : ℕ) (next : Cursor) → r ≡ letters.Set set next → f ≡ flag s (next .at)
+    pub codes-done : (set f : ℕ) (next : Cursor) → r ≡ letters.Set set next → f ≡ ends-at s (next .at)
         → recs′ ≡ put-records recs n (rec-of codes-kind f rep set 0 ∷ []) → p ≤ i → ReadCodesPost s i n p rep recs recs′ (parsed.Done (state next (n + 1) p))
     unfolding CodesFromPost ReadLeafPost records size pool kind-field a-field b-field BodyEnds
     codes-done set f next e g w h =
@@ -55,7 +55,7 @@ module _ (s : Bytes) (i n p : ℕ) (rep : Repeat) (recs recs′ : Bytes) where
     unfolding QuotedPost
     literal-is next end e = subst (λ r. QuotedPost s i p text text′ r) e read
 
-    pub literal-done : (f : ℕ) (next : Cursor) (end : ℕ) → r ≡ literals.Value next end → f ≡ flag s (next .at)
+    pub literal-done : (f : ℕ) (next : Cursor) (end : ℕ) → r ≡ literals.Value next end → f ≡ ends-at s (next .at)
         → recs′ ≡ put-records recs n (rec-of literal-kind f rep p (end - p) ∷ []) → ReadLiteralPost s i n p rep recs recs′ text text′ (parsed.Done (state next (n + 1) end))
     unfolding ReadLeafPost records size pool kind-field a-field b-field BodyEnds
     literal-done f next end e g w =

@@ -28,7 +28,7 @@ use Rattle.compiler.specs.declared.reader.Parsed.{Parsed}
 use Rattle.compiler.specs.declared.reader.Parsed.the-variants as parsed
 use Rattle.compiler.specs.declared.reader.Grouped.{Grouped}
 use Rattle.compiler.specs.declared.reader.Grouped.the-variants as grouped
-use Rattle.scanner.specs.Places.{flag, ByteIs, ClassIs, LetterIs, ClassPost, SeparatorPost}
+use Rattle.scanner.specs.Places.{ends-at, ByteIs, ClassIs, LetterIs, ClassPost, SeparatorPost}
 use Rattle.scanner.specs.Scans.{scanned}
 use Rattle.pattern.specs.Stores.{store-at}
 use Rattle.table.specs.Write.{rec-of, put-records}
@@ -58,9 +58,9 @@ letter-before s at b later x = rw (letter-place s at b later x) x
 
 -- an atom from its count and its body
 module _ (s : Bytes) (st : ReaderState) (d : ℕ) (recs text : Bytes) where
-  pub atom-fault : (r : CountResult) (f q : ℕ) (recs′ text′ : Bytes) → r ≡ counted.Fault f q → CountPost s (st .at .at) (st .atoms) r → ReadAtomPost s st d recs recs′ text text′ (parsed.Fault f q)
+  pub atom-refused : (r : CountResult) (f q : ℕ) (recs′ text′ : Bytes) → r ≡ counted.Fault f q → CountPost s (st .at .at) (st .atoms) r → ReadAtomPost s st d recs recs′ text text′ (parsed.Fault f q)
   unfolding CountPost ReadAtomPost
-  atom-fault r f q recs′ text′ e h = let x : CountRefused s (st .at .at) (st .atoms) f q = subst (λ r. CountPost s (st .at .at) (st .atoms) r) e h in record { scan = λ k z. x .scan k }
+  atom-refused r f q recs′ text′ e h = let x : CountRefused s (st .at .at) (st .atoms) f q = subst (λ r. CountPost s (st .at .at) (st .atoms) r) e h in record { scan = λ k z. x .scan k }
 
   module _ (ready : ReadPre s st d) (rep : Repeat) (at : Cursor) (c : CountIs s (st .at .at) (st .atoms) rep at) (r : Class) (h : ClassPost s (at .at) r) where
     -- a leaf that the scan enters after the count
@@ -77,7 +77,7 @@ module _ (s : Bytes) (st : ReaderState) (d : ℕ) (recs text : Bytes) where
           high = m;
           body = x .body;
           moved = record { on = omega (arith, c .onward .on, x .on); within = x .within; atoms = omega (arith, c .room, x .atoms); pool = x .fits };
-          wrote = wrote-leaf (flag s (u .at .at)) l m (x .body) rep (st .atoms) (st .pool) (u .atoms) (u .pool) recs recs′ text text′
+          wrote = wrote-leaf (ends-at s (u .at .at)) l m (x .body) rep (st .atoms) (st .pool) (u .atoms) (u .pool) recs recs′ text text′
               (x .alone) (x .single) (c .rep-is) (x .atoms) (x .pooled) (x .recs-are) (w (pool (x .body)) (x .text-is));
           scan = λ k z. c .scan k ∙ y k ∙ x .scan l m k (suc (st .atoms)) ∙ rw (x .atoms, add-one);
           body-ends = x .body-ends;
@@ -126,7 +126,7 @@ module _ (s : Bytes) (st : ReaderState) (d : ℕ) (recs text : Bytes) where
             let v : GroupRefused s (later .at) (st .atoms + 1) (d + 1) f q = subst (λ g. ReadGroupPost s (state later (st .atoms + 1) (st .pool)) (d + 1) recs recs′ text text′ g) y x in
             record { scan = λ k z. opened k z ∙ v .scan k (low (c .state)) (high (c .state)) [] (omega arith) }
 
-        pub atom-group : (u : ReaderState) (b f : ℕ) (recs₁ recs₂ text′ : Bytes) → GroupIs s (state later (st .atoms + 1) (st .pool)) (d + 1) recs recs₁ text text′ u b → f ≡ flag s (u .at .at)
+        pub atom-group : (u : ReaderState) (b f : ℕ) (recs₁ recs₂ text′ : Bytes) → GroupIs s (state later (st .atoms + 1) (st .pool)) (d + 1) recs recs₁ text text′ u b → f ≡ ends-at s (u .at .at)
             → recs₂ ≡ put-records recs₁ (st .atoms) (rec-of group-kind f rep b (u .atoms) ∷ []) → ReadAtomPost s st d recs recs₂ text text′ (parsed.Done u)
         unfolding ReadAtomPost BodyEnds fork
         atom-group u b f recs₁ recs₂ text′ v g w =
@@ -137,7 +137,7 @@ module _ (s : Bytes) (st : ReaderState) (d : ℕ) (recs text : Bytes) where
               high = high (c .state);
               body = group (v .tree);
               moved = record { on = omega (arith, m .on, c .onward .on, o .past); within = m .within; atoms = m .atoms; pool = m .pool };
-              wrote = wrote-group (flag s (u .at .at)) (low (c .state)) (high (c .state)) (v .tree) rep b (st .atoms) (st .pool) (u .atoms) (u .pool) recs recs₁ recs₂ text text′ (c .rep-is) (v .count) (v .wrote) (rw g at w);
+              wrote = wrote-group (ends-at s (u .at .at)) (low (c .state)) (high (c .state)) (v .tree) rep b (st .atoms) (st .pool) (u .atoms) (u .pool) recs recs₁ recs₂ text text′ (c .rep-is) (v .count) (v .wrote) (rw g at w);
               scan = λ k z. opened k z ∙ v .scan k (low (c .state)) (high (c .state)) [] (omega arith);
               body-ends = tt;
             }
@@ -160,11 +160,11 @@ module _ (s : Bytes) (st : ReaderState) (d : ℕ) (recs recs₁ text text₁ : B
   unfolding ReadAtomPost ReadPatternPost
   pattern-fault a f q e h = subst (λ a. ReadAtomPost s st d recs recs₁ text text₁ a) e h
 
-  module _ (u : ReaderState) (a : AtomIs s st d recs recs₁ text text₁ u) (f : ℕ) (g : f ≡ flag s (u .at .at)) where
+  module _ (u : ReaderState) (a : AtomIs s st d recs recs₁ text text₁ u) (f : ℕ) (g : f ≡ ends-at s (u .at .at)) where
     pub pattern-last : ¬ (f ≡ 0) → ReadPatternPost s st d recs recs₁ text text₁ (parsed.Done u)
     unfolding ReadPatternPost after-pattern tail
     pattern-last o =
-        let y : flag s (u .at .at) ≡ 1 = flag-one s (u .at .at) (λ e. o (g ∙ e)) in
+        let y : ends-at s (u .at .at) ≡ 1 = flag-one s (u .at .at) (λ e. o (g ∙ e)) in
         record {
           tree = last (repeat (a .low) (a .high) (a .body));
           moved = a .moved;
@@ -219,7 +219,7 @@ module _ (s : Bytes) (d : ℕ) (st now : ReaderState) (recs recs₁ text text₁
   pub going-fault : (a : Parsed) (f q : ℕ) → a ≡ parsed.Fault f q → ReadAtomPost s now d recs₁ recs₂ text₁ text₂ a → ReadPatternPost s st d recs recs₂ text text₂ (parsed.Fault f q)
   going-fault a f q e h = g .rest recs₂ text₂ (parsed.Fault f q) (pattern-fault s now d recs₁ recs₂ text₁ text₂ a f q e h)
 
-  module _ (u : ReaderState) (a : AtomIs s now d recs₁ recs₂ text₁ text₂ u) (f : ℕ) (e : f ≡ flag s (u .at .at)) where
+  module _ (u : ReaderState) (a : AtomIs s now d recs₁ recs₂ text₁ text₂ u) (f : ℕ) (e : f ≡ ends-at s (u .at .at)) where
     pub read-pattern-last : ¬ (f ≡ 0) → ReadPatternPost s st d recs recs₂ text text₂ (parsed.Done u)
     read-pattern-last o = g .rest recs₂ text₂ (parsed.Done u) (pattern-last s now d recs₁ recs₂ text₁ text₂ u a f e o)
 

@@ -18,7 +18,7 @@ use Rattle.compiler.specs.declared.reader.Parsed.{Parsed}
 use Rattle.compiler.specs.declared.reader.Parsed.the-variants as parsed
 use Rattle.compiler.specs.declared.reader.Grouped.{Grouped}
 use Rattle.compiler.specs.declared.reader.Grouped.the-variants as grouped
-use Rattle.scanner.specs.Places.{flag, ClassNot}
+use Rattle.scanner.specs.Places.{ends-at, ClassNot}
 use Rattle.scanner.specs.Scans.{scanned}
 use Rattle.pattern.specs.Stores.{store-at}
 use Rattle.table.specs.Write.{rec-of, records-room, put-records}
@@ -72,7 +72,7 @@ pub record LeafIs (s : Bytes) (from : Inside) (P : Bytes → Type 0) (i n p : �
   pub fits : u .pool ≤ u .at .at
   pub atoms : u .atoms ≡ n + 1
   pub pooled : u .pool ≡ p + length (pool body)
-  pub recs-are : recs′ ≡ put-records recs n (rec-of (kind-field body) (flag s (u .at .at)) rep (a-field body p) (b-field body n) ∷ [])
+  pub recs-are : recs′ ≡ put-records recs n (rec-of (kind-field body) (ends-at s (u .at .at)) rep (a-field body p) (b-field body n) ∷ [])
   pub text-is : P (pool body)
   pub scan : (l : ℕ) (h : Option ℕ) (k : Stack) (m : ℕ) → scanned s (from l h k) i m ≡ scanned s (after l h body, k) (u .at .at) m
   pub body-ends : BodyEnds s (u .at .at) body
@@ -104,7 +104,7 @@ pub record AtomIs (s : Bytes) (st : ReaderState) (d : ℕ) (recs recs′ text te
   pub high : Option ℕ
   pub body : Syntax body
   pub moved : Moved s st u
-  pub wrote : Wrote (flag s (u .at .at)) (repeat low high body) (st .atoms) (st .pool) (u .atoms) (u .pool) recs recs′ text text′
+  pub wrote : Wrote (ends-at s (u .at .at)) (repeat low high body) (st .atoms) (st .pool) (u .atoms) (u .pool) recs recs′ text text′
   pub scan : (k : Stack) → depth k ≡ d → scanned s (counting empty, k) (st .at .at) (st .atoms) ≡ scanned s (after low high body, k) (u .at .at) (u .atoms)
   pub body-ends : BodyEnds s (u .at .at) body
 
@@ -118,7 +118,7 @@ pub record PatternIs (s : Bytes) (st : ReaderState) (d : ℕ) (recs recs′ text
   pub wrote : Wrote 1 tree (st .atoms) (st .pool) (u .atoms) (u .pool) recs recs′ text text′
   pub scan : (k : Stack) → depth k ≡ d → scanned s (counting empty, k) (st .at .at) (st .atoms) ≡ scanned s (after-pattern k tree) (u .at .at) (u .atoms)
   pub body-ends : BodyEnds s (u .at .at) (tail tree)
-  pub over : flag s (u .at .at) ≡ 1
+  pub over : ends-at s (u .at .at) ≡ 1
 
 unfoldable pub ReadPatternPost : Bytes → ReaderState → ℕ → (recs recs′ text text′ : Bytes) → Parsed → Type 0
 ReadPatternPost s st d recs recs′ text text′ (parsed.Done u) = PatternIs s st d recs recs′ text text′ u

@@ -16,7 +16,7 @@ use scanner::count::count;
 use scanner::cursor::Class;
 use scanner::cursor::Cursor;
 use scanner::cursor::Separator;
-use scanner::cursor::last;
+use scanner::cursor::ends_at;
 use table::write::put_record;
 
 // How far a reader has come: the place in the source, the atoms so far, and the length of the pool.
@@ -53,7 +53,7 @@ fn read_codes(
 {
     match codes_from(s, first, c) {
         LettersRead::Set(set, next) => {
-            put_record(recs, n, kind::CODES, last(s, next), rep, set as u16, 0);
+            put_record(recs, n, kind::CODES, ends_at(s, next), rep, set as u16, 0);
             Parsed::Done(ReaderState {
                 at: next,
                 atoms: n + 1,
@@ -83,7 +83,7 @@ fn read_literal(
                 recs,
                 n,
                 kind::LITERAL,
-                last(s, next),
+                ends_at(s, next),
                 rep,
                 p as u16,
                 (end - p) as u16,
@@ -113,7 +113,7 @@ pub fn read_pattern(
         match read_atom(s, from, depth, recs, pool) {
             Parsed::Done(next) => {
                 let at = next.at;
-                if last(s, at) != 0 {
+                if ends_at(s, at) != 0 {
                     return Parsed::Done(next);
                 }
                 from = next;
@@ -150,7 +150,7 @@ fn read_atom(s: &[u8], st: ReaderState, depth: usize, recs: &mut [u8], pool: &mu
                             recs,
                             n,
                             kind::GROUP,
-                            last(s, stop),
+                            ends_at(s, stop),
                             rep,
                             k as u16,
                             end.atoms as u16,

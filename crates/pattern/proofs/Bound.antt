@@ -46,10 +46,10 @@ unfolding sum
 row n zero h = omega arith
 row n (suc c) h = omega (arith, row n c (omega arith))
 
-rows : (c : ℕ) → 6 * sum c (λ j. sum (suc j) (λ i. suc j - i)) ≡ c * (c + 1) * (c + 2)
+row-sums : (c : ℕ) → 6 * sum c (λ j. sum (suc j) (λ i. suc j - i)) ≡ c * (c + 1) * (c + 2)
 unfolding sum
-rows zero = omega arith
-rows (suc c) = omega (arith, rows c, row (suc c) (suc c) (omega arith))
+row-sums zero = omega arith
+row-sums (suc c) = omega (arith, row-sums c, row (suc c) (suc c) (omega arith))
 
 total-le : (f : Syntax pattern → ℕ) (b : ℕ) → ((x : Syntax pattern) → f x ≤ b) → (xs : List (Syntax pattern)) → total f xs ≤ length xs * b
 unfolding total
@@ -97,4 +97,4 @@ module _ (l : Bytes) where
   unfolding all-places stretches trials trial-bound
   bound p =
       rw (← nodes-size p)
-      (omega (arith, total-le (atom-trials l) (suc (length l) * all-places (length l)) atom-trials-le (nodes p), ap (λ x. length (nodes p) * suc (length l) * x) (rows (suc (length l)))))
+      (omega (arith, total-le (atom-trials l) (suc (length l) * all-places (length l)) atom-trials-le (nodes p), ap (λ x. length (nodes p) * suc (length l) * x) (row-sums (suc (length l)))))

@@ -14,7 +14,7 @@ use Rattle.pattern.specs.Scan.{longest-count}
 use Rattle.pattern.specs.Faults.{LongestCount}
 use Rattle.pattern.proofs.Tests.{On}
 use Rattle.pattern.proofs.Notation.{ByteIn, class-byte}
-use Rattle.pattern.proofs.ParserSound.{grow-count}
+use Rattle.pattern.proofs.ParserSound.{grow-so-far}
 use Rattle.pattern.proofs.ParserComplete.{state-append, state-exactly}
 
 -- the next byte does not belong to the count
@@ -40,7 +40,7 @@ extends (c ∷ s) r u h = go (char-class c) refl (class-byte c) (λ r′ l. exte
 
     go : (x : CharClass) → char-class c ≡ x → ByteIn x c → ((r′ : CountState) → CountSoFar (top []) r′ (u ++ c ∷ []) → Extends (longest-count r′ s) (u ++ c ∷ []) s)
         → Extends (elim x [ count-char m ↦ elim (grow r m c) [ none ↦ r | some r′ ↦ longest-count r′ s ] | body-start b ↦ r | branch-end e ↦ r ]) u (c ∷ s)
-    go (count-char m) k b f = more m k (grow r m c) refl (grow-count (top []) r m c u k b h) f
+    go (count-char m) k b f = more m k (grow r m c) refl (grow-so-far (top []) r m c u k b h) f
     go (body-start b) k e f = ([], c ∷ s, refl, rw append-nil h, λ m i. absurd (let z : _≡_ {A = ℕ} 0 1 = cc in omega arith))
     go (branch-end b) k e f = ([], c ∷ s, refl, rw append-nil h, λ m i. absurd (let z : _≡_ {A = ℕ} 0 1 = cc in omega arith))
 
@@ -82,9 +82,9 @@ count-char-at [] c v h = h .0
 count-char-at (x ∷ u) c v h = count-char-at u c v (h .1)
 
 -- where a count leads
-count-leads : (r : CountState) (u : Bytes) → CountSoFar (top []) r u → state-after start u ≡ some (counting r, top [])
+count-state-leads : (r : CountState) (u : Bytes) → CountSoFar (top []) r u → state-after start u ≡ some (counting r, top [])
 unfolding ReadSoFar Cut StackSoFar AtomsBefore
-count-leads r u h = state-exactly u (counting r, top []) .1 ([], u, refl, refl, h)
+count-state-leads r u h = state-exactly u (counting r, top []) .1 ([], u, refl, refl, h)
 
 no-step : (q : ParserState) (c : ℕ) (x : Bytes) → step q c ≡ none → state-after q (c ∷ x) ≡ none
 unfolding state-after
@@ -96,7 +96,7 @@ no-longer r r′ w c x y h halts g =
     let (m, k) = count-char-at w c x (so-far-chars r′ (w ++ c ∷ x) g) in
     let q : ParserState = (counting r, top []) in
     let e : step q c ≡ none = ap (λ z. move (counting r) (top []) z c) k ∙ ap (counted (top [])) (halts m k) in
-    Option·none-ne-some _ (sym (no-step q c x e) ∙ sym (state-append w start q (c ∷ x) (count-leads r w h)) ∙ count-leads r′ (w ++ c ∷ x) g)
+    Option·none-ne-some _ (sym (no-step q c x e) ∙ sym (state-append w start q (c ∷ x) (count-state-leads r w h)) ∙ count-state-leads r′ (w ++ c ∷ x) g)
 
 -- the count that the scan looks at is the longest
 pub count-longest : (s : Bytes) → LongestCount (longest-count empty s) s

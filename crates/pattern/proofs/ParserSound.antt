@@ -29,21 +29,21 @@ next-stack (within k low high others before) a u v (x, y, z, w, e, f, g, o, b) s
     (x, y, z, w ++ v, rw e (simp append-assoc), f, g, o, (w, v, refl, b, s))
 
 -- a count begins
-first-count : (k : Stack) (m : CountChar) (c : ℕ) → char-class c ≡ count-char m → ByteIn (count-char m) c → On (grow empty m c) (λ r. CountSoFar k r (c ∷ []))
+first-so-far : (k : Stack) (m : CountChar) (c : ℕ) → char-class c ≡ count-char m → ByteIn (count-char m) c → On (grow empty m c) (λ r. CountSoFar k r (c ∷ []))
 unfolding grow CountSoFar
-first-count k digit c d e = Number.one c d
-first-count k point c d e = ([], rw e, missing)
+first-so-far k digit c d e = Number.one c d
+first-so-far k point c d e = ([], rw e, missing)
 
 -- a count goes on
-pub grow-count : (k : Stack) (r : CountState) (m : CountChar) (c : ℕ) (u : Bytes) → char-class c ≡ count-char m → ByteIn (count-char m) c → CountSoFar k r u → On (grow r m c) (λ r′. CountSoFar k r′ (u ++ c ∷ []))
+pub grow-so-far : (k : Stack) (r : CountState) (m : CountChar) (c : ℕ) (u : Bytes) → char-class c ≡ count-char m → ByteIn (count-char m) c → CountSoFar k r u → On (grow r m c) (λ r′. CountSoFar k r′ (u ++ c ∷ []))
 unfolding grow CountSoFar
-grow-count k empty m c u d e (h, o) = rw h (unfold grow CountSoFar in first-count k m c d e)
-grow-count k (first n) digit c u d e h = Number.more h c d
-grow-count k (first n) point c u d e h = (u, rw e, given h)
-grow-count k (pointed n) digit c u d e (x, f, h) = (x, c ∷ [], rw f (simp append-assoc), h, Number.one c d)
-grow-count k (pointed n) point c u d e h = tt
-grow-count k (second n m) digit c u d e (x, y, f, h, g) = (x, y ++ c ∷ [], rw f (simp append-assoc), h, Number.more g c d)
-grow-count k (second n m) point c u d e h = tt
+grow-so-far k empty m c u d e (h, o) = rw h (unfold grow CountSoFar in first-so-far k m c d e)
+grow-so-far k (first n) digit c u d e h = Number.more h c d
+grow-so-far k (first n) point c u d e h = (u, rw e, given h)
+grow-so-far k (pointed n) digit c u d e (x, f, h) = (x, c ∷ [], rw f (simp append-assoc), h, Number.one c d)
+grow-so-far k (pointed n) point c u d e h = tt
+grow-so-far k (second n m) digit c u d e (x, y, f, h, g) = (x, y ++ c ∷ [], rw f (simp append-assoc), h, Number.more g c d)
+grow-so-far k (second n m) point c u d e h = tt
 
 abbrev Landed : Option ParserState → Bytes → Type 0
 Landed o u = On o (λ q. ReadSoFar (q .0) (q .1) u)
@@ -103,7 +103,7 @@ quoted-lands low high value k barred c u d e h = tt
 
 move-lands : (p : Phase) (k : Stack) (x : CharClass) (c : ℕ) (u : Bytes) → char-class c ≡ x → ByteIn x c → ReadSoFar p k u → Landed (move p k x c) (u ++ c ∷ [])
 unfolding move ReadSoFar Cut CountSoFar
-move-lands (counting r) k (count-char m) c u d e (x, y, f, h, g) = rw (f, append-assoc) (counted-lands k (grow r m c) x (y ++ c ∷ []) h (grow-count k r m c y d e g))
+move-lands (counting r) k (count-char m) c u d e (x, y, f, h, g) = rw (f, append-assoc) (counted-lands k (grow r m c) x (y ++ c ∷ []) h (grow-so-far k r m c y d e g))
 move-lands (counting empty) k (body-start b) c u d e h = tt
 move-lands (counting (first n)) k (body-start b) c u d e (x, y, f, h, g) = rw f (enter-lands n (some n) k b c x y d e h (exact g))
 move-lands (counting (pointed n)) k (body-start b) c u d e (x, y, f, h, (z, i, g)) = rw f (enter-lands n none k b c x y d e h (rw i (from g)))
@@ -111,7 +111,7 @@ move-lands (counting (second n m)) k (body-start b) c u d e (x, y, f, h, (z, w, 
 move-lands (counting r) k (branch-end b) c u d e h = tt
 move-lands (inside low high value) k x c u d e h = quoted-lands low high value k (literal-class c) c u refl (literal-byte c) h
 move-lands (after low high b) k (count-char m) c u d e (x, y, f, h, g) =
-    rw f (counted-lands (next k (repeat low high b)) (grow empty m c) (x ++ y) (c ∷ []) (next-stack k (repeat low high b) x y h g) (first-count (next k (repeat low high b)) m c d e))
+    rw f (counted-lands (next k (repeat low high b)) (grow empty m c) (x ++ y) (c ∷ []) (next-stack k (repeat low high b) x y h g) (first-so-far (next k (repeat low high b)) m c d e))
 move-lands (after low high b) k (body-start x) c u d e h = extend-lands low high b k x c u d e h
 move-lands (after low high b) k (branch-end x) c u d e (y, z, f, h, g) = rw f (leave-lands k (repeat low high b) x c y z e h g)
 

@@ -19,14 +19,14 @@ use Rattle.pattern.proofs.Tests.{and-both, passed, cond-case, all, all-
 use Rattle.pattern.proofs.Notation.{literal-byte}
 use Rattle.pattern.proofs.Decimal.{most, le-most}
 
-digit-is : (c : ℕ) → 48 ≤ c → c ≤ 57 → char-class c ≡ count-char digit
+digit-char : (c : ℕ) → 48 ≤ c → c ≤ 57 → char-class c ≡ count-char digit
 unfolding char-class between
-digit-is c h k = rw (passed (leb 48 c) (le→leb 48 c h), passed (leb c 57) (le→leb c 57 k))
+digit-char c h k = rw (passed (leb 48 c) (le→leb 48 c h), passed (leb c 57) (le→leb c 57 k))
 
 one-digit : (n : ℕ) → n < 10 → Number n ((48 + n) ∷ [])
 one-digit n h =
     let e : (48 + n) - 48 ≡ n = omega arith in
-    rw e at (Number.one (48 + n) (digit-is (48 + n) (omega arith) (omega arith)))
+    rw e at (Number.one (48 + n) (digit-char (48 + n) (omega arith) (omega arith)))
 
 decimal-number : (f n : ℕ) → n ≤ most f → Number n (decimal-of f n)
 unfolding decimal-of most
@@ -37,7 +37,7 @@ decimal-number (suc f) n h = go (ltb n 10) (leb→le (suc n) 10) (decimal-number
     go true t r = one-digit n (t tt)
     go false t r =
         let e : 10 * (n / 10) + ((48 + n % 10) - 48) ≡ n = omega arith in
-        rw e at (Number.more r (48 + n % 10) (digit-is (48 + n % 10) (omega arith) (omega arith)))
+        rw e at (Number.more r (48 + n % 10) (digit-char (48 + n % 10) (omega arith) (omega arith)))
 
 number-printed : (n : ℕ) → Number n (decimal n)
 unfolding decimal
@@ -65,9 +65,9 @@ unfoldable pub Printable : Bytes → Type 0
 Printable [] = Unit {0}
 Printable (c ∷ v) = T (between 32 126 c) × Printable v
 
-plain-is : (c : ℕ) → T (between 32 126 c) → eqb c 34 ≡ false → literal-class c ≡ plain
+plain-char : (c : ℕ) → T (between 32 126 c) → eqb c 34 ≡ false → literal-class c ≡ plain
 unfolding literal-class
-plain-is c t e = rw (e, passed (between 32 126 c) t)
+plain-char c t e = rw (e, passed (between 32 126 c) t)
 
 pub quoted-printed : (v : Bytes) (a : Bytes) (u : Bytes) → Quoted a u → Printable v → Quoted (a ++ v) (u ++ double v)
 unfolding double Printable
@@ -77,7 +77,7 @@ quoted-printed (c ∷ v) a u h (p, r) = go (eqb c 34) refl (eqb→eq c 34) (λ x
     go : (b : Bool) → eqb c 34 ≡ b → (T b → c ≡ 34) → ((x : Bytes) (y : Bytes) → Quoted x y → Quoted (x ++ v) (y ++ double v))
         → Quoted (a ++ c ∷ v) (u ++ (elim b [ true ↦ 34 ∷ 34 ∷ double v | false ↦ c ∷ double v ]))
     go true e t f = rw (t tt) (simp append-assoc at (f (a ++ 34 ∷ []) (u ++ 34 ∷ 34 ∷ []) (Quoted.quote h)))
-    go false e t f = simp append-assoc at (f (a ++ c ∷ []) (u ++ c ∷ []) (byte h c (plain-is c p e)))
+    go false e t f = simp append-assoc at (f (a ++ c ∷ []) (u ++ c ∷ []) (byte h c (plain-char c p e)))
 
 -- letters after letters
 union : ℕ → Bytes → ℕ
@@ -95,20 +95,20 @@ lettered : Bytes → Bool
 lettered [] = true
 lettered (c ∷ s) = a-letter (char-class c) && lettered s
 
-letter-is : (x : CharClass) → T (a-letter x) → x ≡ body-start letter
+letter-char : (x : CharClass) → T (a-letter x) → x ≡ body-start letter
 unfolding a-letter
-letter-is (count-char m) t = absurd t
-letter-is (body-start letter) t = refl
-letter-is (body-start quote-starts) t = absurd t
-letter-is (body-start opening) t = absurd t
-letter-is (branch-end e) t = absurd t
+letter-char (count-char m) t = absurd t
+letter-char (body-start letter) t = refl
+letter-char (body-start quote-starts) t = absurd t
+letter-char (body-start opening) t = absurd t
+letter-char (branch-end e) t = absurd t
 
 letters-on : (s : Bytes) (set : ℕ) (u : Bytes) → Letters set u → T (lettered s) → Letters (union set s) (u ++ s)
 unfolding union lettered
 letters-on [] set u h t = rw append-nil h
 letters-on (c ∷ s) set u h t =
     let (a, b) = and-both (a-letter (char-class c)) (lettered s) t in
-    simp append-assoc at (letters-on s (bitOr set (bit c)) (u ++ c ∷ []) (Letters.more h c (letter-is (char-class c) a)) b)
+    simp append-assoc at (letters-on s (bitOr set (bit c)) (u ++ c ∷ []) (Letters.more h c (letter-char (char-class c) a)) b)
 
 derived-as : Bytes → ℕ → Bool
 derived-as [] set = eqb set 0
@@ -127,7 +127,7 @@ letters-printed set h l = go (print-set all-codes set) (all-at 128 (λ x. derive
     go (c ∷ s) t =
         let (a, b) = and-both (a-letter (char-class c)) (lettered s && eqb (union (bit c) s) set) (unfold derived-as in t) in
         let (x, y) = and-both (lettered s) (eqb (union (bit c) s) set) b in
-        rw (eqb→eq (union (bit c) s) set y) at (letters-on s (bit c) (c ∷ []) (Letters.one c (letter-is (char-class c) a)) x)
+        rw (eqb→eq (union (bit c) s) set y) at (letters-on s (bit c) (c ∷ []) (Letters.one c (letter-char (char-class c) a)) x)
 
 bit-some : (ls : List Code) (b c : ℕ) → 0 < b → 0 < bit-among ls b c
 unfolding bit-among

@@ -16,7 +16,7 @@ use Rattle.scanner.specs.declared.cursor.Byte.{Byte}
 use Rattle.scanner.specs.declared.cursor.Byte.the-variants as byte
 use Rattle.scanner.specs.declared.cursor.Class.{Class}
 use Rattle.scanner.specs.declared.cursor.Class.the-variants as class
-use Rattle.scanner.specs.Places.{digit-class, letter-class, is-digit, is-letter, is-plain, count-flag, flag, ByteIs, ClassIs, LetterIs, ClassNot, BytePost, ClassPost}
+use Rattle.scanner.specs.Places.{digit-class, letter-class, is-digit, is-letter, is-plain, ends-class, ends-at, ByteIs, ClassIs, LetterIs, ClassNot, BytePost, ClassPost}
 use Rattle.scanner.proofs.cursor.Class.{the-type}
 
 -- the code's tests of a byte, each compared at all 256 of them
@@ -109,18 +109,18 @@ module _ (s : Bytes) (at : ℕ) where
     pub not-only : (b : ℕ) (x : CharClass) → (Spelt x c → c ≡ b) → ¬ (c ≡ b) → ClassNot s at x
     not-only b x f d = not-class x (only-at c b x f d)
 
-    pub flag-is : flag s at ≡ count-flag (char-class c)
-    unfolding flag
+    pub flag-is : ends-at s at ≡ ends-class (char-class c)
+    unfolding ends-at
     flag-is = simp (lt-ltb at (length s) (is .within)) (rw (is .value))
 
-  pub flag-end : length s ≤ at → flag s at ≡ 1
-  unfolding flag
+  pub flag-end : length s ≤ at → ends-at s at ≡ 1
+  unfolding ends-at
   flag-end h = simp (le-ltb at (length s) h)
 
-pub flag-other : (b : ℕ) → is-digit b ≡ false → ¬ (b ≡ 46) → count-flag (char-class b) ≡ 1
+pub flag-other : (b : ℕ) → is-digit b ≡ false → ¬ (b ≡ 46) → ends-class (char-class b) ≡ 1
 flag-other b e d = go (char-class b) (digit-not b e) (only-at b 46 (count-char point) (λ h. h) d)
   where
-    go : (x : CharClass) → ¬ (x ≡ count-char digit) → ¬ (x ≡ count-char point) → count-flag x ≡ 1
+    go : (x : CharClass) → ¬ (x ≡ count-char digit) → ¬ (x ≡ count-char point) → ends-class x ≡ 1
     go (count-char digit) u v = absurd (u refl)
     go (count-char point) u v = absurd (v refl)
     go (body-start x) u v = refl

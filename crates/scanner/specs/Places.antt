@@ -1,4 +1,4 @@
--- The byte at a place of a source: what the cursor's methods and `last` promise. Private: a model for this crate's contracts.
+-- The byte at a place of a source: what the cursor's methods and `ends_at` promise. Private: a model for this crate's contracts.
 use mathlib.Core.Path.{_≡_}
 use mathlib.Core.Bool.{Bool, true, false, cond}
 use Prim.Native.Nat.{ℕ, suc, _-_, _≤_, _<_}
@@ -51,13 +51,13 @@ unfoldable pub is-plain : ℕ → Bool
 is-plain b = plain-text (literal-class b)
 
 -- 0 where an atom begins, else 1
-abbrev pub count-flag : CharClass → ℕ
-count-flag (count-char m) = 0
-count-flag (body-start b) = 1
-count-flag (branch-end e) = 1
+abbrev pub ends-class : CharClass → ℕ
+ends-class (count-char m) = 0
+ends-class (body-start b) = 1
+ends-class (branch-end e) = 1
 
-unfoldable pub flag : Bytes → ℕ → ℕ
-flag s at = cond (ltb at (length s)) (count-flag (class-at s at)) 1
+unfoldable pub ends-at : Bytes → ℕ → ℕ
+ends-at s at = cond (ltb at (length s)) (ends-class (class-at s at)) 1
 
 -- a cursor past a place, within the source
 pub record Onward (s : Bytes) (at : ℕ) (next : Cursor) : Type 0 where

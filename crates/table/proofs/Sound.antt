@@ -15,7 +15,7 @@ use Rattle.pattern.specs.Syntax.{pattern, atom, body, branches, Syntax, then, r
 use Rattle.pattern.specs.Within.{Fits, InLimits}
 use Rattle.pattern.specs.Table.{pool, branch-count, kind-field, a-field, b-field, high-field, Rec, rec, records, record-bytes}
 use Rattle.pattern.specs.Decode.{layout, record-at, high-of}
-use Rattle.table.specs.Checked.{all-plain, a-set, bind, only-if, text, leaf, closed, read-pattern, read-atom, read-branches}
+use Rattle.table.specs.Checked.{all-plain, a-set, bind, only-if, pool-slice, leaf, closed-group, read-pattern, read-atom, read-branches}
 use Rattle.table.proofs.Standing.{Clean, Set, both-placed}
 use Rattle.table.proofs.Options.{nothing, inside, after-some, only-some, choose-some, and-true}
 use Rattle.pattern.proofs.Records.{count-records}
@@ -89,10 +89,10 @@ module _ (s : Bytes) (A : ℕ) (laid : Laid s A) where
         pooled = omega arith;
       }
 
-  length-text : (p n : ℕ) → header-size + record-size * A + p + n ≤ length s → length (text s A p n) ≡ n
+  length-text : (p n : ℕ) → header-size + record-size * A + p + n ≤ length s → length (pool-slice s A p n) ≡ n
   length-text p n h = length-take n (drop (header-size + record-size * A + p) s) ∙ omega (arith, length-drop (header-size + record-size * A + p) s)
 
-  set-literal : (i p n d : ℕ) → all-plain (text s A p n) ≡ true → i ≤ A → header-size + record-size * A + p + n ≤ length s → (e : ℕ) → Set s A e (literal (text s A p n)) i p d
+  set-literal : (i p n d : ℕ) → all-plain (pool-slice s A p n) ≡ true → i ≤ A → header-size + record-size * A + p + n ≤ length s → (e : ℕ) → Set s A e (literal (pool-slice s A p n)) i p d
   unfolding records size pool record-bytes InLimits Clean
   set-literal i p n d h z v e =
       let m = length-text p n v in
@@ -134,9 +134,9 @@ module _ (s : Bytes) (A : ℕ) (laid : Laid s A) where
       (choose-some _ _ _ e)
 
   group-body : (f i p d : ℕ) (b : Syntax body) → SoundTo f → header-size + record-size * A + p ≤ length s → record-at s (layout s) i .kind ≡ 3
-      → only-if (ltb d depth-limit) (bind (read-branches s A f (record-at s (layout s) i .a) (suc i) p (suc d)) (closed s A (record-at s (layout s) i .b) i)) ≡ some b
+      → only-if (ltb d depth-limit) (bind (read-branches s A f (record-at s (layout s) i .a) (suc i) p (suc d)) (closed-group s A (record-at s (layout s) i .b) i)) ≡ some b
       → Bodied b i p d
-  unfolding closed kind-field a-field b-field records size pool InLimits Clean
+  unfolding closed-group kind-field a-field b-field records size pool InLimits Clean
   group-body f i p d b ih v k e =
       let (y, g) = only-some _ _ e in
       let (bs, r, g1) = after-some _ _ g in

@@ -36,10 +36,10 @@ unfoldable pub table-of : (n m : ℕ) → (recs text : Bytes) → Bytes
 table-of n m recs text = header n m (take (record-size * n) recs ++ take m text)
 
 -- what was answered and written; too little room is ROOM at this position
-abbrev pub output-of : (position : ℕ) → TableWritten → Bytes → Output
-output-of position (Length n) bytes = record { answer = result n 0; bytes = bytes }
-output-of position Room bytes = record { answer = refusal ROOM position; bytes = bytes }
+abbrev pub table-output : (position : ℕ) → TableWritten → Bytes → Output
+table-output position (Length n) bytes = record { answer = result n 0; bytes = bytes }
+table-output position Room bytes = record { answer = refusal ROOM position; bytes = bytes }
 
 -- the table in lent bytes, or ROOM at whatever position the caller answers
 pub record WriteTablePost (n m : ℕ) (recs text table : Bytes) (r : TableWritten) (table′ : Bytes) : Type 0 where
-  pub puts : (position : ℕ) → output-of position r table′ ≡ put position (table-of n m recs text) table
+  pub puts : (position : ℕ) → table-output position r table′ ≡ put position (table-of n m recs text) table

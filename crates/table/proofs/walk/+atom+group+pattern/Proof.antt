@@ -9,7 +9,7 @@ use borrow.Fn.PlainCycle.{Measures, is, falls, and}
 use Rattle.table.specs.Walk.{reach}
 use Rattle.table.proofs.Moves.{ready-leaf, ready-on, short-source, record-in}
 use Rattle.table.proofs.Steps.{atom-over, atom-unordered}
-use Rattle.table.proofs.Walks.{CountMeasured, leaf-bad, leaf-moved, leaf-passed, too-deep, inner-ready, group-bad, dest-ready, group-elsewhere, group-passed, PatternAt, pattern-at-start, going-bad, going-moved, pattern-at-last, going-other, pattern-at-more, GroupAt, group-at-start, group-at-over, branching-bad, branch-ready, group-at-last, group-at-more}
+use Rattle.table.proofs.Walks.{CountMeasured, leaf-bad, leaf-moved, leaf-passed, too-deep, inner-ready, group-bad, dest-ready, group-elsewhere, group-passed, WalkPatternAt, pattern-at-start, going-bad, going-moved, pattern-at-last, going-other, pattern-at-more, WalkGroupAt, group-at-start, group-at-over, branching-bad, branch-ready, group-at-last, group-at-more}
 use Rattle.table.proofs.walk.atom.Reads as atom
 use Rattle.table.proofs.walk.atom.Kinds as atom-kinds
 use Rattle.table.proofs.walk.+atom+group+pattern.Lts-atom as atom-lts
@@ -164,7 +164,7 @@ atom-returns-8 : (t : ℕ) → atom-lts.Need-returns-8 (atom-claims t) (atom-at 
 atom-returns-8 t c = record { past = tt; reads = atom-unordered _ _ _ _ _ (c .before .before .record-at .ensures) (c .before .before .before .if1 .left) (sym (c .before .is-ordered .ensures) ∙ c .if2 .left) }
 
 abbrev group-Inv-loop : group-lts.InvT-loop
-group-Inv-loop table atoms depth k from₀ left₀ from left = GroupAt table atoms depth left₀ from₀ from left
+group-Inv-loop table atoms depth k from₀ left₀ from left = WalkGroupAt table atoms depth left₀ from₀ from left
 
 abbrev group-μ-loop : group-lts.MeasureT-loop
 group-μ-loop table atoms depth k from₀ left₀ from left = left
@@ -205,7 +205,7 @@ group-returns-3 : (t : ℕ) → group-lts.Need-returns-3 (group-claims t) (group
 group-returns-3 t c = group-at-over (c .before .loop .inv) (omega arith)
 
 abbrev pattern-Inv-loop : pattern-lts.InvT-loop
-pattern-Inv-loop table atoms depth from₀ before₀ from before = PatternAt table atoms depth from₀ from before
+pattern-Inv-loop table atoms depth from₀ before₀ from before = WalkPatternAt table atoms depth from₀ from before
 
 abbrev pattern-μ-loop : pattern-lts.MeasureT-loop
 pattern-μ-loop table atoms depth from₀ before₀ from before = reach atoms from
