@@ -1,4 +1,4 @@
-// Planes of w x w cells in one lent slice: the one cell_index that works an index out. What a plane says of the stretch i to j
+// Planes of w x w cells in one lent slice: the one place that works an index out. What a plane says of the stretch i to j
 // stands in row i and in row j.
 ghost use mathlib.Core.Path.{_≡_};
 ghost use Prim.Native.Nat.{_+_, _*_, _≤_, _<_, _^_};
@@ -13,7 +13,7 @@ fn cell_index(w: usize, p: usize, i: usize, j: usize) -> usize
     (p * w + i) * w + j
 }
 
-// The cell of cell (p, i, j): 1 where plane p holds of the stretch i to j, else 0.
+// The byte of cell (p, i, j): 1 where plane p holds of the stretch i to j, else 0.
 pub fn cell(scratch: &[u8], w: usize, p: usize, i: usize, j: usize) -> u8
     requires { ⌜ i < w ⌝ ∗ ⌜ j < w ⌝ ∗ ⌜ InRoom (now scratch) w p ⌝ }
     ensures { λ r. ⌜ r ≡ cell (now (scratch .entry)) w p i j ⌝ }
@@ -35,7 +35,7 @@ fn bit_of(b: bool) -> u8
     if b { 1 } else { 0 }
 }
 
-// Makes plane p say b of the stretch i to j.
+// Sets both cells of the stretch i to j in plane p to b.
 pub fn set_stretch(scratch: &mut [u8], w: usize, p: usize, i: usize, j: usize, b: bool)
     requires { ⌜ i < w ⌝ ∗ ⌜ j < w ⌝ ∗ ⌜ InRoom (now scratch) w p ⌝ }
     ensures { λ _. ⌜ now (scratch .exit) ≡ stretch-set (now (scratch .entry)) w p i j (bitOf b) ⌝ }

@@ -182,7 +182,7 @@ impl Cursor {
     }
 }
 
-// 0 where an atom begins at the cursor, else 1: then the atom before it is the ends_at of its branch.
+// 0 where an atom begins at the cursor, else 1: then the atom before it ends its branch.
 pub fn ends_at(s: &[u8], at: Cursor) -> u8
     ensures { λ r. ⌜ r ≡ ends-at (now (s .entry)) (at .at) ⌝ }
 {

@@ -19,7 +19,7 @@ pub enum TextLength {
     Bad,
 }
 
-// The number_length of a repeat number.
+// How many digits a repeat number has.
 fn number_length(n: u16) -> usize
     ensures { λ r. ⌜ (r ≡ length (decimal n)) × (r ≤ 5) ⌝ }
 {
@@ -45,7 +45,7 @@ pub fn count_length(low: u16, high: u16) -> usize
     low_length(low) + 1 + number_length(high)
 }
 
-// The letters_length of a set.
+// How many letters a set has.
 pub fn letters_length(set: u16) -> usize
     requires { ⌜ set < set-limit ⌝ }
     ensures { λ r. ⌜ (r ≡ length (print-set all-codes set)) × (r ≤ 7) ⌝ }
