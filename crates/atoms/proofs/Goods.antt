@@ -17,7 +17,7 @@ use Rattle.pattern.proofs.RoundTrip.{tree-encode}
 use Rattle.pattern.proofs.Calls.{print-accepted, decoded-encode}
 use Rattle.table.specs.declared.Sizes.{Sizes}
 use Rattle.table.specs.declared.Tested.the-variants as verdict
-use Rattle.table.specs.Walk.{tested}
+use Rattle.table.specs.Tested.{tested}
 use Rattle.atoms.specs.Atoms.{GoodTable, atoms, node, head, AtomIn}
 
 -- ---- the test's answer
@@ -27,7 +27,7 @@ limited : (table : Bytes) (t : Syntax pattern) → decode table ≡ some t → L
 limited table t d = let (n, h, g) = accepted-exactly (print t) t .0 (print-accepted table t d) in g
 
 -- the table is good, and the sizes are of its tree
-pub record Sized (table : Bytes) (s : Sizes) : Type 0 where
+pub record GoodSizes (table : Bytes) (s : Sizes) : Type 0 where
   pub good : GoodTable table
   pub atoms-is : s .atoms ≡ atoms table
   pub top-is : s .top ≡ top-size (tree-of table)
@@ -35,11 +35,11 @@ pub record Sized (table : Bytes) (s : Sizes) : Type 0 where
   pub few : atoms table ≤ atom-limit
 
 module _ (table : Bytes) where
-  pub tested-good : (s : Sizes) → verdict.Good s ≡ tested (decode table) → Sized table s
+  pub tested-good : (s : Sizes) → verdict.Good s ≡ tested (decode table) → GoodSizes table s
   unfolding tested
   tested-good s e = go (decode table) refl e
     where
-      go : (o : Option (Syntax pattern)) → decode table ≡ o → verdict.Good s ≡ tested o → Sized table s
+      go : (o : Option (Syntax pattern)) → decode table ≡ o → verdict.Good s ≡ tested o → GoodSizes table s
       go none d e = let z : _≡_ {A = ℕ} 0 1 = cc in absurd (omega arith)
       go (some t) d e =
           let g = limited table t d in

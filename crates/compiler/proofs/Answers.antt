@@ -13,20 +13,20 @@ use Rattle.pattern.specs.Parser.{top, start}
 use Rattle.pattern.specs.Scan.{depth, Outcome, refused, accepted, scan, outcome}
 use Rattle.pattern.specs.Table.{pool, encode}
 use Rattle.pattern.specs.Answers.{Answer, refusal, Output, put, compiled, compileOf}
-use Rattle.pattern.proofs.ParserComplete.{ended}
-use Rattle.compiler.specs.declared.reader.State.{State}
+use Rattle.pattern.proofs.ParserComplete.{after-pattern}
+use Rattle.compiler.specs.declared.reader.ReaderState.{ReaderState}
 use Rattle.compiler.specs.declared.reader.Parsed.{Parsed}
 use Rattle.compiler.specs.declared.reader.Parsed.the-variants as parsed
 use Rattle.scanner.specs.Scans.{scanned}
 use Rattle.compiler.specs.Readers.{Refused, PatternIs, ReadPatternPost}
-use Rattle.table.specs.declared.write.Written.{Written}
-use Rattle.table.specs.Write.{records-room, table-of, output-of, WriteTablePost}
+use Rattle.table.specs.declared.write.TableWritten.{TableWritten}
+use Rattle.table.specs.Write.{records-room, table-of, table-output, WriteTablePost}
 use Rattle.table.proofs.Writing.{table-is}
 use Rattle.compiler.proofs.Descent.{whole-form, whole-accepted}
 use Rattle.compiler.proofs.Leaves.{state}
 
-abbrev output : Answer → Bytes → Output
-output a b = record { answer = a; bytes = b }
+abbrev compile-output : Answer → Bytes → Output
+compile-output a b = record { answer = a; bytes = b }
 
 compile-by : (s table : Bytes) (o : Outcome) → outcome s ≡ o → compiled o s table ≡ compileOf s table
 unfolding compileOf
@@ -36,28 +36,28 @@ short-outcome : (s : Bytes) → length s ≤ source-limit → outcome s ≡ scan
 unfolding outcome
 short-outcome s h = ap (λ b. cond b (scan start 0 0 s) (refused LONG source-limit)) (le-leb (length s) source-limit h)
 
-pub compile-long : (s table : Bytes) → source-limit < length s → output (refusal LONG source-limit) table ≡ compileOf s table
+pub compile-long : (s table : Bytes) → source-limit < length s → compile-output (refusal LONG source-limit) table ≡ compileOf s table
 unfolding outcome compiled
 compile-long s table h = compile-by s table (refused LONG source-limit) (ap (λ b. cond b (scan start 0 0 s) (refused LONG source-limit)) (lt-leb (length s) source-limit h))
 
-abbrev pub from-start : State
+abbrev pub from-start : ReaderState
 from-start = state (record { at = 0 }) 0 0
 
 -- the reader's answer, and the buffers before and after
 module _ (s table : Bytes) (short : length s ≤ source-limit) (recs recs′ text text′ : Bytes) where
-  pub compile-fault : (a : Parsed) (f p : ℕ) → a ≡ parsed.Fault f p → ReadPatternPost s from-start 0 recs recs′ text text′ a → output (refusal f p) table ≡ compileOf s table
+  pub compile-fault : (a : Parsed) (f p : ℕ) → a ≡ parsed.Fault f p → ReadPatternPost s from-start 0 recs recs′ text text′ a → compile-output (refusal f p) table ≡ compileOf s table
   unfolding ReadPatternPost depth compiled
   compile-fault a f p e h =
       let x : Refused s 0 0 0 f p = subst (λ a. ReadPatternPost s from-start 0 recs recs′ text text′ a) e h in
       compile-by s table (refused f p) (short-outcome s short ∙ x .scan (top []) refl)
 
-  module _ (u : State) (h : PatternIs s from-start 0 recs recs′ text text′ u) where
-    pub compile-form : u .at .at < length s → output (refusal FORM (u .at .at)) table ≡ compileOf s table
+  module _ (u : ReaderState) (h : PatternIs s from-start 0 recs recs′ text text′ u) where
+    pub compile-form : u .at .at < length s → compile-output (refusal FORM (u .at .at)) table ≡ compileOf s table
     unfolding depth compiled
-    compile-form w = compile-by s table (refused FORM (u .at .at)) (short-outcome s short ∙ h .scan (top []) refl ∙ whole-form s (u .at .at) (u .atoms) (h .tree) (h .settled) (h .over) w)
+    compile-form w = compile-by s table (refused FORM (u .at .at)) (short-outcome s short ∙ h .scan (top []) refl ∙ whole-form s (u .at .at) (u .atoms) (h .tree) (h .body-ends) (h .over) w)
 
     module _ (fits : records-room ≤ length recs) (room : source-limit ≤ length text) where
-      pub compile-table : length s ≤ u .at .at → {x : Written} {table′ : Bytes} → WriteTablePost (u .atoms) (u .pool) recs′ text′ table x table′ → (y : Written) → x ≡ y → output-of (u .at .at) y table′ ≡ compileOf s table
+      pub compile-table : length s ≤ u .at .at → {x : TableWritten} {table′ : Bytes} → WriteTablePost (u .atoms) (u .pool) recs′ text′ table x table′ → (y : TableWritten) → x ≡ y → table-output (u .at .at) y table′ ≡ compileOf s table
       unfolding depth compiled
       compile-table g {table′ = table′} post y e =
           let m = h .moved in
@@ -68,5 +68,5 @@ module _ (s table : Bytes) (short : length s ≤ source-limit) (recs recs′ tex
           let l : u .pool ≡ length (pool t) = omega (arith, w .pooled) in
           let b : table-of (u .atoms) (u .pool) recs′ text′ ≡ encode t =
           (λ j. table-of (n j) (l j) (w .recs-are j) (w .text-is j)) ∙ table-is recs text t (omega (arith, n, m .atoms)) (omega (arith, l, m .pool, m .within)) in
-          let k : scan start 0 0 s ≡ accepted t = h .scan (top []) refl ∙ ap (λ j. scanned s (ended (top []) t) j (u .atoms)) a ∙ whole-accepted s (u .atoms) t in
-          ap (λ x. output-of (u .at .at) x table′) (sym e) ∙ post .puts (u .at .at) ∙ ap₂ (λ p q. put p q table) a b ∙ compile-by s table (accepted t) (short-outcome s short ∙ k)
+          let k : scan start 0 0 s ≡ accepted t = h .scan (top []) refl ∙ ap (λ j. scanned s (after-pattern (top []) t) j (u .atoms)) a ∙ whole-accepted s (u .atoms) t in
+          ap (λ x. table-output (u .at .at) x table′) (sym e) ∙ post .puts (u .at .at) ∙ ap₂ (λ p q. put p q table) a b ∙ compile-by s table (accepted t) (short-outcome s short ∙ k)

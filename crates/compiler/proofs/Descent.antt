@@ -16,8 +16,8 @@ use Rattle.pattern.specs.Parser.{CountState, empty, first, pointed, second, cou
 use Rattle.pattern.specs.Scan.{low, high, depth, body-begins, begins, begun, refuse, fault, Outcome, refused, accepted, scan}
 use Rattle.pattern.proofs.Tests.{le-or-lt}
 use Rattle.pattern.proofs.Notation.{class-byte}
-use Rattle.pattern.proofs.ParserComplete.{ended, ended-closes, ended-parts}
-use Rattle.scanner.specs.Places.{class-at, count-flag, flag, ClassNot}
+use Rattle.pattern.proofs.ParserComplete.{after-pattern, ended-closes, ended-parts}
+use Rattle.scanner.specs.Places.{class-at, ends-class, ends-at, ClassNot}
 use Rattle.scanner.specs.Scans.{scanned}
 use Rattle.compiler.specs.Readers.{BodyEnds, tail}
 use Rattle.scanner.proofs.Steps.{fault-here, begun-here, onward, faulty, stuck, short}
@@ -107,46 +107,46 @@ depth-next (top before) a = refl
 depth-next (within k l h others before) a = refl
 
 -- an atom begins just where the flag is 0
-pub flag-count : (s : Bytes) (j : ℕ) → flag s j ≡ 0 → (x : CountChar) × (j < length s) × (class-at s j ≡ count-char x)
-unfolding flag
+pub flag-count : (s : Bytes) (j : ℕ) → ends-at s j ≡ 0 → (x : CountChar) × (j < length s) × (class-at s j ≡ count-char x)
+unfolding ends-at
 flag-count s j = ⊎-elim (λ h. rw (le-ltb j (length s) h) (λ e. absurd (omega arith))) (λ h. rw (lt-ltb j (length s) h) (λ e. go h (class-at s j) refl e)) (le-or-lt (length s) j)
   where
-    go : j < length s → (y : CharClass) → class-at s j ≡ y → count-flag y ≡ 0 → (x : CountChar) × (j < length s) × (class-at s j ≡ count-char x)
+    go : j < length s → (y : CharClass) → class-at s j ≡ y → ends-class y ≡ 0 → (x : CountChar) × (j < length s) × (class-at s j ≡ count-char x)
     go h (count-char x) e f = (x, h, e)
     go h (body-start b) e f = absurd (omega arith)
     go h (branch-end b) e f = absurd (omega arith)
 
-pub flag-one : (s : Bytes) (j : ℕ) → ¬ (flag s j ≡ 0) → flag s j ≡ 1
-unfolding flag
+pub flag-one : (s : Bytes) (j : ℕ) → ¬ (ends-at s j ≡ 0) → ends-at s j ≡ 1
+unfolding ends-at
 flag-one s j = ⊎-elim (λ h. rw (le-ltb j (length s) h) (λ e. refl)) (λ h. rw (lt-ltb j (length s) h) (go (class-at s j))) (le-or-lt (length s) j)
   where
-    go : (y : CharClass) → ¬ (count-flag y ≡ 0) → count-flag y ≡ 1
+    go : (y : CharClass) → ¬ (ends-class y ≡ 0) → ends-class y ≡ 1
     go (count-char x) e = absurd (e refl)
     go (body-start b) e = refl
     go (branch-end b) e = refl
 
 -- at the end of a branch no other fault is looked for
 module _ (s : Bytes) (j m : ℕ) (w : j < length s) (e : BranchEnd) (f : class-at s j ≡ branch-end e) where
-  ended-quiet : (t : Syntax pattern) (k : Stack) → (fault-here s (ended k t) j m ≡ none) × (begun-here s (ended k t) j m ≡ m)
-  unfolding ended begins fault begun
+  ended-quiet : (t : Syntax pattern) (k : Stack) → (fault-here s (after-pattern k t) j m ≡ none) × (begun-here s (after-pattern k t) j m ≡ m)
+  unfolding after-pattern begins fault begun
   ended-quiet (last (repeat l h b)) k = (rw f, rw f)
   ended-quiet (then a t) k = ended-quiet t (next k a)
 
-  branch-next : (t : Syntax pattern) (k : Stack) (q : ParserState) → step (ended k t) (getD s j 0) ≡ some q → scanned s (ended k t) j m ≡ scanned s q (suc j) m
-  branch-next t k q g = let (x, y) = ended-quiet t k in onward s j m w (ended k t) q g x y
+  branch-next : (t : Syntax pattern) (k : Stack) (q : ParserState) → step (after-pattern k t) (getD s j 0) ≡ some q → scanned s (after-pattern k t) j m ≡ scanned s q (suc j) m
+  branch-next t k q g = let (x, y) = ended-quiet t k in onward s j m w (after-pattern k t) q g x y
 
 module _ (s : Bytes) (j m : ℕ) (t : Syntax pattern) (k : Stack) (l : ℕ) (h : Option ℕ) (others : List (Syntax pattern)) where
   -- a closing parenthesis after a branch
-  pub closes : j < length s → closing-byte ≡ getD s j 0 → scanned s (ended (within k l h others []) t) j m ≡ scanned s (after l h (group (fork others (only t))), k) (suc j) m
+  pub group-closes : j < length s → closing-byte ≡ getD s j 0 → scanned s (after-pattern (within k l h others []) t) j m ≡ scanned s (after l h (group (fork others (only t))), k) (suc j) m
   unfolding char-class between chain
-  closes w e = branch-next s j m w closing (ap char-class (sym e)) t (within k l h others []) _ (rw e at (ended-closes k l h others t []))
+  group-closes w e = branch-next s j m w closing (ap char-class (sym e)) t (within k l h others []) _ (rw e at (ended-closes k l h others t []))
 
   -- a comma
-  pub parts : j < length s → comma-byte ≡ getD s j 0 → scanned s (ended (within k l h others []) t) j m ≡ scanned s (counting empty, within k l h (t ∷ others) []) (suc j) m
+  pub pattern-parts : j < length s → comma-byte ≡ getD s j 0 → scanned s (after-pattern (within k l h others []) t) j m ≡ scanned s (counting empty, within k l h (t ∷ others) []) (suc j) m
   unfolding char-class between chain
-  parts w e = branch-next s j m w comma (ap char-class (sym e)) t (within k l h others []) _ (rw e at (ended-parts k l h others t []))
+  pattern-parts w e = branch-next s j m w comma (ap char-class (sym e)) t (within k l h others []) _ (rw e at (ended-parts k l h others t []))
 
--- the byte does not end a branch here: at the top nothing does
+-- the byte does not end a branch here: outside all groups nothing does
 Ends-not : Stack → CharClass → Type 0
 Ends-not (top before) x = Unit {0}
 Ends-not (within k l h others before) x = ¬ (x ≡ branch-end closing) × ¬ (x ≡ branch-end comma)
@@ -175,47 +175,47 @@ idle s j l h (group bs) k x c w e o = refl
 
 -- nothing goes on after a pattern that rests
 module _ (s : Bytes) (j : ℕ) (w : j < length s) where
-  at-rest : (t : Syntax pattern) (k : Stack) (x : CharClass) → class-at s j ≡ x → BodyEnds s j (tail t) → count-flag x ≡ 1 → Ends-not k x → move (ended k t .0) (ended k t .1) x (getD s j 0) ≡ none
-  unfolding ended tail move
+  at-rest : (t : Syntax pattern) (k : Stack) (x : CharClass) → class-at s j ≡ x → BodyEnds s j (tail t) → ends-class x ≡ 1 → Ends-not k x → move (after-pattern k t .0) (after-pattern k t .1) x (getD s j 0) ≡ none
+  unfolding after-pattern tail move
   at-rest (last (repeat l h b)) k (count-char m) e o f d = absurd (omega arith)
   at-rest (last (repeat l h b)) k (body-start x) e o f d = idle s j l h b k x (getD s j 0) w e o
   at-rest (last (repeat l h b)) k (branch-end x) e o f d = leave-none k (repeat l h b) x d
   at-rest (then a t) k x e o f d = at-rest t (next k a) x e o f (next-not k a x d)
 
-  flag-here : flag s j ≡ 1 → count-flag (class-at s j) ≡ 1
-  unfolding flag
+  flag-here : ends-at s j ≡ 1 → ends-class (class-at s j) ≡ 1
+  unfolding ends-at
   flag-here e = rw (lt-ltb j (length s) w) at e
 
-  rests : (t : Syntax pattern) (k : Stack) (m : ℕ) → BodyEnds s j (tail t) → flag s j ≡ 1 → Ends-not k (class-at s j) → scanned s (ended k t) j m ≡ refused FORM j
+  rests : (t : Syntax pattern) (k : Stack) (m : ℕ) → BodyEnds s j (tail t) → ends-at s j ≡ 1 → Ends-not k (class-at s j) → scanned s (after-pattern k t) j m ≡ refused FORM j
   unfolding step
-  rests t k m o f d = stuck s j m w (ended k t) (at-rest t k (class-at s j) refl o (flag-here f) d)
+  rests t k m o f d = stuck s j m w (after-pattern k t) (at-rest t k (class-at s j) refl o (flag-here f) d)
 
 -- a source that ends in a group
 ended-short : (t : Syntax pattern) (k : Stack) (l : ℕ) (h : Option ℕ) (others : List (Syntax pattern)) (before : List (Syntax atom))
-    → finish (ended (within k l h others before) t .0) (ended (within k l h others before) t .1) ≡ none
-unfolding ended finish next
+    → finish (after-pattern (within k l h others before) t .0) (after-pattern (within k l h others before) t .1) ≡ none
+unfolding after-pattern finish next
 ended-short (last (repeat x y b)) k l h others before = refl
 ended-short (then a t) k l h others before = ended-short t k l h others (a ∷ before)
 
 -- a branch that neither a comma nor a bracket follows
-pub branch-form : (s : Bytes) (j m : ℕ) (t : Syntax pattern) (k : Stack) (l : ℕ) (h : Option ℕ) (others : List (Syntax pattern)) → BodyEnds s j (tail t) → flag s j ≡ 1
-    → (j < length s → ¬ (getD s j 0 ≡ closing-byte) × ¬ (getD s j 0 ≡ comma-byte)) → scanned s (ended (within k l h others []) t) j m ≡ refused FORM j
+pub branch-form : (s : Bytes) (j m : ℕ) (t : Syntax pattern) (k : Stack) (l : ℕ) (h : Option ℕ) (others : List (Syntax pattern)) → BodyEnds s j (tail t) → ends-at s j ≡ 1
+    → (j < length s → ¬ (getD s j 0 ≡ closing-byte) × ¬ (getD s j 0 ≡ comma-byte)) → scanned s (after-pattern (within k l h others []) t) j m ≡ refused FORM j
 unfolding Ends-not
 branch-form s j m t k l h others o f d = ⊎-elim
-    (λ w. short s j m w (ended (within k l h others []) t) (ended-short t k l h others []))
+    (λ w. short s j m w (after-pattern (within k l h others []) t) (ended-short t k l h others []))
     (λ w. rests s j w t (within k l h others []) m o f (λ e. d w .0 (rw e at (class-byte (getD s j 0))), λ e. d w .1 (rw e at (class-byte (getD s j 0)))))
     (le-or-lt (length s) j)
 
 -- the whole source
-pub whole-form : (s : Bytes) (j m : ℕ) (t : Syntax pattern) → BodyEnds s j (tail t) → flag s j ≡ 1 → j < length s → scanned s (ended (top []) t) j m ≡ refused FORM j
+pub whole-form : (s : Bytes) (j m : ℕ) (t : Syntax pattern) → BodyEnds s j (tail t) → ends-at s j ≡ 1 → j < length s → scanned s (after-pattern (top []) t) j m ≡ refused FORM j
 unfolding Ends-not
 whole-form s j m t o f w = rests s j w t (top []) m o f tt
 
-ended-accepts : (t : Syntax pattern) (before : List (Syntax atom)) (i n : ℕ) → scan (ended (top before) t) i n [] ≡ accepted (chain before t)
-unfolding ended scan finish next chain
+ended-accepts : (t : Syntax pattern) (before : List (Syntax atom)) (i n : ℕ) → scan (after-pattern (top before) t) i n [] ≡ accepted (chain before t)
+unfolding after-pattern scan finish next chain
 ended-accepts (last (repeat l h b)) before i n = refl
 ended-accepts (then a t) before i n = ended-accepts t (a ∷ before) i n
 
-pub whole-accepted : (s : Bytes) (m : ℕ) (t : Syntax pattern) → scanned s (ended (top []) t) (length s) m ≡ accepted t
+pub whole-accepted : (s : Bytes) (m : ℕ) (t : Syntax pattern) → scanned s (after-pattern (top []) t) (length s) m ≡ accepted t
 unfolding chain
 whole-accepted s m t = rw drop-length (ended-accepts t [] (length s) m)

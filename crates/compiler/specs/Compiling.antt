@@ -1,4 +1,4 @@
--- What compiling answers, by the cases of the code's answer. Assumes nothing.
+-- What compiling answers, by the cases of the code's answer. To be believed.
 use Rattle.pattern.specs.Answers.{Answer, refusal, result}
 use Rattle.compiler.specs.declared.Compiled.{Compiled}
 use Rattle.compiler.specs.declared.Compiled.the-variants as compiled

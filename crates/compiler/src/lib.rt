@@ -6,13 +6,13 @@ ghost use Rattle.compiler.specs.Compiling.{answer-of};
 mod reader;
 
 use crate::reader::Parsed;
-use crate::reader::State;
+use crate::reader::ReaderState;
 use crate::reader::read_pattern;
 use pattern::limits;
 use pattern::refusal;
 use scanner::cursor::Cursor;
 use table::write::RECORDS_ROOM;
-use table::write::Written;
+use table::write::TableWritten;
 use table::write::write_table;
 
 // The length of the table, or a refusal and its position.
@@ -30,7 +30,7 @@ pub fn compile(source: &[u8], table: &mut [u8]) -> Compiled
     }
     let mut recs = [0u8; RECORDS_ROOM];
     let mut pool = [0u8; limits::SOURCE_LIMIT];
-    let st = State {
+    let st = ReaderState {
         at: Cursor { at: 0 },
         atoms: 0,
         pool: 0,
@@ -43,8 +43,8 @@ pub fn compile(source: &[u8], table: &mut [u8]) -> Compiled
                 Compiled::Refused(refusal::FORM, at)
             } else {
                 match write_table(end.atoms, end.pool, &recs, &pool, table) {
-                    Written::Length(n) => Compiled::Table(n),
-                    Written::Room => Compiled::Refused(refusal::ROOM, at),
+                    TableWritten::Length(n) => Compiled::Table(n),
+                    TableWritten::Room => Compiled::Refused(refusal::ROOM, at),
                 }
             }
         }

@@ -2,13 +2,13 @@
 ghost use Prim.Native.Nat.{_-_, _≤_};
 ghost use lib.ListN.{length};
 ghost use Rattle.scanner.specs.Places.{LetterIs};
-ghost use Rattle.compiler.specs.Readers.{ReadPre, BuffersFit, LeafPre, ReadCodesPost, ReadLiteralPost, ReadPatternPost, ReadAtomPost, ReadGroupPost};
+ghost use Rattle.compiler.specs.Readers.{ReadPre, BuffersFit, ReadLeafPre, ReadCodesPost, ReadLiteralPost, ReadPatternPost, ReadAtomPost, ReadGroupPost};
 use pattern::kind;
 use pattern::limits;
 use pattern::refusal;
 use pattern::repeat::Repeat;
-use scanner::body::Letters;
-use scanner::body::Literal;
+use scanner::body::LettersRead;
+use scanner::body::LiteralRead;
 use scanner::body::codes_from;
 use scanner::body::quoted;
 use scanner::count::CountResult;
@@ -16,11 +16,11 @@ use scanner::count::count;
 use scanner::cursor::Class;
 use scanner::cursor::Cursor;
 use scanner::cursor::Separator;
-use scanner::cursor::last;
+use scanner::cursor::ends_at;
 use table::write::put_record;
 
 // How far a reader has come: the place in the source, the atoms so far, and the length of the pool.
-pub struct State {
+pub struct ReaderState {
     pub at: Cursor,
     pub atoms: usize,
     pub pool: usize,
@@ -28,13 +28,13 @@ pub struct State {
 
 // Where a pattern or an atom ends, or a refusal and its position.
 pub enum Parsed {
-    Done(State),
+    Done(ReaderState),
     Fault(u32, usize),
 }
 
 // Where a group ends and how many branches it has, or a refusal and its position.
 pub enum Grouped {
-    Done(State, usize),
+    Done(ReaderState, usize),
     Fault(u32, usize),
 }
 
@@ -48,19 +48,19 @@ fn read_codes(
     p: usize,
     recs: &mut [u8],
 ) -> Parsed
-    requires { ⌜ LetterIs (now s) (c .at - 1) first c × LeafPre (now s) (c .at - 1) n p (now recs) ⌝ }
+    requires { ⌜ LetterIs (now s) (c .at - 1) first c × ReadLeafPre (now s) (c .at - 1) n p (now recs) ⌝ }
     ensures { λ r. ⌜ ReadCodesPost (now (s .entry)) (c .at - 1) n p rep (now (recs .entry)) (now (recs .exit)) r ⌝ }
 {
     match codes_from(s, first, c) {
-        Letters::Set(set, next) => {
-            put_record(recs, n, kind::CODES, last(s, next), rep, set as u16, 0);
-            Parsed::Done(State {
+        LettersRead::Set(set, next) => {
+            put_record(recs, n, kind::CODES, ends_at(s, next), rep, set as u16, 0);
+            Parsed::Done(ReaderState {
                 at: next,
                 atoms: n + 1,
                 pool: p,
             })
         }
-        Letters::Fault(pos) => Parsed::Fault(refusal::CODE, pos),
+        LettersRead::Fault(pos) => Parsed::Fault(refusal::CODE, pos),
     }
 }
 
@@ -74,31 +74,37 @@ fn read_literal(
     recs: &mut [u8],
     pool: &mut [u8],
 ) -> Parsed
-    requires { ⌜ LeafPre (now s) (c .at) n p (now recs) × (length (now s) ≤ length (now pool)) ⌝ }
+    requires { ⌜ ReadLeafPre (now s) (c .at) n p (now recs) × (length (now s) ≤ length (now pool)) ⌝ }
     ensures { λ r. ⌜ ReadLiteralPost (now (s .entry)) (c .at) n p rep (now (recs .entry)) (now (recs .exit)) (now (pool .entry)) (now (pool .exit)) r ⌝ }
 {
     match quoted(s, c, p, pool) {
-        Literal::Value(next, end) => {
+        LiteralRead::Value(next, end) => {
             put_record(
                 recs,
                 n,
                 kind::LITERAL,
-                last(s, next),
+                ends_at(s, next),
                 rep,
                 p as u16,
                 (end - p) as u16,
             );
-            Parsed::Done(State {
+            Parsed::Done(ReaderState {
                 at: next,
                 atoms: n + 1,
                 pool: end,
             })
         }
-        Literal::Fault(pos) => Parsed::Fault(refusal::FORM, pos),
+        LiteralRead::Fault(pos) => Parsed::Fault(refusal::FORM, pos),
     }
 }
 
-pub fn read_pattern(s: &[u8], st: State, depth: usize, recs: &mut [u8], pool: &mut [u8]) -> Parsed
+pub fn read_pattern(
+    s: &[u8],
+    st: ReaderState,
+    depth: usize,
+    recs: &mut [u8],
+    pool: &mut [u8],
+) -> Parsed
     requires { ⌜ ReadPre (now s) st depth × BuffersFit (now s) (now recs) (now pool) ⌝ }
     ensures { λ r. ⌜ ReadPatternPost (now (s .entry)) st depth (now (recs .entry)) (now (recs .exit)) (now (pool .entry)) (now (pool .exit)) r ⌝ }
 {
@@ -107,7 +113,7 @@ pub fn read_pattern(s: &[u8], st: State, depth: usize, recs: &mut [u8], pool: &m
         match read_atom(s, from, depth, recs, pool) {
             Parsed::Done(next) => {
                 let at = next.at;
-                if last(s, at) != 0 {
+                if ends_at(s, at) != 0 {
                     return Parsed::Done(next);
                 }
                 from = next;
@@ -117,7 +123,7 @@ pub fn read_pattern(s: &[u8], st: State, depth: usize, recs: &mut [u8], pool: &m
     }
 }
 
-fn read_atom(s: &[u8], st: State, depth: usize, recs: &mut [u8], pool: &mut [u8]) -> Parsed
+fn read_atom(s: &[u8], st: ReaderState, depth: usize, recs: &mut [u8], pool: &mut [u8]) -> Parsed
     requires { ⌜ ReadPre (now s) st depth × BuffersFit (now s) (now recs) (now pool) ⌝ }
     ensures { λ r. ⌜ ReadAtomPost (now (s .entry)) st depth (now (recs .entry)) (now (recs .exit)) (now (pool .entry)) (now (pool .exit)) r ⌝ }
 {
@@ -132,7 +138,7 @@ fn read_atom(s: &[u8], st: State, depth: usize, recs: &mut [u8], pool: &mut [u8]
                 if limits::DEPTH_LIMIT <= depth {
                     return Parsed::Fault(refusal::DEPTH, next.at);
                 }
-                let inner = State {
+                let inner = ReaderState {
                     at: after,
                     atoms: n + 1,
                     pool: p,
@@ -144,7 +150,7 @@ fn read_atom(s: &[u8], st: State, depth: usize, recs: &mut [u8], pool: &mut [u8]
                             recs,
                             n,
                             kind::GROUP,
-                            last(s, stop),
+                            ends_at(s, stop),
                             rep,
                             k as u16,
                             end.atoms as u16,
@@ -161,7 +167,7 @@ fn read_atom(s: &[u8], st: State, depth: usize, recs: &mut [u8], pool: &mut [u8]
 }
 
 // The branches of a group, with the closing parenthesis.
-fn read_group(s: &[u8], st: State, depth: usize, recs: &mut [u8], pool: &mut [u8]) -> Grouped
+fn read_group(s: &[u8], st: ReaderState, depth: usize, recs: &mut [u8], pool: &mut [u8]) -> Grouped
     requires { ⌜ ReadPre (now s) st depth × BuffersFit (now s) (now recs) (now pool) ⌝ }
     ensures { λ r. ⌜ ReadGroupPost (now (s .entry)) st depth (now (recs .entry)) (now (recs .exit)) (now (pool .entry)) (now (pool .exit)) r ⌝ }
 {
@@ -173,7 +179,7 @@ fn read_group(s: &[u8], st: State, depth: usize, recs: &mut [u8], pool: &mut [u8
                 let at = next.at;
                 match at.separator(s) {
                     Separator::Comma(after) => {
-                        from = State {
+                        from = ReaderState {
                             at: after,
                             atoms: next.atoms,
                             pool: next.pool,
@@ -181,7 +187,7 @@ fn read_group(s: &[u8], st: State, depth: usize, recs: &mut [u8], pool: &mut [u8
                         before += 1;
                     }
                     Separator::Closing(after) => {
-                        let end = State {
+                        let end = ReaderState {
                             at: after,
                             atoms: next.atoms,
                             pool: next.pool,

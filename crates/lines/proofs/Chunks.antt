@@ -32,8 +32,8 @@ each-alone line rest = ap (λ s. answer-to line zeros .text ++ answers rest s .t
 
 -- ---- what is held of a line is enough
 
-abbrev cap : Bytes → Bytes
-cap line = take held-limit line
+abbrev held-part : Bytes → Bytes
+held-part line = take held-limit line
 
 -- "L for too long (looked at first)"
 too-long : (line scratch : Bytes) → line-limit < length line → reply line scratch ≡ record { text = bytes "L"; scratch = scratch }
@@ -41,30 +41,30 @@ unfolding reply
 too-long line scratch h = if-true _ _ _ (lt-ltb _ _ h)
 
 -- a line that is cut to what is held has the same reply
-answer-cap : (line scratch : Bytes) → answer-to (cap line) scratch ≡ answer-to line scratch
+answer-cap : (line scratch : Bytes) → answer-to (held-part line) scratch ≡ answer-to line scratch
 unfolding answer-to
 answer-cap line scratch = ap (λ (r : Reply). record { text = r .text ++ newline-byte ∷ []; scratch = r .scratch }) (⊎-elim short long (le-or-lt (length line) held-limit))
   where
-    short : length line ≤ held-limit → reply (cap line) scratch ≡ reply line scratch
+    short : length line ≤ held-limit → reply (held-part line) scratch ≡ reply line scratch
     short h = ap (λ l. reply l scratch) (take-all held-limit line h)
 
-    long : held-limit < length line → reply (cap line) scratch ≡ reply line scratch
-    long h = too-long (cap line) scratch (omega (arith, length-take-le held-limit line (omega arith))) ∙ sym (too-long line scratch (omega arith))
+    long : held-limit < length line → reply (held-part line) scratch ≡ reply line scratch
+    long h = too-long (held-part line) scratch (omega (arith, length-take-le held-limit line (omega arith))) ∙ sym (too-long line scratch (omega arith))
 
 -- a byte more
-hold-cap : (line : Bytes) (c : ℕ) → hold (cap line) c ≡ cap (line ++ c ∷ [])
+hold-cap : (line : Bytes) (c : ℕ) → hold (held-part line) c ≡ held-part (line ++ c ∷ [])
 unfolding hold
 hold-cap line c = ⊎-elim full room (le-or-lt held-limit (length line))
   where
-    full : held-limit ≤ length line → hold (cap line) c ≡ cap (line ++ c ∷ [])
+    full : held-limit ≤ length line → hold (held-part line) c ≡ held-part (line ++ c ∷ [])
     full h =
-        let l : length (cap line) ≡ held-limit = length-take-le held-limit line h in
-        if-false _ _ _ (le-ltb (length (cap line)) held-limit (omega arith)) ∙ sym (take-append-le held-limit line (c ∷ []) h)
+        let l : length (held-part line) ≡ held-limit = length-take-le held-limit line h in
+        if-false _ _ _ (le-ltb (length (held-part line)) held-limit (omega arith)) ∙ sym (take-append-le held-limit line (c ∷ []) h)
 
-    room : length line < held-limit → hold (cap line) c ≡ cap (line ++ c ∷ [])
+    room : length line < held-limit → hold (held-part line) c ≡ held-part (line ++ c ∷ [])
     room h =
-        let e : cap line ≡ line = take-all held-limit line (omega arith) in
-        if-true _ _ _ (lt-ltb (length (cap line)) held-limit (omega (arith, ap length e))) ∙ ap (λ v. v ++ c ∷ []) e ∙ sym (take-all held-limit (line ++ c ∷ []) (omega (arith, length-append line (c ∷ []))))
+        let e : held-part line ≡ line = take-all held-limit line (omega arith) in
+        if-true _ _ _ (lt-ltb (length (held-part line)) held-limit (omega (arith, ap length e))) ∙ ap (λ v. v ++ c ∷ []) e ∙ sym (take-all held-limit (line ++ c ∷ []) (omega (arith, length-append line (c ∷ []))))
 
 -- ---- all lines of an input that comes in chunks
 
@@ -72,18 +72,18 @@ abbrev all-lines : LinesIn → List Bytes
 all-lines l = l .ended ++ last-line (l .held)
 
 -- a line before others, cut to what is held
-first-cap : (line : Bytes) (a b : List Bytes) (scratch : Bytes) → ((s : Bytes) → answers a s ≡ answers b s) → answers (cap line ∷ a) scratch ≡ answers (line ∷ b) scratch
+first-cap : (line : Bytes) (a b : List Bytes) (scratch : Bytes) → ((s : Bytes) → answers a s ≡ answers b s) → answers (held-part line ∷ a) scratch ≡ answers (line ∷ b) scratch
 unfolding answers
 first-cap line a b scratch f = ap (λ (r : Reply). prefixed (r .text) (answers a (r .scratch))) (answer-cap line scratch) ∙ ap (prefixed (answer-to line scratch .text)) (f (answer-to line scratch .scratch))
 
-lines-cap : (begun s scratch : Bytes) → answers (all-lines (lines-in (cap begun) s)) scratch ≡ answers (lines-after begun s) scratch
+lines-cap : (begun s scratch : Bytes) → answers (all-lines (lines-in (held-part begun) s)) scratch ≡ answers (lines-after begun s) scratch
 unfolding lines-in line-first lines-after last-line
 lines-cap [] [] scratch = refl
 lines-cap (c ∷ begun) [] scratch = first-cap (c ∷ begun) [] [] scratch (λ s. refl)
 lines-cap begun (c ∷ s) scratch = go (eqb c newline-byte) (lines-cap [] s) (lines-cap (begun ++ c ∷ []) s scratch)
   where
-    go : (b : Bool) → ((t : Bytes) → answers (all-lines (lines-in [] s)) t ≡ answers (lines-after [] s) t) → answers (all-lines (lines-in (cap (begun ++ c ∷ [])) s)) scratch ≡ answers (lines-after (begun ++ c ∷ []) s) scratch
-        → answers (all-lines (elim b [ true ↦ line-first (cap begun) (lines-in [] s) | false ↦ lines-in (hold (cap begun) c) s ])) scratch
+    go : (b : Bool) → ((t : Bytes) → answers (all-lines (lines-in [] s)) t ≡ answers (lines-after [] s) t) → answers (all-lines (lines-in (held-part (begun ++ c ∷ [])) s)) scratch ≡ answers (lines-after (begun ++ c ∷ []) s) scratch
+        → answers (all-lines (elim b [ true ↦ line-first (held-part begun) (lines-in [] s) | false ↦ lines-in (hold (held-part begun) c) s ])) scratch
         ≡ answers (elim b [ true ↦ begun ∷ lines-after [] s | false ↦ lines-after (begun ++ c ∷ []) s ]) scratch
     go true f x = first-cap begun (all-lines (lines-in [] s)) (lines-after [] s) scratch f
     go false f x = ap (λ h. answers (all-lines (lines-in h s)) scratch) (hold-cap begun c) ∙ x

@@ -2,7 +2,7 @@ pub mod Lines
 pub mod Answering
 pub mod Chunks
 pub mod Sessions
-pub mod Owed
+pub mod Remaining
 pub mod Tidying
 pub mod Progress
 pub mod Examples

@@ -1,4 +1,4 @@
--- The line tool never stands still: where some of a chunk is left, more of it is answered before the next write. Assumes nothing.
+-- The line tool moves on: where some of a chunk is left, more of it is answered before the next write. Assumes nothing.
 use mathlib.Core.Path.{_≡_, ap}
 use mathlib.Core.Logic.{⊎-elim}
 use Prim.Native.Nat.{ℕ, _≤_, _<_}

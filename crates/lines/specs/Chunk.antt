@@ -1,4 +1,4 @@
--- What answering the lines of a chunk promises. Assumes nothing.
+-- What answering the lines of a chunk promises. To be believed.
 use mathlib.Core.Path.{_≡_}
 use mathlib.Core.Bool.{false}
 use Prim.Native.Nat.{ℕ, _+_, _≤_, _<_}

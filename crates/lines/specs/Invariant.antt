@@ -1,4 +1,4 @@
--- What holds of the line tool's buffers between reads and writes. Assumes nothing.
+-- What holds of the line tool's buffers between reads and writes. To be believed.
 use mathlib.Core.Path.{_≡_}
 use Prim.Native.Nat.{ℕ, _≤_}
 use lib.ListN.{length, drop}

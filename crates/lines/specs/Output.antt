@@ -1,4 +1,4 @@
--- The whole output of the line tool, and its lines as they come in chunks of input. Assumes nothing.
+-- The whole output of the line tool, and its lines as they come in chunks of input. To be believed.
 use mathlib.Core.Bool.{true, false}
 use mathlib.Core.List.{List, [], _∷_, _++_}
 use Prim.Native.Nat.{ℕ}

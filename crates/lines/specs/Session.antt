@@ -1,4 +1,4 @@
--- What the line tool does at first and after each read and each write, case by case, with every byte of its buffers then. Assumes nothing.
+-- What the line tool does at first and after each read and each write, case by case, with every byte of its buffers then. To be believed, all but `StartPost`.
 use mathlib.Core.Path.{_≡_}
 use mathlib.Core.Bool.{Bool, true, false, not, _&&_}
 use Prim.Native.Nat.{ℕ, zero, suc, min, _≤_}

@@ -1,4 +1,4 @@
--- The line tool's runs: reads and writes one after the other, with what was read and written. Assumes nothing.
+-- The line tool's runs: reads and writes one after the other, with what was read and written. To be believed, all but `Moves`.
 use mathlib.Core.Bool.{Bool, true, false, _&&_, _||_}
 use mathlib.Core.List.{List, [], _∷_, _++_}
 use Prim.Native.Nat.{ℕ, _+_, _≤_}

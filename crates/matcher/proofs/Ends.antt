@@ -1,7 +1,7 @@
 -- The parts, in plain values: the search for a last end, and the loop over the top-level atoms. Assumes nothing.
 use mathlib.Core.Path.{_≡_, refl, sym, ap, _∙_}
 use mathlib.Core.Bool.{Bool, true, false, cond}
-use mathlib.Core.List.{[], _++_, append-assoc, append-nil}
+use mathlib.Core.List.{[], _++_, append-assoc}
 use Prim.Native.Nat.{ℕ, zero, suc, _+_, _*_, _-_, _≤_, _<_}
 use native.Mathlib.Omega.{arith}
 use lib.ListN.{length}
@@ -94,8 +94,8 @@ module _ (table label s : Bytes) (w : ℕ) (lent₀ : Bytes) (ok : WritePartsPre
   }
 
   module _ (lent : Bytes) (x i at : ℕ) (inv : PartsAt table label lent₀ lent x i at) where
-    pub parts-room : at + 2 ≤ length lent
-    parts-room = omega (arith, inv .room, puts-length (inv .puts), some-top (node table x))
+    pub parts-lent : at + 2 ≤ length lent
+    parts-lent = omega (arith, inv .room, puts-length (inv .puts), some-top (node table x))
 
     module _ (r : Record) (is : RecordOf table x r) where
       pub parts-end : r .ends ≡ 1 → (lent′ : Bytes) (k : ℕ) → Puts lent at (le16 (length label) []) lent′ k → WritePartsPost table label lent₀ lent′
@@ -103,7 +103,7 @@ module _ (table label s : Bytes) (w : ℕ) (lent₀ : Bytes) (ok : WritePartsPre
           let (l, n) = parts-last label _ _ i (is .is-last e) in
           let whole : part-bytes (parts label (tree-of table) 0) ≡ inv .done ++ le16 (length label) [] = inv .left ∙ ap (λ (y : Bytes). inv .done ++ y) l in
           let p = puts-then (inv .puts) got in
-          record { written = p .bytes ∙ store-at-overwrite lent₀ (inv .done ++ le16 (length label) []) (omega (arith, p .next, got .next, parts-room, puts-length (inv .puts))) ∙ ap (λ (v : Bytes). overwrite v lent₀) (sym whole) }
+          record { written = p .bytes ∙ store-at-overwrite lent₀ (inv .done ++ le16 (length label) []) (omega (arith, p .next, got .next, parts-lent, puts-length (inv .puts))) ∙ ap (λ (v : Bytes). overwrite v lent₀) (sym whole) }
 
       module _ (n : r .ends ≡ 1 → ⊥) (next : ℕ) (e : next ≡ x + size (head (node table x))) where
         then-is : node table x ≡ then (head (node table x)) (node table next)

@@ -1,5 +1,5 @@
 -- The refusals of a match from 11 to 14, in order, and what holds where none applies. Assumes nothing.
-use mathlib.Core.Path.{_≡_, sym, ap, _∙_}
+use mathlib.Core.Path.{_≡_, sym, ap}
 use mathlib.Core.Option.{Option, none, some}
 use Prim.Native.Nat.{ℕ, _+_, _*_, _≤_, _<_}
 use native.Mathlib.Nat.{mul-le-mul}
@@ -17,10 +17,11 @@ use Rattle.pattern.specs.Answers.{scratch-needed, lent-fault, ended, ending, ma
 use Rattle.pattern.proofs.Rooms.{top-le}
 use Rattle.table.specs.declared.Sizes.{Sizes}
 use Rattle.table.specs.declared.Tested.the-variants.{Bad, Good}
-use Rattle.table.specs.Walk.{tested}
-use Rattle.atoms.proofs.Goods.{Sized, tested-good, tested-bad}
+use Rattle.table.specs.Tested.{tested}
+use Rattle.atoms.proofs.Goods.{GoodSizes, tested-good, tested-bad}
 use Rattle.atoms.specs.Atoms.{atoms}
-use Rattle.matcher.specs.Answered.{RunPre, unrefused, MatchPost}
+use Rattle.matcher.specs.Answered.{MatchPost}
+use Rattle.matcher.specs.Run.{RunPre, unrefused}
 use Rattle.matcher.specs.declared.Matched.the-variants.{Table, Label, Work, Parts}
 
 pub bad-table : (table label scratch parts : Bytes) (budget : ℕ) → Bad ≡ tested (decode table) → MatchPost table label scratch parts budget Table scratch parts
@@ -29,7 +30,7 @@ bad-table table label scratch parts budget e = sym (ap (λ o. ended (match-endin
 
 module _ (table : Bytes) where
   module _ (s : Sizes) (e : Good s ≡ tested (decode table)) where
-    told : Sized table s
+    told : GoodSizes table s
     told = tested-good table s e
 
     pub few-atoms : s .atoms ≤ atom-limit

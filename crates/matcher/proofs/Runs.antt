@@ -15,7 +15,7 @@ use Rattle.pattern.specs.Decision.{decide}
 use Rattle.pattern.specs.Parts.{parts, verdict}
 use Rattle.pattern.specs.Trials.{trials}
 use Rattle.pattern.specs.Decode.{tree-of}
-use Rattle.pattern.specs.Answers.{result, scratch-needed, ended, Matched as Outcome}
+use Rattle.pattern.specs.Answers.{result, scratch-needed, ended, MatchOutput as Outcome}
 use Rattle.pattern.proofs.Tests.{if-true, if-false}
 use Rattle.pattern.proofs.Calls.{ending-within, ending-beyond}
 use Rattle.pattern.proofs.RoundTrip.{some-pattern}
@@ -25,7 +25,7 @@ use Rattle.atoms.specs.Atoms.{atoms}
 use Rattle.matcher.specs.Settled.{StepPre}
 use Rattle.matcher.specs.Steps.{SettleAllPost}
 use Rattle.matcher.specs.WriteParts.{WritePartsPre, WritePartsPost}
-use Rattle.matcher.specs.Answered.{RunPre, unrefused}
+use Rattle.matcher.specs.Run.{RunPre, unrefused}
 use Rattle.planes.proofs.Planes.{plane-on}
 use Rattle.planes.proofs.Counting.{counted-room, counted-all, counted-past}
 use Rattle.matcher.proofs.Groups.{work-long, work-room}

@@ -52,7 +52,7 @@ module _ (table label s : Bytes) (w temp x : ℕ) (ok : FillBodyPre table label 
         let below : 2 * x < temp = omega (arith, ok .temp-is, ok .there) in
         let b : Plane s₃ w temp (decide label (body-of (head (node table x)))) = plane-kept (nothing .kept) (λ i j e. omega arith) (plane-kept (empty .kept) (λ i j e. omega arith) (body .plane)) in
         record {
-          making = record {
+          repeatable = record {
             wide = omega (arith, ok .work .wide);
             room = rw (l₃ ∙ l₂ ∙ l₁, ok .temp-is) (ok .work .room);
             below = below;
@@ -122,7 +122,7 @@ module _ (table label s : Bytes) (w temp x budget spent : ℕ) (ok : FillBodyPre
       ∙ sum-same (max-count (length label) high) _ _ (λ k h. joins-same w _ _ _ _ bodies (power-same w _ _ bodies k) ∙ ap (λ (v : ℕ). joins v R (power R k)) z)
       ∙ sym (repeats-is label a (r .low) high (is .count))
 
-  -- the stretches made of enough bodies, numbers cut to the label's length
+  -- the stretches that are enough bodies, numbers cut to the label's length
   enough : t .stopped ≡ false → Plane s₂ w (2 * x) (fewer R low (suc times))
   enough e = plane-same (made-of .whole e) (λ i j hi hj. any-same _ _ (suc times) (λ k h. ap (λ (b : Bool). leb low k && b) (power-same w _ _ bodies k i j hi hj)))
 
@@ -159,11 +159,11 @@ module _ (table label s : Bytes) (w temp x budget spent : ℕ) (ok : FillBodyPre
     atom-top = room temp (omega arith)
 
     pub atom-blank : (1 ≤ w) × InRoom s₂ w (2 * x)
-    atom-blank = (omega (arith, ok .work .wide), room (2 * x) (omega (arith, got .making .below)))
+    atom-blank = (omega (arith, ok .work .wide), room (2 * x) (omega (arith, got .repeatable .below)))
 
     level : (i j : ℕ) → decide label a i j ≡ fewer R low (suc times) i j && on s₂ w temp 0 0
     level i j =
-        let below = got .making .below in
+        let below = got .repeatable .below in
         let c : Plane s₂ w temp R = plane-kept (made-of .kept) (λ i j. (λ y. omega arith, λ y. omega arith, λ y. omega arith)) (got .body) in
         decided i j ∙ rw (lt-leb (r .low) (length label) h, decide-level label (body-of a) i ∙ sym (plane-on c 0 0 (omega arith) (omega (arith, ok .work .wide))))
 
@@ -178,5 +178,5 @@ module _ (table label s : Bytes) (w temp x budget spent : ℕ) (ok : FillBodyPre
     atom-none is s₃ f = record {
       counted = rw (← tried) (made-of .counted);
       whole = λ _. plane-same (f .plane) (λ i j hi hj. sym (level i j ∙ and-unset (fewer R low (suc times) i j) (on s₂ w temp 0 0) is));
-      kept = let below = got .making .below in kept-then later (kept-less (2 * x + 1) (temp + 4) (omega arith) (f .kept) (λ q i j n. n)) (λ q i j n. n) (λ q i j (m, n) y. omega arith);
+      kept = let below = got .repeatable .below in kept-then later (kept-less (2 * x + 1) (temp + 4) (omega arith) (f .kept) (λ q i j n. n)) (λ q i j n. n) (λ q i j (m, n) y. omega arith);
     }

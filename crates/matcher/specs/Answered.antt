@@ -1,18 +1,11 @@
--- The answer to a match, from the code's enum. Assumes nothing.
+-- What matching answers, by the cases of the code's answer. To be believed.
 use mathlib.Core.Path.{_≡_}
-use mathlib.Core.Option.{none}
-use Prim.Native.Nat.{ℕ, _*_, _≤_}
-use lib.ListN.{length}
-use Rattle.pattern.specs.Numbers.{label-limit, TABLE, LABEL, WORK, PARTS, BUDGET}
+use Prim.Native.Nat.{ℕ}
+use Rattle.pattern.specs.Numbers.{TABLE, LABEL, WORK, PARTS, BUDGET}
 use Rattle.pattern.specs.Bytes.{Bytes}
-use Rattle.pattern.specs.Syntax.{top-size}
-use Rattle.pattern.specs.Parts.{verdict}
-use Rattle.pattern.specs.Trials.{trials}
-use Rattle.pattern.specs.Decode.{tree-of}
-use Rattle.pattern.specs.Answers.{Answer, refusal, result, scratch-needed, Ending, ending, matchOf, Matched as Outcome}
+use Rattle.pattern.specs.Answers.{Answer, refusal, result, matchOf, MatchOutput}
 use Rattle.matcher.specs.declared.Matched.{Matched}
 use Rattle.matcher.specs.declared.Matched.the-variants.{Table, Label, Work, Parts, Budget, No, Yes}
-use Rattle.atoms.specs.Atoms.{GoodTable, atoms}
 
 -- the paper's numbers for each case: "15 reports the budget as trials, every other refusal 0"
 abbrev pub answer-of : (budget : ℕ) → Matched → Answer
@@ -25,21 +18,9 @@ answer-of budget (No trials) = result 0 trials
 answer-of budget (Yes trials) = result 1 trials
 
 -- the answer with scratch and parts afterwards
-abbrev pub outcome-of : (budget : ℕ) → Matched → (scratch parts : Bytes) → Outcome
-outcome-of budget r scratch parts = record { answer = answer-of budget r; scratch = scratch; parts = parts }
+abbrev pub match-output : (budget : ℕ) → Matched → (scratch parts : Bytes) → MatchOutput
+match-output budget r scratch parts = record { answer = answer-of budget r; scratch = scratch; parts = parts }
 
 -- what `match_label` promises of its answer, and of scratch and parts afterwards
 abbrev pub MatchPost : (table label scratch parts : Bytes) → (budget : ℕ) → Matched → (scratch′ parts′ : Bytes) → Type 0
-MatchPost table label scratch parts budget r scratch′ parts′ = outcome-of budget r scratch′ parts′ ≡ matchOf table label scratch parts budget
-
--- how a match ends where 11 to 14 do not apply
-abbrev pub unrefused : (table label : Bytes) → (budget : ℕ) → Ending
-unrefused table label budget = ending none (scratch-needed (tree-of table) (length label)) (trials label (tree-of table)) budget (verdict label (tree-of table))
-
--- a good table, and a label and lent slices that fit it
-pub record RunPre (table label scratch parts : Bytes) (count : ℕ) : Type 0 where
-  pub good : GoodTable table
-  pub counted : count ≡ atoms table
-  pub short : length label ≤ label-limit
-  pub room : scratch-needed (tree-of table) (length label) ≤ length scratch
-  pub fits : 2 * top-size (tree-of table) ≤ length parts
+MatchPost table label scratch parts budget r scratch′ parts′ = match-output budget r scratch′ parts′ ≡ matchOf table label scratch parts budget

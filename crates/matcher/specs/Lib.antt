@@ -3,3 +3,4 @@ pub mod FillBody
 pub mod Steps
 pub mod WriteParts
 pub mod Answered
+pub mod Run

@@ -1,4 +1,4 @@
--- What settling the planes of an atom asks and promises, and of all atoms. Assumes nothing.
+-- What settling the planes of an atom, and of all atoms, asks and promises. Private: a model for this crate's contracts.
 use mathlib.Core.Path.{_≡_}
 use mathlib.Core.Bool.{false}
 use Prim.Native.Nat.{ℕ, suc, _+_, _*_, _<_}
@@ -25,7 +25,7 @@ NoPlane q i j = ⊥
 
 -- s and s′ are the lists before and after
 pub record BeginPost (table label s s′ : Bytes) (w temp x : ℕ) : Type 0 where
-  pub making : RepeatBodyPre s′ w temp (2 * x)
+  pub repeatable : RepeatBodyPre s′ w temp (2 * x)
   pub body : Plane s′ w temp (decide label (body-of (head (node table x))))
   pub kept : Kept s s′ w (temp + 4) (Later temp x)
 

@@ -1,4 +1,4 @@
-// One atom after the other, from the last record to the first: what an atom needs is settled before it.
+// One atom after the other, from the last record to the first: the planes that an atom needs are settled before its own.
 ghost use mathlib.Core.Path.{_≡_};
 ghost use Prim.Native.Nat.{_*_, _≤_, min};
 ghost use Rattle.atoms.specs.Atoms.{atoms};
@@ -23,7 +23,7 @@ fn lesser(a: usize, b: usize) -> usize
     if a < b { a } else { b }
 }
 
-// The planes that making bodies starts from: the body in temp, the empty stretches in temp + 1, nothing in 2 x.
+// The planes that `repeat_body` starts from: the body in temp, the empty stretches in temp + 1, nothing in 2 x.
 fn begin(table: &[u8], label: &[u8], scratch: &mut [u8], w: usize, temp: usize, x: usize)
     requires { ⌜ FillBodyPre (now table) (now label) (now scratch) w temp x ⌝ }
     ensures { λ _. ⌜ BeginPost (now (table .entry)) (now (label .entry)) (now (scratch .entry)) (now (scratch .exit)) w temp x ⌝ }
@@ -75,7 +75,7 @@ fn fill_atom(
     t
 }
 
-// Plane 2 x + 1: the stretches that satisfy atom x and all that join_followers it in its branch.
+// Plane 2 x + 1: the stretches that satisfy atom x and all that follow it in its branch.
 fn join_followers(
     table: &[u8],
     label: &[u8],

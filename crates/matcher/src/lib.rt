@@ -3,8 +3,9 @@ ghost use mathlib.Core.Path.{_≡_};
 ghost use Rattle.pattern.specs.Decode.{decode};
 ghost use Rattle.pattern.specs.Answers.{ended};
 ghost use Rattle.table.specs.declared.Tested.the-variants.{Good};
-ghost use Rattle.table.specs.Walk.{tested};
-ghost use Rattle.matcher.specs.Answered.{answer-of, outcome-of, RunPre, unrefused, MatchPost};
+ghost use Rattle.table.specs.Tested.{tested};
+ghost use Rattle.matcher.specs.Answered.{answer-of, match-output, MatchPost};
+ghost use Rattle.matcher.specs.Run.{RunPre, unrefused};
 
 mod atom;
 mod body;
@@ -87,7 +88,7 @@ fn run(
     budget: u64,
 ) -> Matched
     requires { ⌜ RunPre (now table) (now label) (now scratch) (now parts) atoms ⌝ }
-    ensures { λ r. ⌜ outcome-of budget r (now (scratch .exit)) (now (parts .exit)) ≡ ended (unrefused (now (table .entry)) (now (label .entry)) budget) (now (scratch .entry)) (now (parts .entry)) ⌝ }
+    ensures { λ r. ⌜ match-output budget r (now (scratch .exit)) (now (parts .exit)) ≡ ended (unrefused (now (table .entry)) (now (label .entry)) budget) (now (scratch .entry)) (now (parts .entry)) ⌝ }
 {
     let n = label.len();
     let w = n + 1;

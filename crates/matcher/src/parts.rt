@@ -7,7 +7,7 @@ ghost use Rattle.planes.specs.Cells.{on, Readable};
 ghost use Rattle.matcher.specs.WriteParts.{WritePartsPre, WritePartsPost};
 use atoms::next_atom;
 use atoms::record_at;
-use planes::cells::byte;
+use planes::cells::cell;
 use stores::put16;
 
 // The last m with left on i to m and right on m to n, read in row n; i if there is none.
@@ -17,7 +17,7 @@ fn last_end(scratch: &[u8], w: usize, left: usize, right: usize, i: usize, n: us
 {
     let mut m = n;
     while i < m {
-        if byte(scratch, w, left, i, m) & byte(scratch, w, right, n, m) != 0 {
+        if cell(scratch, w, left, i, m) & cell(scratch, w, right, n, m) != 0 {
             return m;
         }
         m -= 1;

@@ -1,11 +1,11 @@
--- What the calls from C return, and every lent byte afterwards. Assumes nothing.
+-- What the calls from C return, and every lent byte afterwards. To be believed.
 use mathlib.Core.Bool.{Bool, true, false}
 use Prim.Native.Nat.{ℕ}
 use lib.Dec.{leb}
 use lib.ListN.{length}
 use Rattle.pattern.specs.Numbers.{ANSWER}
 use Rattle.pattern.specs.Bytes.{Bytes, overwrite}
-use Rattle.pattern.specs.Answers.{Output, compileOf, writeOf, Matched, matchOf}
+use Rattle.pattern.specs.Answers.{Output, compileOf, writeOf, MatchOutput, matchOf}
 use Rattle.mpt.specs.Area.{area-size, area}
 
 -- the number returned, the lent output and the answer area afterwards
@@ -32,7 +32,7 @@ pub record MatchCalled : Type 0 where
   pub parts : Bytes
   pub answer : Bytes
 
-unfoldable pub match-called : Bool → Matched → (scratch parts answer : Bytes) → MatchCalled
+unfoldable pub match-called : Bool → MatchOutput → (scratch parts answer : Bytes) → MatchCalled
 match-called true m scratch parts answer = record { number = m .answer .number; scratch = m .scratch; parts = m .parts; answer = overwrite (area (m .answer)) answer }
 match-called false m scratch parts answer = record { number = ANSWER; scratch = scratch; parts = parts; answer = answer }
 

@@ -11,7 +11,7 @@ use Rattle.lines.specs.Session.{State, started}
 use Rattle.lines.specs.Trace.{Trace, followed-by, Moves, Runs, none, more, to-come}
 use Rattle.lines.specs.Invariant.{Sized, Sound}
 use Rattle.lines.specs.declared.session.Next.the-variants.{Stop}
-use Rattle.lines.proofs.Owed.{runs-begin, runs-hold}
+use Rattle.lines.proofs.Remaining.{runs-begin, runs-hold}
 use Rattle.lines.proofs.Tidying.{steps-sound}
 use Rattle.mptline.specs.Run.{turn-limit, RunPost}
 

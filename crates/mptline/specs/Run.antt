@@ -1,4 +1,4 @@
--- What the program does from its first write on. Assumes nothing.
+-- What the program does from its first write on. To be believed.
 use mathlib.Core.Path.{_≡_}
 use Prim.Native.Nat.{ℕ}
 use Rattle.lines.specs.Session.{State}

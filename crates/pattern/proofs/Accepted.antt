@@ -1,4 +1,4 @@
--- A source is accepted just where it is not too long and spells a tree within the limits. Assumes nothing.
+-- A source is accepted just where it is not too long and a tree within the limits derives it. Assumes nothing.
 use mathlib.Core.Path.{_≡_, refl, sym, ap}
 use mathlib.Core.Logic.{_↔_, ⊎-elim}
 use mathlib.Core.Bool.{Bool, true, false, _&&_, cond}
@@ -17,21 +17,21 @@ use Rattle.pattern.specs.Meaning.{UpTo}
 use Rattle.pattern.specs.Grammar.{BodyStart, letter, quote, opening, BranchEnd, closing, comma, neither, CountChar, digit, point, CharClass, count-char, body-start, branch-end, char-class, LiteralClass, plain, quoting, barred, literal-class, Derives}
 use Rattle.pattern.specs.Parser.{CountState, empty, first, pointed, second, Phase, counting, inside, after, Stack, top, within, chain, fork, next, ParserState, enter, extend, leave, quoted, grow, counted, move, step, finish, read-from, start, read}
 use Rattle.pattern.specs.ParserInvariant.{before-size, others-size, stack-size, begun-at}
-use Rattle.pattern.specs.Scan.{low, high, longest-count, depth, body-begins, an-atom, begins, begun, large, falls, refuse, atom-fault, fault, Outcome, refused, accepted, scan, outcome}
+use Rattle.pattern.specs.Scan.{low, high, longest-count, depth, body-begins, an-atom, begins, begun, large, falls, refuse, fault, Outcome, refused, accepted, scan, outcome}
 use Rattle.pattern.specs.Within.{Small, Fits, InLimits, Limited}
 use Rattle.pattern.proofs.Tests.{Decides, On, le-or-lt, leb-decides, both, no-test}
 use Rattle.pattern.proofs.Begun.{chain-size, next-size, leave-count, move-count}
 use Rattle.pattern.proofs.ParserCorrect.{form}
-use Rattle.pattern.proofs.TableRows.{atom-fault-is}
+use Rattle.pattern.proofs.TableRows.{atom-fault-is, atom-fault}
 
--- how far the count at a place was looked at: its longest run has no fault yet, none but perhaps a large second number, or none
+-- how far the count was looked at: its longest run has no fault yet, none but perhaps a large second number, or none
 Looked : CountState → CountState → Type 0
 Looked empty r = Unit {0}
 Looked (first n) r = (low r ≤ number-limit) × UpTo (high r) (low r)
 Looked (pointed n) r = (low r ≤ number-limit) × UpTo (high r) (low r)
 Looked (second n m) r = Fits (low r) (high r)
 
--- all that stands before is good
+-- all that is on the stack is within the limits
 Befores : ℕ → List (Syntax atom) → Type 0
 Befores d [] = Unit {0}
 Befores d (a ∷ before) = Befores d before × InLimits d a
@@ -49,7 +49,7 @@ PhaseHolds (counting r) k s = Looked r (longest-count r s)
 PhaseHolds (inside l h value) k s = Fits l h
 PhaseHolds (after l h b) k s = Fits l h × InLimits (depth k) b
 
--- what is good at a place with the source s from there on
+-- what is within the limits in a state with the source s to come
 abbrev Holds : ParserState → Bytes → Type 0
 Holds q s = (begun-at (q .0) (q .1) ≤ atom-limit) × Holding (q .1) × PhaseHolds (q .0) (q .1) s
 
@@ -157,7 +157,7 @@ grow-looks (pointed x) point c s d n e = tt
 grow-looks (second x y) digit c s d n e = rw (longest-count-next (second x y) digit c s e) (λ (a, y, g). (a, y), λ (a, y). (a, y, refl))
 grow-looks (second x y) point c s d n e = tt
 
--- the same at a place
+-- the same in a state
 counted-holds : (o : Option CountState) (k : Stack) (s : Bytes) (n n′ : ℕ) (X G : Type 0) → On o (λ r. ((n ≤ atom-limit) × X × G) ↔ ((n′ ≤ atom-limit) × Looked r (longest-count r s)))
     → On (counted k o) (λ q. begun-at (q .0) (q .1) ≡ n′) → On (counted k o) (λ q. (((n ≤ atom-limit) × Holding k × X) × G) ↔ Holds q s)
 unfolding counted PhaseHolds
@@ -307,7 +307,7 @@ finish-holds (after l h b) (top before) =
 finish-holds (after l h b) (within k u v others before) = tt
 
 module _ (t : Syntax pattern) where
-  -- no fault is found from a place on, and all before is good, just where the source is read as a tree within the limits
+  -- no fault is found from a state on, and all before is within the limits, just where the source is read as a tree within the limits
   Agrees : ParserState → ℕ → Bytes → Type 0
   Agrees q i s = ((scan q i (begun-at (q .0) (q .1)) s ≡ accepted t) × Holds q s) ↔ ((read-from q s ≡ some t) × Limited t)
 
@@ -344,7 +344,7 @@ pub no-faults : (s : Bytes) (t : Syntax pattern) → (scan start 0 0 s ≡ accep
 unfolding begun-at stack-size before-size Holding PhaseHolds Befores Looked Agrees read
 no-faults s t = let a = agrees t s start 0 in (λ e. a .0 (e, (omega arith, tt, tt)), λ r. a .1 r .0)
 
--- accepted exactly: a source is accepted with a tree just where it is not too long and spells the tree, and the tree is within the limits
+-- accepted exactly: a source is accepted with a tree just where it is not too long and the tree derives it and is within the limits
 pub accepted-exactly : (s : Bytes) (t : Syntax pattern) → (outcome s ≡ accepted t) ↔ ((length s ≤ source-limit) × Derives t s × Limited t)
 unfolding outcome
 accepted-exactly s t = go (leb (length s) source-limit) (leb-decides (length s) source-limit)

@@ -51,10 +51,10 @@ module _ {l : Bytes} where
         );
   }
 
-  made-agree : {R : Rel} {P : Bytes → Type 0} → Agree l R P → (k : ℕ) → Agree l (power R k) (Power P k)
+  power-agree : {R : Rel} {P : Bytes → Type 0} → Agree l R P → (k : ℕ) → Agree l (power R k) (Power P k)
   unfolding power Power
-  made-agree r zero = record { on = λ i j h k. via (eqb-decides i j) (λ e. rw e (slice-empty j l), λ e. omega (arith, sym (length-slice i j l k) ∙ ap length e)) }
-  made-agree r (suc c) = join-agree r (made-agree r c)
+  power-agree r zero = record { on = λ i j h k. via (eqb-decides i j) (λ e. rw e (slice-empty j l), λ e. omega (arith, sym (length-slice i j l k) ∙ ap length e)) }
+  power-agree r (suc c) = join-agree r (power-agree r c)
 
   repeat-agree : {R : Rel} {P : Bytes → Type 0} → Agree l R P → (low : ℕ) (high : Option ℕ) → UpTo high low
       → Agree l (repeated (length l) low high R) (λ s. (k : ℕ) × (low ≤ k) × UpTo high k × Power P k s)
@@ -63,7 +63,7 @@ module _ {l : Bytes} where
     on = λ i j h k.
         let n : ℕ = length l in
         let bodies : (c : ℕ) → c < suc (max-count n high) → Decides (leb (min low n) c && power _ c i j) ((min low n ≤ c) × Power P c (slice i j l)) =
-        λ c f. both (leb-decides (min low n) c) (made-agree r c .on i j h k) in
+        λ c f. both (leb-decides (min low n) c) (power-agree r c .on i j h k) in
         via (both (any-decides (suc (max-count n high)) bodies) (either (leb-decides low n) (rw slice-empty at (r .on i i (omega arith) (omega arith)))))
         (few P low high n (slice i j l) o (rw (length-slice i j l k) (omega arith)));
   }

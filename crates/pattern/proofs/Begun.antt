@@ -1,4 +1,4 @@
--- The atoms begun at a place are those of the tree read so far. Assumes nothing.
+-- The atoms begun in a state are those of the tree read so far. Assumes nothing.
 use mathlib.Core.Path.{_≡_, refl}
 use mathlib.Core.List.{List, [], _∷_}
 use mathlib.Core.Option.{Option, none, some}

@@ -46,10 +46,10 @@ unfolding sum
 row n zero h = omega arith
 row n (suc c) h = omega (arith, row n c (omega arith))
 
-rows : (c : ℕ) → 6 * sum c (λ j. sum (suc j) (λ i. suc j - i)) ≡ c * (c + 1) * (c + 2)
+row-sums : (c : ℕ) → 6 * sum c (λ j. sum (suc j) (λ i. suc j - i)) ≡ c * (c + 1) * (c + 2)
 unfolding sum
-rows zero = omega arith
-rows (suc c) = omega (arith, rows c, row (suc c) (suc c) (omega arith))
+row-sums zero = omega arith
+row-sums (suc c) = omega (arith, row-sums c, row (suc c) (suc c) (omega arith))
 
 total-le : (f : Syntax pattern → ℕ) (b : ℕ) → ((x : Syntax pattern) → f x ≤ b) → (xs : List (Syntax pattern)) → total f xs ≤ length xs * b
 unfolding total
@@ -87,14 +87,14 @@ module _ (l : Bytes) where
       let below : max-count n high ≤ n = max-count-le n high in
       omega (arith, sum-le (max-count n high) f (λ k. all-places n) (λ k h. joins-le n (decide l b) (power (decide l b) k)), sum-const (max-count n high) (all-places n), mul-le-mul-right (all-places n) below)
 
-  own-le : (x : Syntax pattern) → atom-trials l x ≤ suc (length l) * all-places (length l)
+  atom-trials-le : (x : Syntax pattern) → atom-trials l x ≤ suc (length l) * all-places (length l)
   unfolding atom-trials
-  own-le (last a) = omega (arith, repeats-le a)
-  own-le (then a p) = omega (arith, repeats-le a, joins-le (length l) (decide l a) (decide l p))
+  atom-trials-le (last a) = omega (arith, repeats-le a)
+  atom-trials-le (then a p) = omega (arith, repeats-le a, joins-le (length l) (decide l a) (decide l p))
 
   -- the count is within the bound
   pub bound : (p : Syntax pattern) → trials l p ≤ trial-bound (size p) (length l)
   unfolding all-places trials trial-bound
   bound p =
       rw (← nodes-size p)
-      (omega (arith, total-le (atom-trials l) (suc (length l) * all-places (length l)) own-le (nodes p), ap (λ x. length (nodes p) * suc (length l) * x) (rows (suc (length l)))))
+      (omega (arith, total-le (atom-trials l) (suc (length l) * all-places (length l)) atom-trials-le (nodes p), ap (λ x. length (nodes p) * suc (length l) * x) (row-sums (suc (length l)))))

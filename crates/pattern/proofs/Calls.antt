@@ -8,7 +8,7 @@ use Prim.Native.Nat.{ℕ, suc, _+_, _*_, _^_, _≤_, _<_}
 use native.Mathlib.Nat.{mul-le-mul}
 use native.Mathlib.Omega.{arith}
 use lib.Dec.{T, leb, leb→le}
-use lib.ListN.{length, take}
+use lib.ListN.{length}
 use lib.Seq.{take-append-seam, take-length}
 use borrow.Author.Tests.{le-leb, lt-leb, leb-true, leb-false}
 use Rattle.pattern.specs.Numbers.{source-limit, atom-limit, label-limit, LONG, DEPTH, ROOM, TABLE, LABEL, PARTS, BUDGET}
@@ -24,7 +24,7 @@ use Rattle.pattern.specs.Faults.{rows-at, Applies, Least}
 use Rattle.pattern.specs.Print.{print}
 use Rattle.pattern.specs.Table.{encode}
 use Rattle.pattern.specs.Decode.{decode}
-use Rattle.pattern.specs.Answers.{Answer, refusal, result, Output, put-if, put, compiled, compileOf, written-back, writeOf, Matched, scratch-needed, part-bytes, lent-fault, Ending, untried, exhausted, decided, ended, ending, match-ending, matchOf}
+use Rattle.pattern.specs.Answers.{Answer, refusal, result, put-if, put, compiled, compileOf, written-back, writeOf, MatchOutput, scratch-needed, part-bytes, lent-fault, Ending, untried, exhausted, decided, ended, ending, match-ending, matchOf, result-bytes, MatchNumber, Untouched, shown}
 use Rattle.pattern.proofs.Tests.{le-or-lt, if-true, if-false}
 use Rattle.pattern.proofs.Longest.{partition-satisfies, verdict-means, verdict-length, part-bytes-length}
 use Rattle.pattern.proofs.Bound.{bound}
@@ -81,23 +81,19 @@ pub put-short : (position : ℕ) (x lent : Bytes) → length lent < length x →
 unfolding put put-if
 put-short position x lent h = ap (λ b. put-if b position x lent) (lt-leb _ _ h)
 
--- what an output that is not refused has at its start
-abbrev pub written : Output → Bytes
-written w = take (w .answer .value) (w .bytes)
-
-put-written : (b : Bool) (position : ℕ) (x lent : Bytes) → put-if b position x lent .answer .number ≡ 0 → written (put-if b position x lent) ≡ x
+put-written : (b : Bool) (position : ℕ) (x lent : Bytes) → put-if b position x lent .answer .number ≡ 0 → result-bytes (put-if b position x lent) ≡ x
 unfolding put-if overwrite
 put-written true position x lent e = take-append-seam x _
 put-written false position x lent e = absurd (omega arith)
 
-write-printed : (o : Option (Syntax pattern)) (source : Bytes) → written-back o source .answer .number ≡ 0 → (t : Syntax pattern) × (o ≡ some t) × (written (written-back o source) ≡ print t)
+write-printed : (o : Option (Syntax pattern)) (source : Bytes) → written-back o source .answer .number ≡ 0 → (t : Syntax pattern) × (o ≡ some t) × (result-bytes (written-back o source) ≡ print t)
 unfolding written-back put
 write-printed none source e = absurd (omega arith)
 write-printed (some t) source e = (t, refl, put-written _ 0 (print t) source e)
 
 -- demand 2: the source that is written back compiles to the table it was written from
 pub write-compile : (table source room : Bytes) → writeOf table source .answer .number ≡ 0 → length table ≤ length room
-    → compileOf (written (writeOf table source)) room ≡ record { answer = result (length table) 0; bytes = overwrite table room }
+    → compileOf (result-bytes (writeOf table source)) room ≡ record { answer = result (length table) 0; bytes = overwrite table room }
 unfolding writeOf compileOf compiled
 write-compile table source room e h =
     let (t, d, w) = write-printed (decode table) source e in
@@ -142,7 +138,7 @@ match-cases P (some t) label scratch parts budget refuses stops decides = lent (
     lent none e = within e (leb (trials label t) budget) refl
 
 -- what a verdict reports, whichever it is
-record Reported (used count : ℕ) (scratch : Bytes) (m : Matched) : Type 0 where
+record Reported (used count : ℕ) (scratch : Bytes) (m : MatchOutput) : Type 0 where
   number-zero : m .answer .number ≡ 0
   trials-count : m .answer .trials ≡ count
   used-zeroed : m .scratch ≡ zeroed used scratch
@@ -155,17 +151,17 @@ decided-reports used count (some ends) scratch parts = record { number-zero = re
 -- where no other refusal applies: the table is good, the label and the lent slices fit
 module _ (table label scratch parts : Bytes) (t : Syntax pattern) (good : decode table ≡ some t) (lent : lent-fault t label scratch parts ≡ none) where
   -- the call makes the trials of the table's tree
-  match-tried : (budget : ℕ) → matchOf table label scratch parts budget ≡ ended (ending none (scratch-needed t (length label)) (trials label t) budget (verdict label t)) scratch parts
+  match-counted : (budget : ℕ) → matchOf table label scratch parts budget ≡ ended (ending none (scratch-needed t (length label)) (trials label t) budget (verdict label t)) scratch parts
   unfolding matchOf match-ending
-  match-tried budget = rw (good, lent)
+  match-counted budget = rw (good, lent)
 
   -- demand 3: a verdict, with the defined count, where the count is within the budget
   pub within-budget : (budget : ℕ) → trials label t ≤ budget → matchOf table label scratch parts budget ≡ ended (decided (scratch-needed t (length label)) (trials label t) (verdict label t)) scratch parts
-  within-budget budget h = match-tried budget ∙ ap (λ e. ended e scratch parts) (ending-within _ _ budget _ h)
+  within-budget budget h = match-counted budget ∙ ap (λ e. ended e scratch parts) (ending-within _ _ budget _ h)
 
   -- otherwise BUDGET, which reports the budget, writes no parts and clears scratch
   pub beyond-budget : (budget : ℕ) → budget < trials label t → matchOf table label scratch parts budget ≡ ended (exhausted (scratch-needed t (length label)) budget) scratch parts
-  beyond-budget budget h = match-tried budget ∙ ap (λ e. ended e scratch parts) (ending-beyond _ _ budget _ h)
+  beyond-budget budget h = match-counted budget ∙ ap (λ e. ended e scratch parts) (ending-beyond _ _ budget _ h)
 
   -- what they report
   pub within-reports : (budget : ℕ) → trials label t ≤ budget → matchOf table label scratch parts budget .answer .trials ≡ trials label t
@@ -220,11 +216,6 @@ write-untouched table source = go (decode table)
     go none e = refl
     go (some t) e = put-untouched _ 0 (print t) source e
 
--- "save one": BUDGET clears scratch; no refusal writes parts
-pub record Untouched (scratch parts : Bytes) (m : Matched) : Type 0 where
-  pub kept-parts : ¬ (m .answer .number ≡ 0) → m .parts ≡ parts
-  pub kept-scratch : ¬ (m .answer .number ≡ 0) → ¬ (m .answer .number ≡ BUDGET) → m .scratch ≡ scratch
-
 ended-untouched : (e : Ending) (scratch parts : Bytes) → Untouched scratch parts (ended e scratch parts)
 unfolding ended
 ended-untouched (untried number) scratch parts = record { kept-parts = λ e. refl; kept-scratch = λ e f. refl }
@@ -237,10 +228,6 @@ unfolding matchOf
 match-untouched table label scratch parts budget = ended-untouched _ scratch parts
 
 -- ---- scratch
-
--- the answer without scratch
-abbrev pub shown : Matched → Answer × Bytes
-shown m = (m .answer, m .parts)
 
 ended-shown : (e : Ending) (scratch other parts : Bytes) → shown (ended e scratch parts) ≡ shown (ended e other parts)
 unfolding ended
@@ -267,7 +254,7 @@ unfolding Least rows-at
 outcome-number source f p e =
     ⊎-elim (λ (h, x, y). (omega arith, omega arith)) (λ (h, (a, b, c)). let (x, y) = row-number _ _ f a in (omega arith, omega arith)) (refused-exactly source f p .0 e)
 
--- demand 2: a source is compiled just when it spells a tree within the limits and its table has room
+-- demand 2: a source is compiled just when a tree within the limits derives it and its table has room
 pub compile-accepted : (source table : Bytes) (t : Syntax pattern) → length source ≤ source-limit → Derives t source → Limited t → length (encode t) ≤ length table
     → compileOf source table ≡ record { answer = result (length (encode t)) 0; bytes = overwrite (encode t) table }
 unfolding compileOf compiled
@@ -309,10 +296,6 @@ write-number table source = go (decode table)
     go : (o : Option (Syntax pattern)) → let n : ℕ = written-back o source .answer .number in (n ≡ 0) ⊎ (n ≡ ROOM) ⊎ (n ≡ TABLE)
     go none = inr (inr refl)
     go (some t) = ⊎-elim inl (λ h. inr (inl h)) (put-number (leb (length (print t)) (length source)) 0 (print t) source)
-
--- a number of matching
-abbrev pub MatchNumber : ℕ → Type 0
-MatchNumber n = (n ≡ 0) ⊎ ((TABLE ≤ n) × (n ≤ BUDGET))
 
 pub match-number : (table label scratch parts : Bytes) (budget : ℕ) → MatchNumber (matchOf table label scratch parts budget .answer .number)
 unfolding matchOf ended

@@ -18,12 +18,12 @@ use Rattle.pattern.specs.Within.{Limited}
 use Rattle.pattern.specs.Faults.{Least}
 use Rattle.pattern.specs.Table.{encode}
 use Rattle.pattern.specs.Decode.{decode}
-use Rattle.pattern.specs.Answers.{refusal, result, compiled, compileOf, writeOf, scratch-needed, part-bytes, lent-fault, matchOf}
+use Rattle.pattern.specs.Answers.{refusal, result, compiled, compileOf, writeOf, scratch-needed, part-bytes, lent-fault, matchOf, result-bytes, Untouched, shown, MatchNumber}
 use Rattle.pattern.proofs.Longest.{partition-satisfies}
 use Rattle.pattern.proofs.Bound.{bound}
 use Rattle.pattern.proofs.Accepted.{accepted-exactly}
 use Rattle.pattern.proofs.Least.{refused-exactly}
-use Rattle.pattern.proofs.Calls.{written, write-compile, budgets-agree, within-reports, beyond-reports, verdict-exactly, count-bounded, compile-untouched, write-untouched, Untouched, match-untouched, match-zeroed, shown, scratch-ignored, compile-accepted, compile-zero, compile-number, write-number, MatchNumber, match-number, match-verdict, match-parts}
+use Rattle.pattern.proofs.Calls.{write-compile, budgets-agree, within-reports, beyond-reports, verdict-exactly, count-bounded, compile-untouched, write-untouched, match-untouched, match-zeroed, scratch-ignored, compile-accepted, compile-zero, compile-number, write-number, match-number, match-verdict, match-parts}
 
 -- ---- demand 1: any bytes, a verdict or a numbered refusal
 
@@ -66,7 +66,7 @@ pub record Demand2 : Type 0 where
   pub accepted-or-named : (source : Bytes) → length source ≤ source-limit → ((t : Syntax pattern) × Derives t source × Limited t) ⊎ ((f : ℕ) × (p : ℕ) × Least source (refused f p))
   -- "A table written back as source compiles to that same table"
   pub written-compiles : (table source room : Bytes) → writeOf table source .answer .number ≡ 0 → length table ≤ length room
-      → compileOf (written (writeOf table source)) room ≡ record { answer = result (length table) 0; bytes = overwrite table room }
+      → compileOf (result-bytes (writeOf table source)) room ≡ record { answer = result (length table) 0; bytes = overwrite table room }
   -- "The verdict is yes exactly when the standard's partition of the label exists"
   pub yes-exactly : (table label scratch parts : Bytes) (t : Syntax pattern) → decode table ≡ some t → lent-fault t label scratch parts ≡ none → (budget : ℕ) → trials label t ≤ budget
       → (matchOf table label scratch parts budget .answer .value ≡ 1) ↔ ((ends : List ℕ) × Partition label t 0 ends)

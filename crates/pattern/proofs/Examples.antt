@@ -6,12 +6,12 @@ use Prim.Native.Nat.{ℕ}
 use lib.ListN.{take, replicate}
 use Rattle.pattern.specs.Numbers.{BUDGET}
 use Rattle.pattern.specs.Bytes.{Bytes, overwrite, bytes}
-use Rattle.pattern.specs.Answers.{Output, compileOf, Matched, part-bytes, matchOf}
+use Rattle.pattern.specs.Answers.{Output, compileOf, MatchOutput, part-bytes, matchOf}
 use Rattle.pattern.proofs.Computed.{computed}
 
 -- what a source and a label give under a budget: compiled into 128 bytes, then matched with 1,024 bytes of scratch and 8 of parts
-unfoldable pub run : Bytes → Bytes → ℕ → Matched
-run source label budget =
+unfoldable pub run-example : Bytes → Bytes → ℕ → MatchOutput
+run-example source label budget =
     let c : Output = compileOf source (replicate 128 7) in
     matchOf (take (c .answer .value) (c .bytes)) label (replicate 1024 7) (replicate 8 7) budget
 
@@ -80,7 +80,7 @@ counts =
 -- what an example is found to answer, its trials only where the example says them
 unfoldable pub answered : Example → ℕ × ℕ × Bytes × Option ℕ
 answered e =
-    let m : Matched = run (e .source) (e .label) (e .budget) in
+    let m : MatchOutput = run-example (e .source) (e .label) (e .budget) in
     (m .answer .number, m .answer .value, m .parts, elim (e .count) [ none ↦ none | some c ↦ some (m .answer .trials) ])
 
 -- what it must answer; parts are written on yes only
@@ -89,18 +89,18 @@ due e = (e .number, e .value, overwrite (part-bytes (e .ends)) (replicate 8 7), 
 
 -- P1 to P14 together, the easy errors together, the counts together
 pub examples-hold : (map answered examples ≡ map due examples) × (map answered easy-errors ≡ map due easy-errors) × (map answered counts ≡ map due counts)
-unfolding computed run examples easy-errors counts answered due
+unfolding computed run-example examples easy-errors counts answered due
 examples-hold = (refl, refl, refl)
 
--- ---- whole calls, with bare numbers: 4 atoms of which 2 stand at the top, 2 bytes of label, so 108 bytes of scratch and 4 of parts
+-- ---- whole calls, with bare numbers: 4 atoms, of which 2 are top-level, 2 bytes of label, so 108 bytes of scratch and 4 of parts
 
-unfoldable pub table-of : Bytes → Bytes
-table-of source = let c : Output = compileOf source (replicate 128 7) in take (c .answer .value) (c .bytes)
+unfoldable pub compiled-table : Bytes → Bytes
+compiled-table source = let c : Output = compileOf source (replicate 128 7) in take (c .answer .value) (c .bytes)
 
 abbrev table-4 : Bytes
-table-4 = table-of (bytes "1(1N,1A)1N")
+table-4 = compiled-table (bytes "1(1N,1A)1N")
 
-abbrev left-alone : ℕ → (scratch parts : ℕ) → Matched
+abbrev left-alone : ℕ → (scratch parts : ℕ) → MatchOutput
 left-alone number scratch parts =
     record { answer = record { number = number; position = 0; value = 0; trials = 0 }; scratch = replicate scratch 7; parts = replicate parts 7 }
 
@@ -111,7 +111,7 @@ pub verdicts-hold : (matchOf table-4 (bytes "a1") (replicate 110 7) (replicate 5
     ≡ record { answer = record { number = 0; position = 0; value = 0; trials = 46 }; scratch = replicate 108 0 ++ 7 ∷ 7 ∷ []; parts = replicate 5 7 })
     × (matchOf table-4 (bytes "a1") (replicate 110 7) (replicate 5 7) 43
     ≡ record { answer = record { number = 15; position = 0; value = 0; trials = 43 }; scratch = replicate 108 0 ++ 7 ∷ 7 ∷ []; parts = replicate 5 7 })
-unfolding computed table-of
+unfolding computed compiled-table
 verdicts-hold = (refl, refl, refl)
 
 -- 11 to 14, each with all that come after it; the limits themselves are taken
@@ -121,5 +121,5 @@ pub refusals-hold : (matchOf (77 ∷ 80 ∷ 84 ∷ []) (replicate 256 65) (7 ∷
     × (matchOf table-4 (bytes "a1") (replicate 107 7) (replicate 3 7) 0 ≡ left-alone 13 107 3)
     × (matchOf table-4 (bytes "a1") (replicate 108 7) (replicate 3 7) 0 ≡ left-alone 14 108 3)
     × (matchOf table-4 (bytes "a1") (replicate 108 7) (replicate 4 7) 44 .answer .number ≡ 0)
-unfolding computed table-of
+unfolding computed compiled-table
 refusals-hold = (refl, refl, refl, refl, refl, refl)

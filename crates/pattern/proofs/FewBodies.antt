@@ -23,9 +23,9 @@ shed P (suc k) s h (x ∷ a, b, e, p, q) =
     (o, (x ∷ a, b, e, p, m))
 
 -- more empty stretches
-grow : (P : Bytes → Type 0) (s : Bytes) → P [] → {n : ℕ} → Power P n s → (k : ℕ) → n ≤ k → Power P k s
+power-grow : (P : Bytes → Type 0) (s : Bytes) → P [] → {n : ℕ} → Power P n s → (k : ℕ) → n ≤ k → Power P k s
 unfolding Power Cut
-grow P s p m = le-ind (λ k. Power P k s) m (λ k h q. ([], s, refl, p, q))
+power-grow P s p m = le-ind (λ k. Power P k s) m (λ k h q. ([], s, refl, p, q))
 
 -- fewer empty stretches
 shrink : (P : Bytes → Type 0) (s : Bytes) (n : ℕ) → length s ≤ n → (k : ℕ) → n ≤ k → Power P k s → Power P n s
@@ -52,13 +52,13 @@ unfolding UpTo
 upto-max none j k u v = tt
 upto-max (some m) j k u v = omega arith
 
--- a stretch of at most n bytes is made of low to high bodies just when it is so with both numbers cut to n, and a body is empty where low is above n
+-- a stretch of at most n bytes is low to high bodies just when it is so with both numbers cut to n, and a body is empty where low is above n
 pub few : (P : Bytes → Type 0) (low : ℕ) (high : Option ℕ) (n : ℕ) (s : Bytes) → UpTo high low → length s ≤ n
     → (((k : ℕ) × (k < suc (max-count n high)) × ((min low n ≤ k) × Power P k s)) × ((low ≤ n) ⊎ P [])) ↔ ((k : ℕ) × (low ≤ k) × UpTo high k × Power P k s)
 few P low high n s o h = (
   λ ((k, f, (g, m)), c).
       let u : UpTo high k = upto-max-count n high k (omega arith) in
-      ⊎-elim (λ v. (k, omega arith, u, m)) (λ p. (max low k, omega arith, upto-max high low k o u, grow P s p m (max low k) (omega arith))) c,
+      ⊎-elim (λ v. (k, omega arith, u, m)) (λ p. (max low k, omega arith, upto-max high low k o u, power-grow P s p m (max low k) (omega arith))) c,
   λ (k, f, u, m).
       ⊎-elim (λ x. ((k, max-count-upto n high k x u, (omega arith, m)), inl (omega arith)))
       (λ x. let (p, q) = shed P n s h (shrink P s (suc n) (omega arith) k x m) in ((n, max-count-upto n high n (omega arith) (upto-less high n k u (omega arith)), (omega arith, q)), inr p))

@@ -26,7 +26,7 @@ From : (ℕ → Option ℕ) → ℕ → Outcome → Type 0
 From f i (refused x p) = (d : ℕ) × (p ≡ i + d) × (f d ≡ some x) × ((j : ℕ) → j < d → f j ≡ none)
 From f i (accepted t) = (j : ℕ) → f j ≡ none
 
--- a place without a fault, and then the others
+-- a position without a fault, and then the others
 later : (f g : ℕ → Option ℕ) (i : ℕ) (o : Outcome) → f zero ≡ none → ((j : ℕ) → f (suc j) ≡ g j) → From g (suc i) o → From f i o
 unfolding From
 later f g i (refused x p) e m (d, a, h, k) = (suc d, omega arith, m d ∙ h, λ j. elim j [ zero ↦ λ l. e | suc n ↦ λ l. m n ∙ k n (omega arith) ])
@@ -36,7 +36,7 @@ first-of : (f : ℕ → Option ℕ) (i x : ℕ) → f zero ≡ some x → From f
 unfolding From
 first-of f i x e = (0, omega arith, e, λ j l. absurd (omega arith))
 
--- the faults from a place on
+-- the faults from a state on
 faults : ParserState → Bytes → ℕ → Option ℕ
 faults q s j = found-there (state-after q (take j s)) (drop j s)
 

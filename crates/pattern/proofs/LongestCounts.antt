@@ -13,21 +13,21 @@ use Rattle.pattern.specs.ParserInvariant.{state-after, AtomsBefore, AtBr
 use Rattle.pattern.specs.Scan.{longest-count}
 use Rattle.pattern.specs.Faults.{LongestCount}
 use Rattle.pattern.proofs.Tests.{On}
-use Rattle.pattern.proofs.Notation.{Byte, class-byte}
-use Rattle.pattern.proofs.ParserSound.{grow-runs}
-use Rattle.pattern.proofs.ParserComplete.{place-append, place-exactly}
+use Rattle.pattern.proofs.Notation.{ByteIn, class-byte}
+use Rattle.pattern.proofs.ParserSound.{grow-so-far}
+use Rattle.pattern.proofs.ParserComplete.{state-append, state-exactly}
 
--- the next byte does not go on with a run
-Halts : CountState → Bytes → Type 0
-Halts r [] = Unit {0}
-Halts r (c ∷ s) = (m : CountChar) → char-class c ≡ count-char m → grow r m c ≡ none
+-- the next byte does not belong to the count
+CountEnds : CountState → Bytes → Type 0
+CountEnds r [] = Unit {0}
+CountEnds r (c ∷ s) = (m : CountChar) → char-class c ≡ count-char m → grow r m c ≡ none
 
--- the run that bytes u have begun goes on for some bytes of s, and then halts
+-- the count that bytes u have begun goes on for some bytes of s, and then ends
 Extends : CountState → Bytes → Bytes → Type 0
-Extends r u s = (w rest : Bytes) × (s ≡ w ++ rest) × CountSoFar (top []) r (u ++ w) × Halts r rest
+Extends r u s = (w rest : Bytes) × (s ≡ w ++ rest) × CountSoFar (top []) r (u ++ w) × CountEnds r rest
 
 extends : (s : Bytes) (r : CountState) (u : Bytes) → CountSoFar (top []) r u → Extends (longest-count r s) u s
-unfolding Extends longest-count Halts
+unfolding Extends longest-count CountEnds
 extends [] r u h = ([], [], refl, rw append-nil h, tt)
 extends (c ∷ s) r u h = go (char-class c) refl (class-byte c) (λ r′ l. extends s r′ (u ++ c ∷ []) l)
   where
@@ -38,73 +38,73 @@ extends (c ∷ s) r u h = go (char-class c) refl (class-byte c) (λ r′ l. exte
         let (w, rest, e, x, y) = f r′ l in
         (c ∷ w, rest, rw e, rw append-assoc at x, y)
 
-    go : (x : CharClass) → char-class c ≡ x → Byte x c → ((r′ : CountState) → CountSoFar (top []) r′ (u ++ c ∷ []) → Extends (longest-count r′ s) (u ++ c ∷ []) s)
+    go : (x : CharClass) → char-class c ≡ x → ByteIn x c → ((r′ : CountState) → CountSoFar (top []) r′ (u ++ c ∷ []) → Extends (longest-count r′ s) (u ++ c ∷ []) s)
         → Extends (elim x [ count-char m ↦ elim (grow r m c) [ none ↦ r | some r′ ↦ longest-count r′ s ] | body-start b ↦ r | branch-end e ↦ r ]) u (c ∷ s)
-    go (count-char m) k b f = more m k (grow r m c) refl (grow-runs (top []) r m c u k b h) f
+    go (count-char m) k b f = more m k (grow r m c) refl (grow-so-far (top []) r m c u k b h) f
     go (body-start b) k e f = ([], c ∷ s, refl, rw append-nil h, λ m i. absurd (let z : _≡_ {A = ℕ} 0 1 = cc in omega arith))
     go (branch-end b) k e f = ([], c ∷ s, refl, rw append-nil h, λ m i. absurd (let z : _≡_ {A = ℕ} 0 1 = cc in omega arith))
 
--- ---- no longer run
+-- ---- no longer count
 
 -- every byte is a digit or a point
-Marks : Bytes → Type 0
-Marks [] = Unit {0}
-Marks (c ∷ s) = ((m : CountChar) × (char-class c ≡ count-char m)) × Marks s
+CountChars : Bytes → Type 0
+CountChars [] = Unit {0}
+CountChars (c ∷ s) = ((m : CountChar) × (char-class c ≡ count-char m)) × CountChars s
 
-marks-both : (u v : Bytes) → Marks u → Marks v → Marks (u ++ v)
-unfolding Marks
-marks-both [] v h g = g
-marks-both (c ∷ u) v (k, h) g = (k, marks-both u v h g)
+count-chars-append : (u v : Bytes) → CountChars u → CountChars v → CountChars (u ++ v)
+unfolding CountChars
+count-chars-append [] v h g = g
+count-chars-append (c ∷ u) v (k, h) g = (k, count-chars-append u v h g)
 
-number-marks : {n : ℕ} {s : Bytes} → Number n s → Marks s
-unfolding Marks
-number-marks (Number.one c k) = ((digit, k), tt)
-number-marks (Number.more {n} {s} h c k) = marks-both s _ (number-marks h) ((digit, k), tt)
+number-chars : {n : ℕ} {s : Bytes} → Number n s → CountChars s
+unfolding CountChars
+number-chars (Number.one c k) = ((digit, k), tt)
+number-chars (Number.more {n} {s} h c k) = count-chars-append s _ (number-chars h) ((digit, k), tt)
 
-low-marks : {n : ℕ} {s : Bytes} → Low n s → Marks s
-low-marks missing = unfold Marks in tt
-low-marks (given h) = number-marks h
+low-chars : {n : ℕ} {s : Bytes} → Low n s → CountChars s
+low-chars missing = unfold CountChars in tt
+low-chars (given h) = number-chars h
 
-point-marks : (v : Bytes) → Marks v → Marks (point-byte ∷ v)
-unfolding Marks char-class between
-point-marks v h = ((point, refl), h)
+point-chars : (v : Bytes) → CountChars v → CountChars (point-byte ∷ v)
+unfolding CountChars char-class between
+point-chars v h = ((point, refl), h)
 
-run-marks : (r : CountState) (u : Bytes) → CountSoFar (top []) r u → Marks u
+so-far-chars : (r : CountState) (u : Bytes) → CountSoFar (top []) r u → CountChars u
 unfolding CountSoFar
-run-marks empty u (e, o) = rw e (unfold Marks in tt)
-run-marks (first n) u h = number-marks h
-run-marks (pointed n) u (x, e, h) = rw e (marks-both x _ (low-marks h) (point-marks [] (unfold Marks in tt)))
-run-marks (second n m) u (x, y, e, h, g) = rw e (marks-both x _ (low-marks h) (point-marks y (number-marks g)))
+so-far-chars empty u (e, o) = rw e (unfold CountChars in tt)
+so-far-chars (first n) u h = number-chars h
+so-far-chars (pointed n) u (x, e, h) = rw e (count-chars-append x _ (low-chars h) (point-chars [] (unfold CountChars in tt)))
+so-far-chars (second n m) u (x, y, e, h, g) = rw e (count-chars-append x _ (low-chars h) (point-chars y (number-chars g)))
 
-mark-at : (u : Bytes) (c : ℕ) (v : Bytes) → Marks (u ++ c ∷ v) → (m : CountChar) × (char-class c ≡ count-char m)
-unfolding Marks
-mark-at [] c v h = h .0
-mark-at (x ∷ u) c v h = mark-at u c v (h .1)
+count-char-at : (u : Bytes) (c : ℕ) (v : Bytes) → CountChars (u ++ c ∷ v) → (m : CountChar) × (char-class c ≡ count-char m)
+unfolding CountChars
+count-char-at [] c v h = h .0
+count-char-at (x ∷ u) c v h = count-char-at u c v (h .1)
 
--- where a run leads
-run-place : (r : CountState) (u : Bytes) → CountSoFar (top []) r u → state-after start u ≡ some (counting r, top [])
+-- where a count leads
+count-state-leads : (r : CountState) (u : Bytes) → CountSoFar (top []) r u → state-after start u ≡ some (counting r, top [])
 unfolding ReadSoFar Cut StackSoFar AtomsBefore
-run-place r u h = place-exactly u (counting r, top []) .1 ([], u, refl, refl, h)
+count-state-leads r u h = state-exactly u (counting r, top []) .1 ([], u, refl, refl, h)
 
 no-step : (q : ParserState) (c : ℕ) (x : Bytes) → step q c ≡ none → state-after q (c ∷ x) ≡ none
 unfolding state-after
 no-step q c x e = rw (state-after, e)
 
-halted : (r r′ : CountState) (w : Bytes) (c : ℕ) (x y : Bytes) → CountSoFar (top []) r w → Halts r (c ∷ x ++ y) → ¬ CountSoFar (top []) r′ (w ++ c ∷ x)
-unfolding Halts step move counted
-halted r r′ w c x y h halts g =
-    let (m, k) = mark-at w c x (run-marks r′ (w ++ c ∷ x) g) in
+no-longer : (r r′ : CountState) (w : Bytes) (c : ℕ) (x y : Bytes) → CountSoFar (top []) r w → CountEnds r (c ∷ x ++ y) → ¬ CountSoFar (top []) r′ (w ++ c ∷ x)
+unfolding CountEnds step move counted
+no-longer r r′ w c x y h halts g =
+    let (m, k) = count-char-at w c x (so-far-chars r′ (w ++ c ∷ x) g) in
     let q : ParserState = (counting r, top []) in
     let e : step q c ≡ none = ap (λ z. move (counting r) (top []) z c) k ∙ ap (counted (top [])) (halts m k) in
-    Option·none-ne-some _ (sym (no-step q c x e) ∙ sym (place-append w start q (c ∷ x) (run-place r w h)) ∙ run-place r′ (w ++ c ∷ x) g)
+    Option·none-ne-some _ (sym (no-step q c x e) ∙ sym (state-append w start q (c ∷ x) (count-state-leads r w h)) ∙ count-state-leads r′ (w ++ c ∷ x) g)
 
--- what the scan looks at is the longest run
-pub longest-run : (s : Bytes) → LongestCount (longest-count empty s) s
+-- the count that the scan looks at is the longest
+pub count-longest : (s : Bytes) → LongestCount (longest-count empty s) s
 unfolding LongestCount Extends CountSoFar AtBranchStart
-longest-run s =
+count-longest s =
     let (w, rest, e, h, halts) = extends s empty [] (refl, refl) in
     (w, rest, e, h, λ x y r′ f g. go w rest h halts x y r′ f g)
   where
-    go : (w rest : Bytes) → CountSoFar (top []) (longest-count empty s) w → Halts (longest-count empty s) rest → (x y : Bytes) (r′ : CountState) → rest ≡ x ++ y → CountSoFar (top []) r′ (w ++ x) → x ≡ []
+    go : (w rest : Bytes) → CountSoFar (top []) (longest-count empty s) w → CountEnds (longest-count empty s) rest → (x y : Bytes) (r′ : CountState) → rest ≡ x ++ y → CountSoFar (top []) r′ (w ++ x) → x ≡ []
     go w rest h halts [] y r′ f g = refl
-    go w rest h halts (c ∷ x) y r′ f g = absurd (halted (longest-count empty s) r′ w c x y h (rw f at halts) g)
+    go w rest h halts (c ∷ x) y r′ f g = absurd (no-longer (longest-count empty s) r′ w c x y h (rw f at halts) g)

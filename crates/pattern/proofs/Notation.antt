@@ -1,4 +1,4 @@
--- Which byte a kind is. Assumes nothing.
+-- Which byte a class is. Assumes nothing.
 use mathlib.Core.Path.{_≡_}
 use mathlib.Core.Bool.{_||_}
 use Prim.Native.Nat.{ℕ, _≤_}
@@ -8,21 +8,21 @@ use Rattle.pattern.specs.Bytes.{between}
 use Rattle.pattern.specs.Grammar.{letter, quote, opening, closing, comma, neither, digit, point, CharClass, count-char, body-start, branch-end, char-class, LiteralClass, plain, quoting, barred, literal-class}
 use Rattle.pattern.proofs.Tests.{and-both, cond-case}
 
--- what a kind says of its byte
-abbrev pub Byte : CharClass → ℕ → Type 0
-Byte (count-char digit) c = c ≤ 57
-Byte (count-char point) c = c ≡ point-byte
-Byte (body-start letter) c = Unit {0}
-Byte (body-start quote) c = c ≡ quote-byte
-Byte (body-start opening) c = c ≡ opening-byte
-Byte (branch-end closing) c = c ≡ closing-byte
-Byte (branch-end comma) c = c ≡ comma-byte
-Byte (branch-end neither) c = Unit {0}
+-- what a class says of its byte
+abbrev pub ByteIn : CharClass → ℕ → Type 0
+ByteIn (count-char digit) c = c ≤ 57
+ByteIn (count-char point) c = c ≡ point-byte
+ByteIn (body-start letter) c = Unit {0}
+ByteIn (body-start quote) c = c ≡ quote-byte
+ByteIn (body-start opening) c = c ≡ opening-byte
+ByteIn (branch-end closing) c = c ≡ closing-byte
+ByteIn (branch-end comma) c = c ≡ comma-byte
+ByteIn (branch-end neither) c = Unit {0}
 
-pub class-byte : (c : ℕ) → Byte (char-class c) c
+pub class-byte : (c : ℕ) → ByteIn (char-class c) c
 unfolding char-class between
 class-byte c =
-    let F : CharClass → Type 0 = λ x. Byte x c in
+    let F : CharClass → Type 0 = λ x. ByteIn x c in
     cond-case (between 48 57 c) F (λ t. leb→le c 57 (and-both (leb 48 c) (leb c 57) t .1)) λ _.
     cond-case (between 65 90 c || between 97 122 c) F (λ t. tt) λ _.
     cond-case (eqb c point-byte) F (eqb→eq c point-byte) λ _.
@@ -37,9 +37,9 @@ TextByte plain c = T (between 32 126 c)
 TextByte quoting c = c ≡ quote-byte
 TextByte barred c = Unit {0}
 
-pub text-byte : (c : ℕ) → TextByte (literal-class c) c
+pub literal-byte : (c : ℕ) → TextByte (literal-class c) c
 unfolding literal-class
-text-byte c =
+literal-byte c =
     let F : LiteralClass → Type 0 = λ x. TextByte x c in
     cond-case (eqb c quote-byte) F (eqb→eq c quote-byte) λ _.
     cond-case (between 32 126 c) F (λ t. t) λ _. tt

@@ -1,4 +1,4 @@
--- The automaton reads every source that spells a tree, and reads that tree. Assumes nothing.
+-- The parser reads every source that a tree derives, as that tree. Assumes nothing.
 use mathlib.Core.Path.{_≡_, refl, ap, _∙_}
 use mathlib.Core.List.{List, [], _∷_, _++_, append-assoc, append-nil}
 use mathlib.Core.Logic.{_↔_}
@@ -13,12 +13,12 @@ use Rattle.pattern.specs.Parser.{empty, first, pointed, second, Phase, c
 use Rattle.pattern.specs.ParserInvariant.{state-after, AtomsBefore, BranchesBefore, AtBranchStart, CountSoFar, StackSoFar, ReadSoFar}
 use Rattle.pattern.proofs.ParserSound.{read-on, read-after, reached-derives}
 
--- the place after a pattern
-unfoldable pub ended : Stack → Syntax pattern → ParserState
-ended k (last (repeat low high b)) = (after low high b, k)
-ended k (then a p) = ended (next k a) p
+-- the state after a pattern
+unfoldable pub after-pattern : Stack → Syntax pattern → ParserState
+after-pattern k (last (repeat low high b)) = (after low high b, k)
+after-pattern k (then a p) = after-pattern (next k a) p
 
--- the bytes lead from one place to another
+-- the bytes lead from one state to another
 pub record Leads (q : ParserState) (w : Bytes) (q′ : ParserState) : Type 0 where
   pub to : state-after q w ≡ some q′
 
@@ -26,10 +26,10 @@ pub by-step : {q q′ : ParserState} (c : ℕ) → step q c ≡ some q′ → Le
 unfolding state-after
 by-step c e = record { to = rw (e, state-after) }
 
-pub place-append : (v : Bytes) (q q′ : ParserState) (w : Bytes) → state-after q v ≡ some q′ → state-after q (v ++ w) ≡ state-after q′ w
+pub state-append : (v : Bytes) (q q′ : ParserState) (w : Bytes) → state-after q v ≡ some q′ → state-after q (v ++ w) ≡ state-after q′ w
 unfolding state-after
-place-append [] q q′ w e = let f : q ≡ q′ = cc in rw f
-place-append (c ∷ v) q q′ w e = go (step q c) (λ x. place-append v x q′ w) e
+state-append [] q q′ w e = let f : q ≡ q′ = cc in rw f
+state-append (c ∷ v) q q′ w e = go (step q c) (λ x. state-append v x q′ w) e
   where
     go : (o : Option ParserState) → ((x : ParserState) → state-after x v ≡ some q′ → state-after x (v ++ w) ≡ state-after q′ w)
         → _≡_ {A = Option ParserState} (elim o [ none ↦ none | some x ↦ state-after x v ]) (some q′) → elim o [ none ↦ none | some x ↦ state-after x (v ++ w) ] ≡ state-after q′ w
@@ -38,18 +38,18 @@ place-append (c ∷ v) q q′ w e = go (step q c) (λ x. place-append v x q′ w
 
 infixl 20 _⨾_
 pub _⨾_ : {q q′ q″ : ParserState} {v w : Bytes} → Leads q v q′ → Leads q′ w q″ → Leads q (v ++ w) q″
-_⨾_ {q = q} {q′ = q′} {v = v} {w = w} a b = record { to = place-append v q q′ w (a .to) ∙ b .to }
+_⨾_ {q = q} {q′ = q′} {v = v} {w = w} a b = record { to = state-append v q q′ w (a .to) ∙ b .to }
 
 -- so what is read from there on is read from here on
 pub reads-on : {q q′ : ParserState} {w : Bytes} → Leads q w q′ → (rest : Bytes) → read-from q (w ++ rest) ≡ read-from q′ rest
 unfolding read-on
 reads-on {q} {w = w} h rest = read-after w q rest ∙ ap (λ o. read-on o rest) (h .to)
 
--- at the place an atom may begin, and k then stands before it
+-- an atom may begin in the state, with this stack
 record AtomMayBegin (q : ParserState) (k : Stack) : Type 0 where
   on : (m : CountChar) (c : ℕ) → char-class c ≡ count-char m → step q c ≡ counted k (grow empty m c)
 
--- at the place a body may begin
+-- a body may begin in the state
 record Enters (q : ParserState) (low : ℕ) (high : Option ℕ) (k : Stack) : Type 0 where
   on : (b : BodyStart) (c : ℕ) → char-class c ≡ body-start b → step q c ≡ some (enter low high k b c)
 
@@ -104,32 +104,32 @@ quoted-leads r (byte h c d) = quoted-leads r h ⨾ by-step c (rw d)
 quoted-leads r (doubled h) = rw append-assoc at (quoted-leads r h ⨾ by-step 34 refl ⨾ by-step 34 refl)
 
 pub ended-closes : (k : Stack) (low : ℕ) (high : Option ℕ) (others : List (Syntax pattern)) (p : Syntax pattern) (before : List (Syntax atom))
-    → step (ended (within k low high others before) p) 41 ≡ some (after low high (group (fork others (only (chain before p)))), k)
-unfolding ended step move char-class between leave next chain
+    → step (after-pattern (within k low high others before) p) 41 ≡ some (after low high (group (fork others (only (chain before p)))), k)
+unfolding after-pattern step move char-class between leave next chain
 ended-closes k low high others (last (repeat l h b)) before = refl
 ended-closes k low high others (then a p) before = ended-closes k low high others p (a ∷ before)
 
 pub ended-parts : (k : Stack) (low : ℕ) (high : Option ℕ) (others : List (Syntax pattern)) (p : Syntax pattern) (before : List (Syntax atom))
-    → step (ended (within k low high others before) p) 44 ≡ some (counting empty, within k low high (chain before p ∷ others) [])
-unfolding ended step move char-class between leave next chain
+    → step (after-pattern (within k low high others before) p) 44 ≡ some (counting empty, within k low high (chain before p ∷ others) [])
+unfolding after-pattern step move char-class between leave next chain
 ended-parts k low high others (last (repeat l h b)) before = refl
 ended-parts k low high others (then a p) before = ended-parts k low high others p (a ∷ before)
 
-ended-finishes : (p : Syntax pattern) (before : List (Syntax atom)) → read-from (ended (top before) p) [] ≡ some (chain before p)
-unfolding ended read-from finish next chain
+ended-finishes : (p : Syntax pattern) (before : List (Syntax atom)) → read-from (after-pattern (top before) p) [] ≡ some (chain before p)
+unfolding after-pattern read-from finish next chain
 ended-finishes (last (repeat l h b)) before = refl
 ended-finishes (then a p) before = ended-finishes p (a ∷ before)
 
 -- where the source of a tree leads
 abbrev Follows : {s : Sort} → Syntax s → Bytes → Type 0
-Follows {s = pattern} p w = (q : ParserState) (k : Stack) → AtomMayBegin q k → Leads q w (ended k p)
-Follows {s = atom} a w = (q : ParserState) (k : Stack) → AtomMayBegin q k → Leads q w (ended k (last a))
+Follows {s = pattern} p w = (q : ParserState) (k : Stack) → AtomMayBegin q k → Leads q w (after-pattern k p)
+Follows {s = atom} a w = (q : ParserState) (k : Stack) → AtomMayBegin q k → Leads q w (after-pattern k (last a))
 Follows {s = body} b w = (q : ParserState) (low : ℕ) (high : Option ℕ) (k : Stack) → Enters q low high k → Leads q w (after low high b, k)
 Follows {s = branches} bs w = (q : ParserState) (k : Stack) (low : ℕ) (high : Option ℕ) (others : List (Syntax pattern)) → AtomMayBegin q (within k low high others [])
     → Leads q (w ++ 41 ∷ []) (after low high (group (fork others bs)), k)
 
 follows : {s : Sort} (x : Syntax s) (w : Bytes) → Derives x w → Follows x w
-unfolding Derives Cut ended step enter move quoted literal-class char-class between chain fork
+unfolding Derives Cut after-pattern step enter move quoted literal-class char-class between chain fork
 follows (last a) w h = follows a w h
 follows (then (repeat low high b) p) w (x, y, e, h, g) = λ q k r.
     rw e (follows (repeat low high b) x h q k r ⨾ follows p y g (after low high b, k) (next k (repeat low high b)) (ready-next low high b k))
@@ -145,12 +145,12 @@ follows (or p bs) w (x, y, e, h, g) = λ q k low high others r.
     let z : Stack = within k low high (p ∷ others) [] in
     rw (e, append-assoc) (follows p x h q (within k low high others []) r ⨾ (by-step 44 (ended-parts k low high others p []) ⨾ follows bs y g (counting empty, z) k low high (p ∷ others) (ready z)))
 
--- a source that spells a tree is read as that tree
+-- a source that a tree derives is read as that tree
 pub complete : (t : Syntax pattern) (s : Bytes) → Derives t s → read s ≡ some t
 unfolding read chain
 complete t s h = rw append-nil at (reads-on (follows t s h start (top []) (ready (top []))) []) ∙ ended-finishes t []
 
--- ---- places
+-- ---- states
 
 -- after what stands before an atom, the atom may begin
 record Reached (k : Stack) (u : Bytes) : Type 0 where
@@ -160,7 +160,7 @@ record Reached (k : Stack) (u : Bytes) : Type 0 where
 
 all-before : (before : List (Syntax atom)) (k : List (Syntax atom) → Stack) → ((xs : List (Syntax atom)) (a : Syntax atom) → next (k xs) a ≡ k (a ∷ xs))
     → (u w : Bytes) → Reached (k []) u → AtomsBefore before w → Reached (k before) (u ++ w)
-unfolding AtomsBefore Cut ended
+unfolding AtomsBefore Cut after-pattern
 all-before [] k n u w r e = rw (e, append-nil) r
 all-before (repeat low high b ∷ before) k n u w r (x, y, e, h, s) =
     let g = all-before before k n u x r h in
@@ -195,27 +195,27 @@ reached (within k low high others before) u (x, y, z, w, e, s, c, o, b) =
     let g = opened-group k low high others x y z (reached k x s) c o in
     rw e (simp append-assoc (simp append-assoc at (all-before before (within k low high others) (λ xs a. refl) _ w (record { at = (counting empty, i); leads = g; ready = ready i }) b)))
 
--- what spells a place leads there
-spelt-leads : (p : Phase) (k : Stack) (u : Bytes) → ReadSoFar p k u → Leads start u (p, k)
-unfolding ReadSoFar Cut CountSoFar StackSoFar AtomsBefore AtBranchStart ended state-after
-spelt-leads (counting empty) (top []) u (x, y, e, s, (f, o)) = rw (e, f, s) (record { to = refl })
-spelt-leads (counting empty) (top (a ∷ before)) u (x, y, e, s, (f, o)) = absurd (let z : _≡_ {A = ℕ} 0 1 = cc in omega arith)
-spelt-leads (counting empty) (within k low high others []) u (x, y, e, (v, w, z, t, g, s, c, o, b), (f, h)) =
+-- the bytes that a state stands for lead to it
+read-leads : (p : Phase) (k : Stack) (u : Bytes) → ReadSoFar p k u → Leads start u (p, k)
+unfolding ReadSoFar Cut CountSoFar StackSoFar AtomsBefore AtBranchStart after-pattern state-after
+read-leads (counting empty) (top []) u (x, y, e, s, (f, o)) = rw (e, f, s) (record { to = refl })
+read-leads (counting empty) (top (a ∷ before)) u (x, y, e, s, (f, o)) = absurd (let z : _≡_ {A = ℕ} 0 1 = cc in omega arith)
+read-leads (counting empty) (within k low high others []) u (x, y, e, (v, w, z, t, g, s, c, o, b), (f, h)) =
     rw (e, f, g, b) (simp append-nil (opened-group k low high others v w z (reached k v s) c o))
-spelt-leads (counting empty) (within k low high others (a ∷ before)) u (x, y, e, s, (f, o)) = absurd (let z : _≡_ {A = ℕ} 0 1 = cc in omega arith)
-spelt-leads (counting (first n)) k u (x, y, e, s, h) = let r = reached k x s in rw e (r .leads ⨾ first-leads (r .ready) h)
-spelt-leads (counting (pointed n)) k u (x, y, e, s, (z, f, h)) = let r = reached k x s in rw (e, f) (r .leads ⨾ low-leads (r .ready) h)
-spelt-leads (counting (second n m)) k u (x, y, e, s, (z, w, f, h, g)) =
+read-leads (counting empty) (within k low high others (a ∷ before)) u (x, y, e, s, (f, o)) = absurd (let z : _≡_ {A = ℕ} 0 1 = cc in omega arith)
+read-leads (counting (first n)) k u (x, y, e, s, h) = let r = reached k x s in rw e (r .leads ⨾ first-leads (r .ready) h)
+read-leads (counting (pointed n)) k u (x, y, e, s, (z, f, h)) = let r = reached k x s in rw (e, f) (r .leads ⨾ low-leads (r .ready) h)
+read-leads (counting (second n m)) k u (x, y, e, s, (z, w, f, h, g)) =
     let r = reached k x s in
     rw (e, f) (r .leads ⨾ (rw append-assoc at (low-leads (r .ready) h ⨾ second-leads g)))
-spelt-leads (inside low high value) k u (x, y, e, s, (z, w, f, c, q)) =
+read-leads (inside low high value) k u (x, y, e, s, (z, w, f, c, q)) =
     let r = reached k x s in
     let t = count-leads (r .ready) c in
     rw (e, f) (r .leads ⨾ (t .leads ⨾ quoted-leads (t .enters) q))
-spelt-leads (after low high b) k u (x, y, e, s, h) =
+read-leads (after low high b) k u (x, y, e, s, h) =
     let r = reached k x s in
     rw e (r .leads ⨾ follows (repeat low high b) y h (r .at) k (r .ready))
 
--- the reading stands at a place just where the bytes before spell it
-pub place-exactly : (u : Bytes) (q : ParserState) → (state-after start u ≡ some q) ↔ ReadSoFar (q .0) (q .1) u
-place-exactly u q = (λ e. rw e at (reached-derives u), λ h. spelt-leads (q .0) (q .1) u h .to)
+-- the parser is in a state just after the bytes that the state stands for
+pub state-exactly : (u : Bytes) (q : ParserState) → (state-after start u ≡ some q) ↔ ReadSoFar (q .0) (q .1) u
+state-exactly u q = (λ e. rw e at (reached-derives u), λ h. read-leads (q .0) (q .1) u h .to)

@@ -1,4 +1,4 @@
--- Form: a source is read just where some tree spells it; the bytes before the place where reading stops can go on to such a source, and with the next byte they cannot. Assumes nothing.
+-- The parser is right: a source is read as a tree just where the tree derives it; where reading stops, the bytes before begin some such source, and with the next byte they begin none. Assumes nothing.
 use mathlib.Core.Path.{_≡_, refl, _∙_}
 use mathlib.Core.Logic.{_↔_}
 use mathlib.Core.List.{[], _∷_, _++_, append-assoc}
@@ -12,11 +12,11 @@ use Rattle.pattern.specs.Faults.{Viable}
 use Rattle.pattern.proofs.ParserSound.{sound}
 use Rattle.pattern.proofs.ParserComplete.{Leads, reads-on, complete}
 
--- a source is read as a tree just where it spells it
+-- a source is read as a tree just where the tree derives it
 pub form : (s : Bytes) (t : Syntax pattern) → (read s ≡ some t) ↔ Derives t s
 form s t = (λ e. rw e at (sound s), complete t s)
 
--- a source spells one tree only
+-- one tree only derives a source
 pub one-tree : (s : Bytes) (t u : Syntax pattern) → Derives t s → Derives u s → t ≡ u
 one-tree s t u h g = cc (complete t s h, complete u s g)
 
@@ -30,7 +30,7 @@ unfolding closers read-from step finish move char-class between leave
 closes (top before) low high b = (_, refl)
 closes (within k l h others before) low high b = closes k l h _
 
--- every place can go on to an end
+-- from every state some bytes lead to an end
 completes : (p : Phase) (k : Stack) → (w : Bytes) × (t : Syntax pattern) × (read-from (p, k) w ≡ some t)
 unfolding read-from step move grow counted enter quoted literal-class char-class between
 completes (counting empty) k = let (t, e) = closes k 0 (some 0) (literal []) in (48 ∷ 34 ∷ 34 ∷ closers k, t, e)

@@ -1,4 +1,4 @@
--- The printed source spells the tree. Assumes nothing.
+-- A tree derives its printed source. Assumes nothing.
 use mathlib.Core.Path.{_≡_, refl, sym}
 use mathlib.Core.Bool.{Bool, true, false, _&&_, _||_}
 use mathlib.Core.List.{List, [], _∷_, _++_, append-assoc, append-nil}
@@ -16,17 +16,17 @@ use Rattle.pattern.specs.Grammar.{letter, quote as quote-starts, opening
 use Rattle.pattern.specs.Within.{InLimits}
 use Rattle.pattern.specs.Print.{decimal-of, decimal, print-low, print-count, print-set, double, print}
 use Rattle.pattern.proofs.Tests.{and-both, passed, cond-case, all, all-at}
-use Rattle.pattern.proofs.Notation.{text-byte}
+use Rattle.pattern.proofs.Notation.{literal-byte}
 use Rattle.pattern.proofs.Decimal.{most, le-most}
 
-digit-class : (c : ℕ) → 48 ≤ c → c ≤ 57 → char-class c ≡ count-char digit
+digit-char : (c : ℕ) → 48 ≤ c → c ≤ 57 → char-class c ≡ count-char digit
 unfolding char-class between
-digit-class c h k = rw (passed (leb 48 c) (le→leb 48 c h), passed (leb c 57) (le→leb c 57 k))
+digit-char c h k = rw (passed (leb 48 c) (le→leb 48 c h), passed (leb c 57) (le→leb c 57 k))
 
 one-digit : (n : ℕ) → n < 10 → Number n ((48 + n) ∷ [])
 one-digit n h =
     let e : (48 + n) - 48 ≡ n = omega arith in
-    rw e at (Number.one (48 + n) (digit-class (48 + n) (omega arith) (omega arith)))
+    rw e at (Number.one (48 + n) (digit-char (48 + n) (omega arith) (omega arith)))
 
 decimal-number : (f n : ℕ) → n ≤ most f → Number n (decimal-of f n)
 unfolding decimal-of most
@@ -37,7 +37,7 @@ decimal-number (suc f) n h = go (ltb n 10) (leb→le (suc n) 10) (decimal-number
     go true t r = one-digit n (t tt)
     go false t r =
         let e : 10 * (n / 10) + ((48 + n % 10) - 48) ≡ n = omega arith in
-        rw e at (Number.more r (48 + n % 10) (digit-class (48 + n % 10) (omega arith) (omega arith)))
+        rw e at (Number.more r (48 + n % 10) (digit-char (48 + n % 10) (omega arith) (omega arith)))
 
 number-printed : (n : ℕ) → Number n (decimal n)
 unfolding decimal
@@ -65,9 +65,9 @@ unfoldable pub Printable : Bytes → Type 0
 Printable [] = Unit {0}
 Printable (c ∷ v) = T (between 32 126 c) × Printable v
 
-plain-text : (c : ℕ) → T (between 32 126 c) → eqb c 34 ≡ false → literal-class c ≡ plain
+plain-char : (c : ℕ) → T (between 32 126 c) → eqb c 34 ≡ false → literal-class c ≡ plain
 unfolding literal-class
-plain-text c t e = rw (e, passed (between 32 126 c) t)
+plain-char c t e = rw (e, passed (between 32 126 c) t)
 
 pub quoted-printed : (v : Bytes) (a : Bytes) (u : Bytes) → Quoted a u → Printable v → Quoted (a ++ v) (u ++ double v)
 unfolding double Printable
@@ -77,57 +77,57 @@ quoted-printed (c ∷ v) a u h (p, r) = go (eqb c 34) refl (eqb→eq c 34) (λ x
     go : (b : Bool) → eqb c 34 ≡ b → (T b → c ≡ 34) → ((x : Bytes) (y : Bytes) → Quoted x y → Quoted (x ++ v) (y ++ double v))
         → Quoted (a ++ c ∷ v) (u ++ (elim b [ true ↦ 34 ∷ 34 ∷ double v | false ↦ c ∷ double v ]))
     go true e t f = rw (t tt) (simp append-assoc at (f (a ++ 34 ∷ []) (u ++ 34 ∷ 34 ∷ []) (Quoted.quote h)))
-    go false e t f = simp append-assoc at (f (a ++ c ∷ []) (u ++ c ∷ []) (byte h c (plain-text c p e)))
+    go false e t f = simp append-assoc at (f (a ++ c ∷ []) (u ++ c ∷ []) (byte h c (plain-char c p e)))
 
 -- letters after letters
 union : ℕ → Bytes → ℕ
 union set [] = set
 union set (c ∷ s) = union (bitOr set (bit c)) s
 
-is-letter : CharClass → Bool
-is-letter (count-char m) = false
-is-letter (body-start letter) = true
-is-letter (body-start quote-starts) = false
-is-letter (body-start opening) = false
-is-letter (branch-end e) = false
+a-letter : CharClass → Bool
+a-letter (count-char m) = false
+a-letter (body-start letter) = true
+a-letter (body-start quote-starts) = false
+a-letter (body-start opening) = false
+a-letter (branch-end e) = false
 
 lettered : Bytes → Bool
 lettered [] = true
-lettered (c ∷ s) = is-letter (char-class c) && lettered s
+lettered (c ∷ s) = a-letter (char-class c) && lettered s
 
-letter-class : (x : CharClass) → T (is-letter x) → x ≡ body-start letter
-unfolding is-letter
-letter-class (count-char m) t = absurd t
-letter-class (body-start letter) t = refl
-letter-class (body-start quote-starts) t = absurd t
-letter-class (body-start opening) t = absurd t
-letter-class (branch-end e) t = absurd t
+letter-char : (x : CharClass) → T (a-letter x) → x ≡ body-start letter
+unfolding a-letter
+letter-char (count-char m) t = absurd t
+letter-char (body-start letter) t = refl
+letter-char (body-start quote-starts) t = absurd t
+letter-char (body-start opening) t = absurd t
+letter-char (branch-end e) t = absurd t
 
 letters-on : (s : Bytes) (set : ℕ) (u : Bytes) → Letters set u → T (lettered s) → Letters (union set s) (u ++ s)
 unfolding union lettered
 letters-on [] set u h t = rw append-nil h
 letters-on (c ∷ s) set u h t =
-    let (a, b) = and-both (is-letter (char-class c)) (lettered s) t in
-    simp append-assoc at (letters-on s (bitOr set (bit c)) (u ++ c ∷ []) (Letters.more h c (letter-class (char-class c) a)) b)
+    let (a, b) = and-both (a-letter (char-class c)) (lettered s) t in
+    simp append-assoc at (letters-on s (bitOr set (bit c)) (u ++ c ∷ []) (Letters.more h c (letter-char (char-class c) a)) b)
 
-spelt-as : Bytes → ℕ → Bool
-spelt-as [] set = eqb set 0
-spelt-as (c ∷ s) set = is-letter (char-class c) && (lettered s && eqb (union (bit c) s) set)
+derived-as : Bytes → ℕ → Bool
+derived-as [] set = eqb set 0
+derived-as (c ∷ s) set = a-letter (char-class c) && (lettered s && eqb (union (bit c) s) set)
 
 -- every set is the union of the letters that are printed for it
-sets-fit : T (all 128 (λ set. spelt-as (print-set all-codes set) set))
-unfolding all spelt-as lettered is-letter union char-class between all-codes bit-among bit print-set
+sets-fit : T (all 128 (λ set. derived-as (print-set all-codes set) set))
+unfolding all derived-as lettered a-letter union char-class between all-codes bit-among bit print-set
 sets-fit = tt
 
 pub letters-printed : (set : ℕ) → 0 < set → set < set-limit → Letters set (print-set all-codes set)
-letters-printed set h l = go (print-set all-codes set) (all-at 128 (λ x. spelt-as (print-set all-codes x) x) sets-fit set l)
+letters-printed set h l = go (print-set all-codes set) (all-at 128 (λ x. derived-as (print-set all-codes x) x) sets-fit set l)
   where
-    go : (w : Bytes) → T (spelt-as w set) → Letters set w
-    go [] t = let e : set ≡ 0 = eqb→eq set 0 (unfold spelt-as in t) in absurd (omega arith)
+    go : (w : Bytes) → T (derived-as w set) → Letters set w
+    go [] t = let e : set ≡ 0 = eqb→eq set 0 (unfold derived-as in t) in absurd (omega arith)
     go (c ∷ s) t =
-        let (a, b) = and-both (is-letter (char-class c)) (lettered s && eqb (union (bit c) s) set) (unfold spelt-as in t) in
+        let (a, b) = and-both (a-letter (char-class c)) (lettered s && eqb (union (bit c) s) set) (unfold derived-as in t) in
         let (x, y) = and-both (lettered s) (eqb (union (bit c) s) set) b in
-        rw (eqb→eq (union (bit c) s) set y) at (letters-on s (bit c) (c ∷ []) (Letters.one c (letter-class (char-class c) a)) x)
+        rw (eqb→eq (union (bit c) s) set y) at (letters-on s (bit c) (c ∷ []) (Letters.one c (letter-char (char-class c) a)) x)
 
 bit-some : (ls : List Code) (b c : ℕ) → 0 < b → 0 < bit-among ls b c
 unfolding bit-among
@@ -147,10 +147,10 @@ printable-more (x ∷ v) c (a, p) t = (a, printable-more v c p t)
 pub quoted-printable : {v : Bytes} {s : Bytes} → Quoted v s → Printable v
 unfolding Printable between
 quoted-printable start = tt
-quoted-printable (byte {v} h c e) = printable-more v c (quoted-printable h) (rw e at (text-byte c))
+quoted-printable (byte {v} h c e) = printable-more v c (quoted-printable h) (rw e at (literal-byte c))
 quoted-printable (Quoted.quote {v} h) = printable-more v 34 (quoted-printable h) tt
 
--- a good tree that some source spells is spelt by its printed source
+-- a tree within the limits that derives some source derives its printed source
 pub printed : {s : Sort} (d : ℕ) (x : Syntax s) (w : Bytes) → InLimits d x → Derives x w → Derives x (print x)
 unfolding Derives Cut InLimits print
 printed d (last a) w g h = printed d a w g h

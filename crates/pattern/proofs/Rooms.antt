@@ -27,16 +27,16 @@ quoted-pool start = omega arith
 quoted-pool (byte {v} {s} q c e) = omega (arith, quoted-pool q, length-append v (c ∷ []), length-append s (c ∷ []))
 quoted-pool (quote {v} {s} q) = omega (arith, quoted-pool q, length-append v (quote-byte ∷ []), length-append s (quote-byte ∷ quote-byte ∷ []))
 
-spelt-pool : {o : Sort} (x : Syntax o) (s : Bytes) → Derives x s → length (pool x) ≤ length s
+derived-pool : {o : Sort} (x : Syntax o) (s : Bytes) → Derives x s → length (pool x) ≤ length s
 unfolding Derives Cut pool
-spelt-pool (last a) s h = spelt-pool a s h
-spelt-pool (then a p) s (u, v, e, x, y) = omega (arith, ap length e, length-append u v, spelt-pool a u x, spelt-pool p v y, length-append (pool a) (pool p))
-spelt-pool (repeat low high b) s (u, v, e, x, y) = omega (arith, ap length e, length-append u v, spelt-pool b v y)
-spelt-pool (codes set) s h = omega arith
-spelt-pool (literal value) s (q, e, r) = omega (arith, ap length e, length-append q (quote-byte ∷ []), quoted-pool r)
-spelt-pool (group bs) s (w, e, h) = omega (arith, ap length e, length-append w (closing-byte ∷ []), spelt-pool bs w h)
-spelt-pool (only p) s h = spelt-pool p s h
-spelt-pool (or p bs) s (u, w, e, x, y) = omega (arith, ap length e, length-append u (comma-byte ∷ w), spelt-pool p u x, spelt-pool bs w y, length-append (pool p) (pool bs))
+derived-pool (last a) s h = derived-pool a s h
+derived-pool (then a p) s (u, v, e, x, y) = omega (arith, ap length e, length-append u v, derived-pool a u x, derived-pool p v y, length-append (pool a) (pool p))
+derived-pool (repeat low high b) s (u, v, e, x, y) = omega (arith, ap length e, length-append u v, derived-pool b v y)
+derived-pool (codes set) s h = omega arith
+derived-pool (literal value) s (q, e, r) = omega (arith, ap length e, length-append q (quote-byte ∷ []), quoted-pool r)
+derived-pool (group bs) s (w, e, h) = omega (arith, ap length e, length-append w (closing-byte ∷ []), derived-pool bs w h)
+derived-pool (only p) s h = derived-pool p s h
+derived-pool (or p bs) s (u, w, e, x, y) = omega (arith, ap length e, length-append u (comma-byte ∷ w), derived-pool p u x, derived-pool bs w y, length-append (pool p) (pool bs))
 
 pub top-le : (p : Syntax pattern) → top-size p ≤ size p
 unfolding top-size size
@@ -49,7 +49,7 @@ module _ (source : Bytes) (t : Syntax pattern) (good : outcome source ≡ accept
   unfolding encode header
   table-fits =
       let (n, s, l) = accepted-exactly source t .0 good in
-      omega (arith, l .atoms, spelt-pool t source s, length-record-bytes (records 1 t 0 0) (pool t), count-records 1 t 0 0)
+      omega (arith, l .atoms, derived-pool t source s, length-record-bytes (records 1 t 0 0) (pool t), count-records 1 t 0 0)
 
   pub parts-fit : 2 * top-size t ≤ parts-room
   parts-fit = let (n, s, l) = accepted-exactly source t .0 good in omega (arith, l .atoms, top-le t)

@@ -1,4 +1,4 @@
--- The scan's fault at a place is the lowest of the table's rows that apply there. Assumes nothing.
+-- The scan's fault in a state is the lowest of the refusal table's rows that apply there. Assumes nothing.
 use mathlib.Core.Path.{_≡_, refl, ap}
 use mathlib.Core.Logic.{_⊎_, inl, inr, ⊎-elim}
 use mathlib.Core.Bool.{Bool, true, false, not, _&&_}
@@ -13,7 +13,7 @@ use Rattle.pattern.specs.Syntax.{pattern, Syntax}
 use Rattle.pattern.specs.Grammar.{char-class}
 use Rattle.pattern.specs.Parser.{CountState, ParserState, step, finish}
 use Rattle.pattern.specs.ParserInvariant.{begun-at}
-use Rattle.pattern.specs.Scan.{low, high, depth, Begins, an-atom, a-second, a-code, a-group, nothing, begins, large, falls, refuse, atom-rows, rows, atom-fault, fault}
+use Rattle.pattern.specs.Scan.{low, high, depth, Begins, an-atom, a-second, a-code, a-group, nothing, begins, large, falls, refuse, atom-rows, rows, fault}
 use Rattle.pattern.specs.Faults.{form-row, rows-there, Applies}
 
 -- ---- the first test that passes
@@ -75,13 +75,17 @@ range-row l (some m) = go (leb l number-limit) (ltb number-limit m) (ltb m l) (l
     go true true false f g h = refl
     go true true true f g h = absurd (let x = f tt in let y = g tt in let z = h tt in omega arith)
 
--- an atom's fault without the test that is implied
+-- the lowest fault of an atom that begins after n others with this count
+abbrev pub atom-fault : ℕ → CountState → Option ℕ
+atom-fault n r = refuse (atom-rows n r)
+
+-- the same without the test that is implied
 pub atom-fault-is : (n : ℕ) (r : CountState) → atom-fault n r
     ≡ refuse ((ltb number-limit (low r), NUMBER) ∷ (leb (low r) number-limit && falls (low r) (high r), RANGE) ∷ (leb atom-limit n, ATOMS) ∷ [])
 unfolding atom-rows
 atom-fault-is n r = ap (λ b. refuse ((ltb number-limit (low r), NUMBER) ∷ (b, RANGE) ∷ (leb atom-limit n, ATOMS) ∷ [])) (range-row (low r) (high r))
 
--- the lowest fault at a place, in the scan's order
+-- the lowest fault in a state, in the scan's order
 unfoldable pub found : ParserState → Bytes → Option ℕ
 found q [] = elim (finish (q .0) (q .1)) [ none ↦ some FORM | some t ↦ none ]
 found q (c ∷ s) = elim (step q c) [ none ↦ some FORM | some q′ ↦ fault (begins (q .0) (char-class c)) (depth (q .1)) (begun-at (q .0) (q .1)) c s ]

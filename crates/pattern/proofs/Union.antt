@@ -1,4 +1,4 @@
--- Several letters mean the union: a byte is of the set that letters spell just when it is of the code of one of them. Assumes nothing.
+-- Several letters mean the union: a byte is of the set of some letters just when it is of the code of one of them. Assumes nothing.
 use mathlib.Core.Path.{_≡_, refl, sym, ap, ap₂, _∙_}
 use mathlib.Core.Bool.{Bool, true, false, _&&_, _||_, or-assoc, or-false}
 use mathlib.Core.List.{List, [], _∷_, _++_}
@@ -53,7 +53,7 @@ unfolding in-letters
 in-letters-more [] c b = or-false (in-set (bit c) b)
 in-letters-more (x ∷ s) c b = ap (λ y. in-set (bit x) b || y) (in-letters-more s c b) ∙ sym (or-assoc (in-set (bit x) b) (in-letters s b) (in-set (bit c) b))
 
--- the set that letters spell
+-- the set of some letters
 pub letters-union : {set : ℕ} {s : Bytes} → Letters set s → (b : ℕ) → in-set set b ≡ in-letters s b
 unfolding in-letters
 letters-union (Letters.one c k) b = sym (or-false (in-set (bit c) b))

@@ -1,10 +1,12 @@
--- What the three calls answer, and every lent byte afterwards. Assumes nothing.
+-- What the three calls answer, and every lent byte afterwards. To be believed.
+use mathlib.Core.Path.{_≡_}
+use mathlib.Core.Logic.{_⊎_}
 use mathlib.Core.Bool.{Bool, true, false}
 use mathlib.Core.List.{List, [], _∷_}
 use mathlib.Core.Option.{Option, none, some}
-use Prim.Native.Nat.{ℕ, _+_, _*_}
+use Prim.Native.Nat.{ℕ, _+_, _*_, _≤_}
 use lib.Dec.{leb, ltb}
-use lib.ListN.{length}
+use lib.ListN.{length, take}
 use Rattle.pattern.specs.Numbers.{label-limit, ROOM, TABLE, LABEL, WORK, PARTS, BUDGET}
 use Rattle.pattern.specs.Bytes.{Bytes, le16, overwrite, zeroed}
 use Rattle.pattern.specs.Syntax.{pattern, Syntax, size, top-size}
@@ -60,7 +62,7 @@ unfoldable pub writeOf : (table source : Bytes) → Output
 writeOf table source = written-back (decode table) source
 
 -- an answer to a match, and scratch and parts afterwards
-pub record Matched : Type 0 where
+pub record MatchOutput : Type 0 where
   pub answer : Answer
   pub scratch : Bytes
   pub parts : Bytes
@@ -89,7 +91,7 @@ pub data Ending : Type 0 where
   decided : (used trials : ℕ) (verdict : Option (List ℕ)) → Ending
 
 -- what an ending answers and leaves: scratch is cleared "after a verdict or BUDGET", "which reports the budget", and parts are written on yes
-unfoldable pub ended : Ending → (scratch parts : Bytes) → Matched
+unfoldable pub ended : Ending → (scratch parts : Bytes) → MatchOutput
 ended (untried number) scratch parts = record { answer = refusal number 0; scratch = scratch; parts = parts }
 ended (exhausted used budget) scratch parts =
     record { answer = record { number = BUDGET; position = 0; value = 0; trials = budget }; scratch = zeroed used scratch; parts = parts }
@@ -108,5 +110,24 @@ match-ending none label scratch parts budget = untried TABLE
 match-ending (some t) label scratch parts budget =
     ending (lent-fault t label scratch parts) (scratch-needed t (length label)) (trials label t) budget (verdict label t)
 
-unfoldable pub matchOf : (table label scratch parts : Bytes) → (budget : ℕ) → Matched
+unfoldable pub matchOf : (table label scratch parts : Bytes) → (budget : ℕ) → MatchOutput
 matchOf table label scratch parts budget = ended (match-ending (decode table) label scratch parts budget) scratch parts
+
+-- ---- what the demands say of answers
+
+-- what an output that is not refused has at its start
+abbrev pub result-bytes : Output → Bytes
+result-bytes o = take (o .answer .value) (o .bytes)
+
+-- the numbers that a match may answer: 0, and 11 to 15
+abbrev pub MatchNumber : ℕ → Type 0
+MatchNumber n = (n ≡ 0) ⊎ ((TABLE ≤ n) × (n ≤ BUDGET))
+
+-- "a refused call writes nothing, save one": after BUDGET scratch is zeroed
+pub record Untouched (scratch parts : Bytes) (m : MatchOutput) : Type 0 where
+  pub kept-parts : ¬ (m .answer .number ≡ 0) → m .parts ≡ parts
+  pub kept-scratch : ¬ (m .answer .number ≡ 0) → ¬ (m .answer .number ≡ BUDGET) → m .scratch ≡ scratch
+
+-- what a match shows: its answer and the parts, not scratch
+abbrev pub shown : MatchOutput → Answer × Bytes
+shown m = (m .answer, m .parts)

@@ -1,4 +1,4 @@
--- Lists of bytes. Assumes nothing.
+-- Lists of bytes. To be believed.
 use mathlib.Core.Bool.{Bool, true, false, _&&_}
 use mathlib.Core.List.{List, [], _∷_, _++_}
 use Prim.Native.Nat.{ℕ, _/_, _%_}

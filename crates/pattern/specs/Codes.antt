@@ -1,4 +1,4 @@
--- The code letters with their bytes: one table for what a letter stands for, which bytes are of a set, and how a set is written. Assumes nothing.
+-- The code letters with their bytes: one table for what a letter stands for, which bytes are of a set, and how a set is written. To be believed.
 use mathlib.Core.Bool.{Bool, false, _&&_, _||_, cond}
 use mathlib.Core.List.{List, [], _∷_}
 use Prim.Native.Nat.{ℕ, _+_, _*_, _/_, _%_}

@@ -1,4 +1,4 @@
--- The meaning as tests that compute, on a label and two places of it. Assumes nothing.
+-- The meaning as tests that compute, on a label and two places of it. To be believed.
 use mathlib.Core.Bool.{Bool, false, _&&_, _||_}
 use mathlib.Core.List.{[], _∷_}
 use mathlib.Core.Option.{Option, none, some}
@@ -27,7 +27,7 @@ trial R S i j d = R i (i + d) && S (i + d) j
 unfoldable pub join : Rel → Rel → Rel
 join R S i j = any (suc j - i) (trial R S i j)
 
--- i to j is made of k bodies; no bodies make only an empty stretch
+-- the power of a relation: i to j is cut into k stretches in it, and into none just if it is empty
 unfoldable pub power : Rel → ℕ → Rel
 power R zero = λ i j. eqb i j
 power R (suc k) = join R (power R k)
@@ -37,7 +37,7 @@ unfoldable pub max-count : ℕ → Option ℕ → ℕ
 max-count n none = n
 max-count n (some high) = min n high
 
--- i to j is made of low to high bodies, both numbers cut to the label's length n; beyond n some body is empty
+-- i to j is cut into low to high stretches in R, both numbers cut to the label's length n; beyond n some stretch is empty
 unfoldable pub repeated : ℕ → ℕ → Option ℕ → Rel → Rel
 repeated n low high R i j = any (suc (max-count n high)) (λ k. leb (min low n) k && power R k i j) && (leb low n || R i i)
 

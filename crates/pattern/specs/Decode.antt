@@ -1,4 +1,4 @@
--- The tree of a good table. Assumes nothing.
+-- The tree of a good table. To be believed.
 use mathlib.Core.Bool.{true, false}
 use mathlib.Core.Option.{Option, none, some}
 use Prim.Native.Nat.{ℕ, zero, suc, _+_, _*_, pred}

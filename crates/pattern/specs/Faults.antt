@@ -1,4 +1,4 @@
--- The refusals of a source as the paper lists them: where the form stops, and which rows of the table apply at each position. Assumes nothing.
+-- The refusals of a source as the paper lists them: where FORM stands, and which rows of the table apply at each position. To be believed.
 use mathlib.Core.Path.{_≡_}
 use mathlib.Core.Logic.{_⊎_}
 use mathlib.Core.Bool.{Bool, true}
@@ -27,13 +27,13 @@ FormAt s p = Viable (take p s) × (((p < length s) × ¬ Viable (take (suc p) s)
 abbrev pub form-row : List (Bool × ℕ)
 form-row = (true, FORM) ∷ []
 
--- the rows at a place with the source s from there on: FORM alone where no pattern continues so, else rows 3 to 7
+-- the rows in a state of the parser with the source s to come: FORM alone where no pattern continues so, else rows 3 to 7
 unfoldable pub rows-there : Option ParserState → Bytes → List (Bool × ℕ)
 rows-there none s = []
 rows-there (some q) [] = elim (finish (q .0) (q .1)) [ none ↦ form-row | some t ↦ [] ]
 rows-there (some q) (c ∷ s) = elim (step q c) [ none ↦ form-row | some q′ ↦ rows (begins (q .0) (char-class c)) (depth (q .1)) (begun-at (q .0) (q .1)) c s ]
 
--- the rows at a position: those of the place which the bytes before it spell; none where the form has stopped before
+-- the rows at a position: those in the state after the bytes before it; none where no pattern begins with them
 unfoldable pub rows-at : Bytes → ℕ → List (Bool × ℕ)
 rows-at s p = rows-there (state-after start (take p s)) (drop p s)
 
@@ -47,7 +47,7 @@ unfoldable pub Least : Bytes → Outcome → Type 0
 Least s (refused f p) = Applies (rows-at s p) f × ((g : ℕ) → Applies (rows-at s p) g → f ≤ g) × ((j g : ℕ) → j < p → ¬ Applies (rows-at s j) g)
 Least s (accepted t) = (j g : ℕ) → ¬ Applies (rows-at s j) g
 
--- "taken as the longest run": the first bytes of s spell the run, and those with more bytes spell none
+-- "taken as the longest run": s begins with a count in this state, and no longer beginning of s is a count
 unfoldable pub LongestCount : CountState → Bytes → Type 0
 LongestCount r s =
     (w rest : Bytes) × (s ≡ w ++ rest) × CountSoFar (top []) r w × ((x y : Bytes) (r′ : CountState) → rest ≡ x ++ y → CountSoFar (top []) r′ (w ++ x) → x ≡ [])

@@ -1,4 +1,4 @@
--- In which ways a source may spell a tree: the grammar. Any letter counts as a code here, and no number is limited. Assumes nothing.
+-- The grammar: which sources a tree derives. Any letter counts as a code here, and no number is limited. To be believed.
 use mathlib.Core.Path.{_≡_}
 use mathlib.Core.Bool.{_||_, cond}
 use mathlib.Core.List.{[], _∷_, _++_}
@@ -47,7 +47,7 @@ pub data LiteralClass : Type 0 where
 unfoldable pub literal-class : ℕ → LiteralClass
 literal-class c = cond (eqb c quote-byte) quoting (cond (between 32 126 c) plain barred)
 
--- one or more digits spell a number, with leading zeros or none
+-- a number: one or more digits, leading zeros allowed
 pub data Number : ℕ → Bytes → Type 0 where
   one : (c : ℕ) → char-class c ≡ count-char digit → Number (c - zero-byte) (c ∷ [])
   more : {n : ℕ} {s : Bytes} → Number n s → (c : ℕ) → char-class c ≡ count-char digit → Number (10 * n + (c - zero-byte)) (s ++ c ∷ [])
@@ -63,18 +63,18 @@ pub data Count : ℕ → Option ℕ → Bytes → Type 0 where
   from : {n : ℕ} {s : Bytes} → Low n s → Count n none (s ++ point-byte ∷ [])
   range : {n m : ℕ} {s w : Bytes} → Low n s → Number m w → Count n (some m) (s ++ point-byte ∷ w)
 
--- one or more letters spell the union of their bits
+-- a set of codes: one or more letters, the union of their bits
 pub data Letters : ℕ → Bytes → Type 0 where
   one : (c : ℕ) → char-class c ≡ body-start letter → Letters (bit c) (c ∷ [])
   more : {set : ℕ} {s : Bytes} → Letters set s → (c : ℕ) → char-class c ≡ body-start letter → Letters (bitOr set (bit c)) (s ++ c ∷ [])
 
--- a quote and then what spells a value, a quote inside doubled
+-- a literal before its last quote: a quote and then the bytes of its value, a quote inside doubled
 pub data Quoted : Bytes → Bytes → Type 0 where
   start : Quoted [] (quote-byte ∷ [])
   byte : {v s : Bytes} → Quoted v s → (c : ℕ) → literal-class c ≡ plain → Quoted (v ++ c ∷ []) (s ++ c ∷ [])
   quote : {v s : Bytes} → Quoted v s → Quoted (v ++ quote-byte ∷ []) (s ++ quote-byte ∷ quote-byte ∷ [])
 
--- a tree derives a source
+-- a tree derives a source: the source is one of the ways to write the tree
 unfoldable pub Derives : {s : Sort} → Syntax s → Bytes → Type 0
 Derives (last a) s = Derives a s
 Derives (then a p) s = Cut (Derives a) (Derives p) s

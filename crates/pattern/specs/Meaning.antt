@@ -1,4 +1,4 @@
--- What a match means, on byte lists of any length. Assumes nothing.
+-- What a match means, on byte lists of any length. To be believed.
 use mathlib.Core.Path.{_≡_}
 use mathlib.Core.Logic.{_⊎_}
 use mathlib.Core.List.{[], _∷_, _++_}

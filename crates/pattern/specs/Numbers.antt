@@ -1,4 +1,4 @@
--- The numbers of the paper: limits, refusals, mark and sizes, each named once. Assumes nothing.
+-- The numbers of the paper: limits, refusals, mark, layout and sizes, each named once. To be believed, all but `length-place`.
 use mathlib.Core.List.{List, [], _∷_}
 use Prim.Native.Nat.{ℕ, _+_, _*_}
 
@@ -22,7 +22,7 @@ number-limit = 9999
 abbrev pub label-limit : ℕ
 label-limit = 255
 
--- sets of codes are below this; in a spelling it is the bit of every letter other than the seven
+-- sets of codes are below this; it is the bit of every letter other than the seven, which the grammar allows and CODE refuses
 abbrev pub set-limit : ℕ
 set-limit = 128
 

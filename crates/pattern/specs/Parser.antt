@@ -1,4 +1,4 @@
--- The parser: an automaton over the bytes of a source, with the tree read so far. Assumes nothing.
+-- The parser: an automaton over the bytes of a source, with the tree read so far. To be believed.
 use mathlib.Core.List.{List, [], _∷_, _++_}
 use mathlib.Core.Option.{Option, none, some}
 use Prim.Native.Nat.{ℕ, _+_, _-_, _*_}

@@ -1,4 +1,4 @@
--- What the states of the parser mean: which bytes have been read in each. Assumes nothing.
+-- What the states of the parser mean: which bytes have been read in each. To be believed.
 use mathlib.Core.Path.{_≡_}
 use mathlib.Core.List.{List, [], _∷_, _++_}
 use mathlib.Core.Option.{Option, none, some}

@@ -1,4 +1,4 @@
--- The parts: where the stretches of the top-level atoms end, the longest first. Assumes nothing.
+-- The parts: where the stretches of the top-level atoms end, the longest first. To be believed.
 use mathlib.Core.Path.{_≡_}
 use mathlib.Core.Logic.{_⊎_}
 use mathlib.Core.List.{List, [], _∷_}

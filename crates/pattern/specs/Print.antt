@@ -1,4 +1,4 @@
--- The shortest source of a tree. Assumes nothing.
+-- The shortest source of a tree. To be believed.
 use mathlib.Core.Bool.{true, false}
 use mathlib.Core.List.{List, [], _∷_, _++_}
 use mathlib.Core.Option.{Option, none, some}

@@ -1,4 +1,4 @@
--- The refusals of a source, 1 to 7, by the order of their positions, and the tree of an accepted one. Assumes nothing.
+-- The refusals of a source, 1 to 7, by the order of their positions, and the tree of an accepted one. To be believed.
 use mathlib.Core.Bool.{Bool, true, false, not, _&&_, cond}
 use mathlib.Core.List.{List, [], _∷_}
 use mathlib.Core.Option.{Option, none, some}
@@ -98,10 +98,7 @@ rows a-code d n c s = (leb set-limit (bit c), CODE) ∷ []
 rows a-group d n c s = (leb depth-limit d, DEPTH) ∷ []
 rows nothing d n c s = []
 
--- the lowest fault other than FORM: of an atom, and of what begins with a byte
-abbrev pub atom-fault : ℕ → CountState → Option ℕ
-atom-fault n r = refuse (atom-rows n r)
-
+-- the lowest fault other than FORM of what begins with a byte
 unfoldable pub fault : Begins → (d n c : ℕ) → Bytes → Option ℕ
 unfolding rows refuse
 fault b d n c s = refuse (rows b d n c s)

@@ -1,4 +1,4 @@
--- Lent bytes after stores. Assumes nothing.
+-- Lent bytes after stores. To be believed.
 use mathlib.Core.Path.{_≡_}
 use Prim.Native.Nat.{ℕ, _+_}
 use lib.ListN.{length}

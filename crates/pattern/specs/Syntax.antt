@@ -1,4 +1,4 @@
--- The syntax of a pattern, as a tree. Assumes nothing.
+-- The syntax of a pattern, as a tree. To be believed.
 use mathlib.Core.List.{List, [], _∷_, _++_}
 use mathlib.Core.Option.{Option}
 use Prim.Native.Nat.{ℕ, suc, _+_}

@@ -1,4 +1,4 @@
--- The table of a tree, as a list of bytes. Assumes nothing.
+-- The table of a tree, as a list of bytes. To be believed.
 use mathlib.Core.List.{List, [], _∷_, _++_}
 use mathlib.Core.Option.{Option, none, some}
 use Prim.Native.Nat.{ℕ, suc, _+_}

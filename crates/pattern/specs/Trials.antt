@@ -1,4 +1,4 @@
--- The count of trials, as 'Counting trials' has it. Assumes nothing.
+-- The count of trials, as 'Counting trials' has it. To be believed.
 use mathlib.Core.Bool.{Bool, cond}
 use mathlib.Core.List.{List, [], _∷_}
 use Prim.Native.Nat.{ℕ, zero, suc, _+_, _-_, _*_, _/_}

@@ -1,4 +1,4 @@
--- A tree within the limits. Assumes nothing.
+-- A tree within the limits. To be believed.
 use mathlib.Core.Option.{Option, none, some}
 use Prim.Native.Nat.{ℕ, suc, _≤_, _<_}
 use Rattle.pattern.specs.Numbers.{atom-limit, depth-limit, number-limit, set-limit}

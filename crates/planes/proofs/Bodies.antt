@@ -37,12 +37,12 @@ pub record RepeatBodyAt (s₀ : List ℕ) (w temp out low times budget trials : 
   pub kept : Kept s₀ s w (temp + 4) (Elsewhere temp out)
 
 module _ (s₀ : List ℕ) (w temp out low times budget trials : ℕ) (ok : RepeatBodyPre s₀ w temp out) where
-  pub make-few : temp + 4 ≤ length s₀
-  make-few = omega (arith, planes-le w (temp + 4) (omega (arith, ok .wide)), ok .room)
+  pub repeat-few : temp + 4 ≤ length s₀
+  repeat-few = omega (arith, planes-le w (temp + 4) (omega (arith, ok .wide)), ok .room)
 
-  pub make-start : trials ≤ budget → RepeatBodyAt s₀ w temp out low times budget trials s₀ trials (temp + 1) (temp + 2) 0 0
+  pub repeat-start : trials ≤ budget → RepeatBodyAt s₀ w temp out low times budget trials s₀ trials (temp + 1) (temp + 2) 0 0
   unfolding power any
-  make-start h = record {
+  repeat-start h = record {
     counting = count-start _ times budget trials h;
     long = refl;
     turns = omega arith;
@@ -54,27 +54,27 @@ module _ (s₀ : List ℕ) (w temp out low times budget trials : ℕ) (ok : Repe
   }
 
   module _ (s : List ℕ) (spent from to k : ℕ) where
-    make-room : length s ≡ length s₀ → (p : ℕ) → p < temp + 4 → InRoom s w p
-    make-room e p h = room-of s w p (temp + 4) h (rw e (ok .room))
+    repeat-room : length s ≡ length s₀ → (p : ℕ) → p < temp + 4 → InRoom s w p
+    repeat-room e p h = room-of s w p (temp + 4) h (rw e (ok .room))
 
     -- plane temp has the body throughout
-    make-body : Kept s₀ s w (temp + 4) (Elsewhere temp out) → Plane s w temp (on s₀ w temp)
-    make-body k = let below = ok .below in plane-kept k (λ i j. (λ e. omega arith, λ e. omega arith, λ e. omega arith)) (ok .body)
+    repeat-body : Kept s₀ s w (temp + 4) (Elsewhere temp out) → Plane s w temp (on s₀ w temp)
+    repeat-body k = let below = ok .below in plane-kept k (λ i j. (λ e. omega arith, λ e. omega arith, λ e. omega arith)) (ok .body)
 
     -- first the gathering
     module _ (inv : RepeatBodyAt s₀ w temp out low times budget trials s spent from to k k) where
-      pub make-gather : AddPre s w from out
-      make-gather =
+      pub repeat-add : AddPre s w from out
+      repeat-add =
           let below = ok .below in
           record {
             wide = ok .wide;
-            added = record { room = make-room (inv .long) from (omega (arith, inv .turns, inv .to-high)); flags = plane-flags (inv .bodies) };
-            into = record { room = make-room (inv .long) out (omega arith); flags = plane-flags (inv .all) };
+            added = record { room = repeat-room (inv .long) from (omega (arith, inv .turns, inv .to-high)); flags = plane-flags (inv .bodies) };
+            into = record { room = repeat-room (inv .long) out (omega arith); flags = plane-flags (inv .all) };
           }
 
-      pub make-gathered : (s′ : List ℕ) → length s′ ≡ length s → AddFromPost s s′ w from out low k → RepeatBodyAt s₀ w temp out low times budget trials s′ spent from to k (suc k)
+      pub repeat-added : (s′ : List ℕ) → length s′ ≡ length s → AddFromPost s s′ w from out low k → RepeatBodyAt s₀ w temp out low times budget trials s′ spent from to k (suc k)
       unfolding any
-      make-gathered s′ len got =
+      repeat-added s′ len got =
           let below = ok .below in
           record {
             counting = inv .counting;
@@ -89,18 +89,18 @@ module _ (s₀ : List ℕ) (w temp out low times budget trials : ℕ) (ok : Repe
 
     -- then the join
     module _ (inv : RepeatBodyAt s₀ w temp out low times budget trials s spent from to k (suc k)) where
-      pub make-ready : JoinPre s w temp from to
-      make-ready = record {
+      pub repeat-ready : JoinPre s w temp from to
+      repeat-ready = record {
         wide = ok .wide;
-        from-left = record { room = make-room (inv .long) temp (omega arith); flags = plane-flags (make-body (inv .kept)) };
-        from-right = record { room = make-room (inv .long) from (omega (arith, inv .turns, inv .to-high)); flags = plane-flags (inv .bodies) };
-        into = make-room (inv .long) to (omega (arith, inv .turns, inv .from-high));
+        from-left = record { room = repeat-room (inv .long) temp (omega arith); flags = plane-flags (repeat-body (inv .kept)) };
+        from-right = record { room = repeat-room (inv .long) from (omega (arith, inv .turns, inv .to-high)); flags = plane-flags (inv .bodies) };
+        into = repeat-room (inv .long) to (omega (arith, inv .turns, inv .from-high));
         not-left = λ e. omega (arith, inv .to-high);
         not-right = λ e. omega (arith, inv .turns);
       }
 
-      pub make-end : times ≤ k → RepeatBodyPost s₀ s w temp out low times budget trials record { trials = spent; stopped = false }
-      make-end h =
+      pub repeat-end : times ≤ k → RepeatBodyPost s₀ s w temp out low times budget trials record { trials = spent; stopped = false }
+      repeat-end h =
           let e : k ≡ times = omega (arith, inv .counting .below) in
           record {
             counted = count-end _ times budget trials spent k (inv .counting) h;
@@ -110,7 +110,7 @@ module _ (s₀ : List ℕ) (w temp out low times budget trials : ℕ) (ok : Repe
 
       module _ (more : k < times) (s′ : List ℕ) (r : Tally) (got : JoinPost s s′ w temp from to budget spent r) where
         tried : joins w (on s w temp) (on s w from) ≡ body-trials w (on s₀ w temp) k
-        tried = joins-same w _ _ _ _ (plane-on (make-body (inv .kept))) (plane-on (inv .bodies))
+        tried = joins-same w _ _ _ _ (plane-on (repeat-body (inv .kept))) (plane-on (inv .bodies))
 
         all-kept : Kept s₀ s′ w (temp + 4) (Elsewhere temp out)
         all-kept =
@@ -118,8 +118,8 @@ module _ (s₀ : List ℕ) (w temp out low times budget trials : ℕ) (ok : Repe
             kept-then (inv .kept) (kept-less (to + 1) (temp + 4) (omega arith) (got .kept) (λ q i j n. n)) (λ q i j n. n)
             (λ q i j n e. let far : q ≡ temp + 1 → ⊥ = n .1 in let near : q ≡ temp + 2 → ⊥ = n .2 in omega (arith, inv .to-high))
 
-        pub make-stop : r .stopped ≡ true → RepeatBodyPost s₀ s′ w temp out low times budget trials r
-        make-stop e = record {
+        pub repeat-stop : r .stopped ≡ true → RepeatBodyPost s₀ s′ w temp out low times budget trials r
+        repeat-stop e = record {
           counted = count-stop _ times budget trials spent k (inv .counting) more _ tried _ _ (got .counted) e;
           whole = λ x. absurd (let z : _≡_ {A = ℕ} 0 1 = cc in omega arith);
           kept = all-kept;
@@ -129,8 +129,8 @@ module _ (s₀ : List ℕ) (w temp out low times budget trials : ℕ) (ok : Repe
         unfolding power
         one-more = rw add-one
 
-        pub make-step : length s′ ≡ length s → r .stopped ≡ false → RepeatBodyAt s₀ w temp out low times budget trials s′ (r .trials) to from (k + 1) (k + 1)
-        make-step len e =
+        pub repeat-step : length s′ ≡ length s → r .stopped ≡ false → RepeatBodyAt s₀ w temp out low times budget trials s′ (r .trials) to from (k + 1) (k + 1)
+        repeat-step len e =
             let below = ok .below in
             let z : suc k ≡ k + 1 = omega arith in
             record {
@@ -139,7 +139,7 @@ module _ (s₀ : List ℕ) (w temp out low times budget trials : ℕ) (ok : Repe
               turns = omega (arith, inv .turns);
               from-high = inv .to-high;
               to-high = inv .from-high;
-              bodies = rw one-more (plane-same (got .whole e) (join-same w _ _ _ _ (plane-on (make-body (inv .kept))) (plane-on (inv .bodies))));
+              bodies = rw one-more (plane-same (got .whole e) (join-same w _ _ _ _ (plane-on (repeat-body (inv .kept))) (plane-on (inv .bodies))));
               all = rw (← z) (plane-kept (got .kept) (λ i j x. omega (arith, inv .to-high)) (inv .all));
               kept = all-kept;
             }

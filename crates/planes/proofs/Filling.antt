@@ -12,10 +12,10 @@ use lib.ListN.{length, getD}
 use Rattle.pattern.specs.Codes.{in-set}
 use Rattle.planes.specs.declared.fill.Content.{Content}
 use Rattle.planes.specs.declared.fill.Content.the-variants.{Empty, Codes, Literal}
-use Rattle.planes.specs.Cells.{Tells, Kept, Others, bitOf, marked}
+use Rattle.planes.specs.Cells.{Tells, Kept, Others, bitOf, stretch-set}
 use Rattle.planes.specs.Whole.{BlankPost}
 use Rattle.planes.specs.Fill.{held-in, span, Fit, FillPre, FillPost}
-use Rattle.planes.proofs.Planes.{mark-long, mark-tells, mark-kept, kept-all, kept-then, tells-same, tells-kept}
+use Rattle.planes.proofs.Planes.{stretch-long, stretch-tells, stretch-kept, kept-all, kept-then, tells-same, tells-kept}
 use Rattle.planes.proofs.Slices.{single-byte, single-not, equal-apart}
 
 same-or-not : (a b : ℕ) → (a ≡ b) ⊎ (a ≡ b → ⊥)
@@ -75,20 +75,20 @@ module _ (table label s₀ s₁ : List ℕ) (w : ℕ) (content : Content) (out :
       kept = kept-then (empty .kept) (inv .kept) (λ q a b n. n) (λ q a b n. n);
     }
 
-    pub fill-step : j < w → (i : ℕ) → i + span content ≡ j → (v : Bool) → v ≡ held-in table label content i (i + span content) → FillAt table label s₁ w content out (marked s w out i j (bitOf v)) (j + 1)
+    pub fill-step : j < w → (i : ℕ) → i + span content ≡ j → (v : Bool) → v ≡ held-in table label content i (i + span content) → FillAt table label s₁ w content out (stretch-set s w out i j (bitOf v)) (j + 1)
     fill-step more i e v got =
         let hi : i ≤ j = omega arith in
-        let k = mark-kept w out i j hi more s v in
-        let other : (a b : ℕ) → a ≤ b → b < w → (a ≡ i → b ≡ j → ⊥) → (x : Bool) → Tells s w out a b x → Tells (marked s w out i j (bitOf v)) w out a b x
+        let k = stretch-kept w out i j hi more s v in
+        let other : (a b : ℕ) → a ≤ b → b < w → (a ≡ i → b ≡ j → ⊥) → (x : Bool) → Tells s w out a b x → Tells (stretch-set s w out i j (bitOf v)) w out a b x
         = λ a b l m n x. tells-kept k l m (λ _. (n, λ y z. n (omega arith) (omega arith)), λ _. (λ y z. n (omega arith) (omega arith), λ y z. n z y)) in
-        let column : (a : ℕ) → a ≤ j → Tells (marked s w out i j (bitOf v)) w out a j (held-in table label content a j)
+        let column : (a : ℕ) → a ≤ j → Tells (stretch-set s w out i j (bitOf v)) w out a j (held-in table label content a j)
         = λ a l. ⊎-elim
-        (λ z. rw z (tells-same (mark-tells w out i j hi more s v (rw (inv .long ∙ len) (ok .into))) (rw e at got)))
+        (λ z. rw z (tells-same (stretch-tells w out i j hi more s v (rw (inv .long ∙ len) (ok .into))) (rw e at got)))
         (λ n. tells-same (other a j l more (λ y _. n y) _ (inv .ahead a j l more (omega arith))) (off a j l more (λ z. n (omega arith))))
         (same-or-not a i) in
         record {
           from = omega (arith, inv .from);
-          long = mark-long w out i j s (bitOf v) ∙ inv .long;
+          long = stretch-long w out i j s (bitOf v) ∙ inv .long;
           done = λ a b l m n. ⊎-elim
               (λ z. let y : a ≤ j = omega arith in rw z (column a y))
               (λ z. other a b l m (λ _ y. omega arith) _ (inv .done a b l m z))

@@ -12,11 +12,11 @@ use Rattle.pattern.specs.Decision.{trial, join, any}
 use Rattle.pattern.specs.Trials.{tries, column-trials, joins}
 use Rattle.planes.specs.declared.join.Search.the-variants.{Found, Missing}
 use Rattle.planes.specs.declared.join.Tally.{Tally}
-use Rattle.planes.specs.Cells.{cell, Tells, Plane, Kept, Others, on, bitOf, marked}
+use Rattle.planes.specs.Cells.{cell, Tells, Plane, Kept, Others, on, bitOf, stretch-set}
 use Rattle.planes.specs.Budget.{Counted}
 use Rattle.planes.specs.Whole.{BlankPost}
 use Rattle.planes.specs.Join.{JoinPre, JoinPost}
-use Rattle.planes.proofs.Planes.{Same, Beside, mark-long, mark-tells, mark-kept, kept-all, kept-then, kept-less, tells-same, tells-kept, plane-same, on-kept, read-kept, trial-hit, trial-miss}
+use Rattle.planes.proofs.Planes.{Same, Beside, stretch-long, stretch-tells, stretch-kept, kept-all, kept-then, kept-less, tells-same, tells-kept, plane-same, on-kept, read-kept, trial-hit, trial-miss}
 use Rattle.planes.proofs.Relations.{tries-same, any-same, trial-same, join-same, joins-same, column-same}
 use Rattle.planes.proofs.Counting.{Counting, count-start, count-step, count-stop, count-end, counted-whole, counted-over}
 use Rattle.planes.proofs.Searching.{SearchAt, Searched, FoundAt, Says, search-hit, search-none, search-next}
@@ -105,9 +105,9 @@ module _ {s₀ : List ℕ} {w left right out j budget trials : ℕ} {s : List �
             kept = kept-then (inv .kept) k (λ q a b n. n) (λ q a b n x. (λ y z. n x .0 (omega arith) z, λ y z. n x .1 (omega arith) y));
           }
 
-    pub column-found : {t m : ℕ} → FoundAt (trial (on s w left) (on s w right) i j) i j budget spent t m → ColumnAt s₀ w left right out j budget trials (marked s w out i j (bitOf true)) t (i + 1)
+    pub column-found : {t m : ℕ} → FoundAt (trial (on s w left) (on s w right) i j) i j budget spent t m → ColumnAt s₀ w left right out j budget trials (stretch-set s w out i j (bitOf true)) t (i + 1)
     column-found got =
-        column-step (got .searched) (marked s w out i j (bitOf true)) (mark-long w out i j s (bitOf true)) (mark-tells w out i j more (inv .inside) s true (column-ready .into)) (mark-kept w out i j more (inv .inside) s true)
+        column-step (got .searched) (stretch-set s w out i j (bitOf true)) (stretch-long w out i j s (bitOf true)) (stretch-tells w out i j more (inv .inside) s true (column-ready .into)) (stretch-kept w out i j more (inv .inside) s true)
 
     pub column-missing : {t : ℕ} → Searched (trial (on s w left) (on s w right) i j) i j budget spent t false → ColumnAt s₀ w left right out j budget trials s t (i + 1)
     column-missing got = column-step got s refl (inv .ahead i (omega arith) more) (kept-all _ _ _ _)

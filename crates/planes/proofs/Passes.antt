@@ -9,9 +9,9 @@ use native.Mathlib.Omega.{arith}
 use lib.Arith.{digits-lt, digits-div, digits-mod}
 use lib.Bits.{bitOr}
 use lib.ListN.{length, getD, set, length-set}
-use Rattle.planes.specs.Cells.{at, cell, InRoom, bitOf, on, Kept, Others}
+use Rattle.planes.specs.Cells.{cell-index, cell, InRoom, bitOf, on, Kept, Others}
 use Rattle.planes.specs.Whole.{BlankPost, AddPre, AddPost}
-use Rattle.planes.proofs.Planes.{at-in, set-here, set-kept, kept-all, kept-then, kept-less}
+use Rattle.planes.proofs.Planes.{index-in, set-here, set-kept, kept-all, kept-then, kept-less}
 
 -- the first k cells of plane out are those of f, and all others are as they were
 pub record PassAt (s₀ : List ℕ) (w out : ℕ) (f : ℕ → ℕ → ℕ) (s : List ℕ) (k : ℕ) : Type 0 where
@@ -36,23 +36,23 @@ module _ (s₀ : List ℕ) (w out : ℕ) (f : ℕ → ℕ → ℕ) where
       column = mod-lt k some
 
       -- cell k of plane p
-      pass-cell : (p : ℕ) → at w p 0 0 + k ≡ at w p (k / w) (k % w)
+      pass-cell : (p : ℕ) → cell-index w p 0 0 + k ≡ cell-index w p (k / w) (k % w)
       pass-cell p = omega (arith, add-mul (p * w) (k / w) w, div-add-mod' k w)
 
-      pub pass-in : (p : ℕ) → InRoom s₀ w p → at w p 0 0 + k < length s
-      pass-in p room = rw (pass-cell p, inv .long) (at-in w p (k / w) (k % w) row column room)
+      pub pass-in : (p : ℕ) → InRoom s₀ w p → cell-index w p 0 0 + k < length s
+      pass-in p room = rw (pass-cell p, inv .long) (index-in w p (k / w) (k % w) row column room)
 
       -- what is still to be passed is as it was
-      pub pass-same : (p : ℕ) → getD s (at w p 0 0 + k) 0 ≡ cell s₀ w p (k / w) (k % w)
+      pub pass-same : (p : ℕ) → getD s (cell-index w p 0 0 + k) 0 ≡ cell s₀ w p (k / w) (k % w)
       pass-same p = rw (pass-cell p) (inv .kept .same p (k / w) (k % w) row column (λ e l. omega (arith, div-add-mod' k w)))
 
-      pub pass-step : InRoom s₀ w out → (v : ℕ) → v ≡ f (k / w) (k % w) → PassAt s₀ w out f (set s (at w out 0 0 + k) v) (k + 1)
+      pub pass-step : InRoom s₀ w out → (v : ℕ) → v ≡ f (k / w) (k % w) → PassAt s₀ w out f (set s (cell-index w out 0 0 + k) v) (k + 1)
       pass-step room v got =
           let m = set-kept w out (k / w) (k % w) row column s v in
           rw (pass-cell out)
           record {
             below = omega arith;
-            long = length-set s (at w out (k / w) (k % w)) v ∙ inv .long;
+            long = length-set s (cell-index w out (k / w) (k % w)) v ∙ inv .long;
             done = λ i j hi hj l. ⊎-elim
                 (λ e. let (a, b) : (i ≡ k / w) × (j ≡ k % w) = (sym (digits-div i hj) ∙ ap (λ (x : ℕ). x / w) e, sym (digits-mod i hj) ∙ ap (λ (x : ℕ). x % w) e) in
                 rw (a, b) (set-here w out (k / w) (k % w) row column s v (rw (inv .long) room) ∙ got))

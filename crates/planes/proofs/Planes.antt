@@ -12,24 +12,24 @@ use lib.Dec.{eqb}
 use lib.ListN.{length, set, length-set}
 use lib.Seq.{getD-set-same, getD-set-other}
 use Rattle.pattern.specs.Decision.{Rel, trial}
-use Rattle.planes.specs.Cells.{at, cell, InRoom, bitOf, marked, Tells, on, Plane, Readable, Kept}
+use Rattle.planes.specs.Cells.{cell-index, cell, InRoom, bitOf, stretch-set, Tells, on, Plane, Readable, Kept}
 
 some : {w i : ℕ} → i < w → 1 ≤ w
 some h = omega arith
 
 module _ (w p i j : ℕ) (hi : i < w) (hj : j < w) where
-  pub at-below : (q : ℕ) → p < q → at w p i j < q * w * w
-  at-below q h = digits-lt (digits-lt h hi) hj
+  pub index-below : (q : ℕ) → p < q → cell-index w p i j < q * w * w
+  index-below q h = digits-lt (digits-lt h hi) hj
 
-  pub at-in : {n : ℕ} → (p + 1) * w * w ≤ n → at w p i j < n
-  at-in h = omega (arith, at-below (p + 1) (omega arith))
+  pub index-in : {n : ℕ} → (p + 1) * w * w ≤ n → cell-index w p i j < n
+  index-in h = omega (arith, index-below (p + 1) (omega arith))
 
   pub row-le : p * w + i ≤ (p * w + i) * w
   row-le = omega (arith, mul-le-mul-left (p * w + i) (some hi), mul-one (p * w + i))
 
   -- two cells with one index are one cell
-  at-inj : (p′ i′ j′ : ℕ) → i′ < w → j′ < w → at w p i j ≡ at w p′ i′ j′ → (p ≡ p′) × (i ≡ i′) × (j ≡ j′)
-  at-inj p′ i′ j′ hi′ hj′ e =
+  index-inj : (p′ i′ j′ : ℕ) → i′ < w → j′ < w → cell-index w p i j ≡ cell-index w p′ i′ j′ → (p ≡ p′) × (i ≡ i′) × (j ≡ j′)
+  index-inj p′ i′ j′ hi′ hj′ e =
       let q : p * w + i ≡ p′ * w + i′ = sym (digits-div (p * w + i) hj) ∙ ap (λ (k : ℕ). k / w) e ∙ digits-div (p′ * w + i′) hj′ in (
         sym (digits-div p hi) ∙ ap (λ (k : ℕ). k / w) q ∙ digits-div p′ hi′,
         sym (digits-mod p hi) ∙ ap (λ (k : ℕ). k % w) q ∙ digits-mod p′ hi′,
@@ -37,13 +37,13 @@ module _ (w p i j : ℕ) (hi : i < w) (hj : j < w) where
       )
 
   -- a cell that is set holds what it is set to, and every other cell what it held
-  pub set-here : (s : List ℕ) (v : ℕ) → InRoom s w p → cell (set s (at w p i j) v) w p i j ≡ v
-  set-here s v h = getD-set-same s (at w p i j) v 0 (at-in h)
+  pub set-here : (s : List ℕ) (v : ℕ) → InRoom s w p → cell (set s (cell-index w p i j) v) w p i j ≡ v
+  set-here s v h = getD-set-same s (cell-index w p i j) v 0 (index-in h)
 
-  pub set-kept : (s : List ℕ) (v : ℕ) → Kept s (set s (at w p i j) v) w (p + 1) (λ q a b. q ≡ p → a ≡ i → b ≡ j → ⊥)
+  pub set-kept : (s : List ℕ) (v : ℕ) → Kept s (set s (cell-index w p i j) v) w (p + 1) (λ q a b. q ≡ p → a ≡ i → b ≡ j → ⊥)
   set-kept s v = record {
-    same = λ q a b ha hb n. getD-set-other s (at w p i j) (at w q a b) v 0 (λ e. let (x, y, z) = at-inj q a b ha hb (sym e) in n (sym x) (sym y) (sym z));
-    rest = λ k h. getD-set-other s (at w p i j) k v 0 (λ e. omega (arith, at-below (p + 1) (omega arith)));
+    same = λ q a b ha hb n. getD-set-other s (cell-index w p i j) (cell-index w q a b) v 0 (λ e. let (x, y, z) = index-inj q a b ha hb (sym e) in n (sym x) (sym y) (sym z));
+    rest = λ k h. getD-set-other s (cell-index w p i j) k v 0 (λ e. omega (arith, index-below (p + 1) (omega arith)));
   }
 
 -- ---- what is kept
@@ -74,18 +74,18 @@ kept-less {w = w} N M h a f = record {
 abbrev pub Beside : ℕ → ℕ → ℕ → ℕ → ℕ → ℕ → Type 0
 Beside p i j q a b = q ≡ p → (a ≡ i → b ≡ j → ⊥) × (a ≡ j → b ≡ i → ⊥)
 
-pub mark-long : (w p i j : ℕ) (s : List ℕ) (v : ℕ) → length (marked s w p i j v) ≡ length s
-mark-long w p i j s v = length-set (set s (at w p i j) v) (at w p j i) v ∙ length-set s (at w p i j) v
+pub stretch-long : (w p i j : ℕ) (s : List ℕ) (v : ℕ) → length (stretch-set s w p i j v) ≡ length s
+stretch-long w p i j s v = length-set (set s (cell-index w p i j) v) (cell-index w p j i) v ∙ length-set s (cell-index w p i j) v
 
 module _ (w p i j : ℕ) (hi : i ≤ j) (hj : j < w) (s : List ℕ) (b : Bool) where
-  pub mark-kept : Kept s (marked s w p i j (bitOf b)) w (p + 1) (Beside p i j)
-  mark-kept = kept-then (set-kept w p i j (omega arith) hj s (bitOf b)) (set-kept w p j i hj (omega arith) _ (bitOf b)) (λ q a b n e. n e .0) (λ q a b n e. n e .1)
+  pub stretch-kept : Kept s (stretch-set s w p i j (bitOf b)) w (p + 1) (Beside p i j)
+  stretch-kept = kept-then (set-kept w p i j (omega arith) hj s (bitOf b)) (set-kept w p j i hj (omega arith) _ (bitOf b)) (λ q a b n e. n e .0) (λ q a b n e. n e .1)
 
-  pub mark-tells : InRoom s w p → Tells (marked s w p i j (bitOf b)) w p i j b
-  mark-tells room =
+  pub stretch-tells : InRoom s w p → Tells (stretch-set s w p i j (bitOf b)) w p i j b
+  stretch-tells room =
       let v : ℕ = bitOf b in
-      let s′ : List ℕ = set s (at w p i j) v in
-      let last : cell (marked s w p i j v) w p j i ≡ v = set-here w p j i hj (omega arith) s′ v (rw (length-set s (at w p i j) v) room) in
+      let s′ : List ℕ = set s (cell-index w p i j) v in
+      let last : cell (stretch-set s w p i j v) w p j i ≡ v = set-here w p j i hj (omega arith) s′ v (rw (length-set s (cell-index w p i j) v) room) in
       record {
         by-begin = ⊎-elim
             (λ e. rw e (rw e at last))

@@ -1,4 +1,4 @@
--- Planes of w x w bytes, one after another in a list: cell (p, i, j) is the byte at (p * w + i) * w + j. A plane speaks of each stretch i to j twice, in row i and in row j, so that a search over ends runs along two rows. Assumes nothing.
+-- Planes of w x w bytes, one after another in a list: cell (p, i, j) is the byte at (p * w + i) * w + j. A plane says twice of each stretch i to j whether it is in its relation, in row i and in row j, so that a search over ends runs along two rows. Private: a model for this crate's contracts.
 use mathlib.Core.Path.{_≡_}
 use mathlib.Core.Bool.{Bool, cond, not}
 use mathlib.Core.List.{List}
@@ -8,11 +8,11 @@ use lib.ListN.{length, getD, set}
 use Rattle.pattern.specs.Decision.{Rel}
 
 -- the index of a cell, and what stands there
-abbrev pub at : ℕ → ℕ → ℕ → ℕ → ℕ
-at w p i j = (p * w + i) * w + j
+abbrev pub cell-index : ℕ → ℕ → ℕ → ℕ → ℕ
+cell-index w p i j = (p * w + i) * w + j
 
 abbrev pub cell : List ℕ → ℕ → ℕ → ℕ → ℕ → ℕ
-cell s w p i j = getD s (at w p i j) 0
+cell s w p i j = getD s (cell-index w p i j) 0
 
 -- the list has plane p whole
 abbrev pub InRoom : List ℕ → ℕ → ℕ → Type 0
@@ -22,8 +22,8 @@ abbrev pub bitOf : Bool → ℕ
 bitOf b = cond b 1 0
 
 -- the bytes with both cells of a stretch set to v
-abbrev pub marked : List ℕ → ℕ → ℕ → ℕ → ℕ → ℕ → List ℕ
-marked s w p i j v = set (set s (at w p i j) v) (at w p j i) v
+abbrev pub stretch-set : List ℕ → ℕ → ℕ → ℕ → ℕ → ℕ → List ℕ
+stretch-set s w p i j v = set (set s (cell-index w p i j) v) (cell-index w p j i) v
 
 -- plane p says b of the stretch i to j, by its begin and by its end
 pub record Tells (s : List ℕ) (w p i j : ℕ) (b : Bool) : Type 0 where

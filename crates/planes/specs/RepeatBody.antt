@@ -1,4 +1,4 @@
--- Stretches made of several bodies: what the loop over their number asks and promises. Assumes nothing.
+-- Powers of a body: what the loop over the number of bodies asks and promises. Private: a model for this crate's contracts.
 use mathlib.Core.Path.{_≡_}
 use mathlib.Core.Bool.{false, _&&_, _||_}
 use mathlib.Core.List.{List}
@@ -16,11 +16,11 @@ pub record AddFromPost (s s′ : List ℕ) (w from out low k : ℕ) : Type 0 whe
   pub plane : Plane s′ w out (λ i j. leb low k && on s w from i j || on s w out i j)
   pub kept : Kept s s′ w (out + 1) (Others out)
 
--- the stretches made of low to o - 1 bodies
+-- the stretches that are cut into low to o - 1 bodies
 abbrev pub fewer : Rel → ℕ → ℕ → Rel
 fewer B low o i j = any o (λ k. leb low k && power B k i j)
 
--- the trials of the join that makes k + 1 bodies
+-- the trials of the join for k + 1 bodies
 abbrev pub body-trials : ℕ → Rel → ℕ → ℕ
 body-trials w B k = joins w B (power B k)
 

@@ -4,7 +4,7 @@ ghost use Prim.Native.Nat.{_+_, _≤_};
 ghost use lib.ListN.{length};
 ghost use Rattle.planes.specs.Fill.{span, Fit, FillPre, held-in, FillPost};
 use crate::cells::blank;
-use crate::cells::mark;
+use crate::cells::set_stretch;
 use stores::equal;
 
 // What a plane is filled with: the empty stretches; one byte of a set; some bytes from a place of the table on.
@@ -47,7 +47,7 @@ pub fn fill(table: &[u8], label: &[u8], scratch: &mut [u8], w: usize, content: C
     let mut j = n;
     while j < w {
         let i = j - n;
-        mark(scratch, w, out, i, j, value(table, label, content, i));
+        set_stretch(scratch, w, out, i, j, value(table, label, content, i));
         j += 1;
     }
 }

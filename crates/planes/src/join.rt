@@ -2,8 +2,8 @@
 ghost use Prim.Native.Nat.{_≤_};
 ghost use Rattle.planes.specs.Join.{JoinPre, JoinPost};
 use crate::cells::blank;
-use crate::cells::byte;
-use crate::cells::mark;
+use crate::cells::cell;
+use crate::cells::set_stretch;
 
 // What a search over ends found: the end, or none, or that the budget ran out.
 enum Search {
@@ -45,7 +45,7 @@ pub fn join(
                     break Search::Stopped;
                 }
                 spent += 1;
-                if byte(scratch, w, left, i, m) & byte(scratch, w, right, j, m) != 0 {
+                if cell(scratch, w, left, i, m) & cell(scratch, w, right, j, m) != 0 {
                     break Search::Found(m);
                 }
                 if m == i {
@@ -54,7 +54,7 @@ pub fn join(
                 m -= 1;
             };
             match found {
-                Search::Found(_) => mark(scratch, w, out, i, j, true),
+                Search::Found(_) => set_stretch(scratch, w, out, i, j, true),
                 Search::Missing => {}
                 Search::Stopped => return Tally {
                     trials: budget,

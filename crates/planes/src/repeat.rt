@@ -1,4 +1,5 @@
-// Stretches made of several bodies. Plane temp has the body; temp + 1 and temp + 2 take turns.
+// Stretches that are several bodies, one after the other. Plane temp has the body; temp + 1 and temp + 2 by turns have the
+// stretches of k bodies and of k + 1.
 ghost use Prim.Native.Nat.{_≤_};
 ghost use Rattle.planes.specs.Whole.{AddPre};
 ghost use Rattle.planes.specs.RepeatBody.{AddFromPost, RepeatBodyPre, RepeatBodyPost};
@@ -16,7 +17,7 @@ fn add_from(scratch: &mut [u8], w: usize, from: usize, out: usize, low: usize, k
     }
 }
 
-// Plane out: the stretches made of low to times bodies. One join for each number of bodies from 1 to times.
+// Plane out: the stretches that are low to times bodies. One join for each number of bodies from 1 to times.
 pub fn repeat_body(
     scratch: &mut [u8],
     w: usize,

@@ -2,4 +2,3 @@ pub mod Storing
 pub mod AtomTokens
 pub mod Walking
 pub mod Writing
-pub mod Again

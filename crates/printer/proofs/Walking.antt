@@ -20,7 +20,7 @@ use Rattle.atoms.specs.Atoms.{atoms, node, branches-from, head, body-of}
 use Rattle.atoms.specs.Records.{LiteralAt, GroupIn, RecordOf}
 use Rattle.atoms.proofs.Views.{branch-last, branch-then, branches-last, branches-more, branches-some}
 use Rattle.printer.specs.Walk.{WritePatternPre, WriteAtomPre, WriteGroupPre, WritePost}
-use Rattle.printer.specs.declared.walk.Next.{Next}
+use Rattle.printer.specs.declared.walk.Progress.{Progress}
 use Rattle.printer.proofs.Storing.{Partly, partly-start, partly-as, partly-then, partly-end, partly-room}
 
 -- ---- what is printed
@@ -68,16 +68,16 @@ print-group bs e = ap (λ (y : Syntax body). print y) e
 
 -- ---- the atoms of a pattern
 
-pub record PatternAt (table out₀ : Bytes) (start : Next) (out : Bytes) (now : Next) : Type 0 where
+pub record PatternAt (table out₀ : Bytes) (start : Progress) (out : Bytes) (now : Progress) : Type 0 where
   pub there : now .atom < atoms table
   pub on : start .atom ≤ now .atom
   pub ends : now .atom + size (node table (now .atom)) ≡ start .atom + size (node table (start .atom))
   pub text : Partly out₀ (start .at) (print (node table (start .atom))) out (now .at) (print (node table (now .atom)))
 
-pub pattern-start : {table out : Bytes} (start : Next) → WritePatternPre table out (start .atom) (start .at) → PatternAt table out start out start
+pub pattern-start : {table out : Bytes} (start : Progress) → WritePatternPre table out (start .atom) (start .at) → PatternAt table out start out start
 pattern-start start p = record { there = p .atom .there; on = omega arith; ends = refl; text = partly-start _ _ _ }
 
-module _ {table out₀ : Bytes} {start : Next} {out : Bytes} {now : Next} (pre : WritePatternPre table out₀ (start .atom) (start .at)) (h : PatternAt table out₀ start out now) where
+module _ {table out₀ : Bytes} {start : Progress} {out : Bytes} {now : Progress} (pre : WritePatternPre table out₀ (start .atom) (start .at)) (h : PatternAt table out₀ start out now) where
   pub pattern-atom : WriteAtomPre table out (now .atom) (now .at)
   pattern-atom =
       let (v, e) = print-first (node table (now .atom)) in
@@ -86,7 +86,7 @@ module _ {table out₀ : Bytes} {start : Next} {out : Bytes} {now : Next} (pre :
         room = omega (arith, partly-room (h .text) (pre .room), ap length e, length-append (print (head (node table (now .atom)))) v);
       }
 
-  module _ {x : Next} {out′ : Bytes} (w : WritePost (print (head (node table (now .atom)))) (now .atom + size (head (node table (now .atom)))) out (now .at) x out′) {r : Record} (got : RecordOf table (now .atom) r) where
+  module _ {x : Progress} {out′ : Bytes} (w : WritePost (print (head (node table (now .atom)))) (now .atom + size (head (node table (now .atom)))) out (now .at) x out′) {r : Record} (got : RecordOf table (now .atom) r) where
     pub pattern-end : r .ends ≡ 1 → WritePost (print (node table (start .atom))) (start .atom + size (node table (start .atom))) out₀ (start .at) x out′
     pattern-end e = record {
       puts = partly-end (partly-then _ [] (partly-as (print-last _ (got .is-last e)) (h .text)) (w .puts));
@@ -107,12 +107,12 @@ module _ {table out₀ : Bytes} {start : Next} {out : Bytes} {now : Next} (pre :
 
 -- ---- the branches of a group, of which more are left
 
-pub record GroupAt (table out₀ : Bytes) (start : Next) (all : ℕ) (out : Bytes) (now : Next) (more : ℕ) : Type 0 where
+pub record GroupAt (table out₀ : Bytes) (start : Progress) (all : ℕ) (out : Bytes) (now : Progress) (more : ℕ) : Type 0 where
   pub on : start .atom ≤ now .atom
   pub ends : now .atom + size (branches-from table more (now .atom)) ≡ start .atom + size (branches-from table all (start .atom))
   pub text : Partly out₀ (start .at) (print (branches-from table all (start .atom))) out (now .at) (print (branches-from table more (now .atom)))
 
-pub group-start : {table out : Bytes} (start : Next) (all : ℕ) → GroupAt table out start all out start all
+pub group-start : {table out : Bytes} (start : Progress) (all : ℕ) → GroupAt table out start all out start all
 group-start start all = record { on = omega arith; ends = refl; text = partly-start _ _ _ }
 
 print-branch : (table : Bytes) (more x : ℕ) → (v : Bytes) × (print (branches-from table more x) ≡ print (node table x) ++ v)
@@ -120,7 +120,7 @@ unfolding branches-from print
 print-branch table zero x = ([], sym (append-nil (print (node table x))))
 print-branch table (suc more) x = (comma-byte ∷ print (branches-from table more (x + size (node table x))), refl)
 
-module _ {table out₀ : Bytes} {start : Next} {k : ℕ} {out : Bytes} {now : Next} {more : ℕ} (pre : WriteGroupPre table out₀ (start .atom) (start .at) k) (h : GroupAt table out₀ start (k - 1) out now more) where
+module _ {table out₀ : Bytes} {start : Progress} {k : ℕ} {out : Bytes} {now : Progress} {more : ℕ} (pre : WriteGroupPre table out₀ (start .atom) (start .at) k) (h : GroupAt table out₀ start (k - 1) out now more) where
   pub group-pattern : WritePatternPre table out (now .atom) (now .at)
   group-pattern =
       let (v, e) = print-branch table more (now .atom) in
@@ -129,7 +129,7 @@ module _ {table out₀ : Bytes} {start : Next} {k : ℕ} {out : Bytes} {now : Ne
         room = omega (arith, partly-room (h .text) (pre .room), ap length e, length-append (print (node table (now .atom))) v);
       }
 
-  module _ {x : Next} {out′ : Bytes} (w : WritePost (print (node table (now .atom))) (now .atom + size (node table (now .atom))) out (now .at) x out′) where
+  module _ {x : Progress} {out′ : Bytes} (w : WritePost (print (node table (now .atom))) (now .atom + size (node table (now .atom))) out (now .at) x out′) where
     pub group-end : more ≡ 0 → WritePost (print (branches-from table (k - 1) (start .atom))) (start .atom + size (branches-from table (k - 1) (start .atom))) out₀ (start .at) x out′
     group-end z =
         let (e, s) = print-only _ (branches-last table more (now .atom) z) in
@@ -219,7 +219,7 @@ module _ {table out : Bytes} {x n : ℕ} {r : Record} {out₁ : Bytes} {m : ℕ}
       room = omega (arith, whole-room, length-append (opening-byte ∷ print bs) (closing-byte ∷ []), length-set out₁ m opening-byte);
     }
 
-    module _ {y : Next} {out₂ : Bytes} (w : WritePost (print bs) (x + 1 + size bs) (set out₁ m opening-byte) (m + 1) y out₂) where
+    module _ {y : Progress} {out₂ : Bytes} (w : WritePost (print bs) (x + 1 + size bs) (set out₁ m opening-byte) (m + 1) y out₂) where
       inner : Puts out₁ m ((opening-byte ∷ []) ++ print bs) out₂ (y .at)
       inner = puts-then (puts-byte out₁ m opening-byte) (w .puts)
 

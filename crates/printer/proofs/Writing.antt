@@ -12,16 +12,16 @@ use Rattle.pattern.specs.Answers.{result, written-back, writeOf}
 use Rattle.pattern.proofs.RoundTrip.{some-pattern}
 use Rattle.pattern.proofs.Stores.{puts-as, puts-length, store-at-overwrite}
 use Rattle.pattern.proofs.Calls.{put-fits, put-short}
-use Rattle.table.specs.Walk.{tested}
+use Rattle.table.specs.Tested.{tested}
 use Rattle.table.specs.declared.Sizes.{Sizes}
 use Rattle.table.specs.declared.Tested.the-variants as verdict
 use Rattle.atoms.specs.Atoms.{node}
-use Rattle.atoms.proofs.Goods.{Sized, tested-bad}
+use Rattle.atoms.proofs.Goods.{GoodSizes, tested-bad}
 use Rattle.atoms.proofs.Views.{node-first}
 use Rattle.printer.specs.Walk.{WritePatternPre, WritePost}
 use Rattle.printer.specs.Outputs.{answer-of, output-of}
 use Rattle.printer.specs.declared.Written.the-variants as written
-use Rattle.printer.specs.declared.walk.Next.{Next}
+use Rattle.printer.specs.declared.walk.Progress.{Progress}
 
 pub table-written : (table source : Bytes) → verdict.Bad ≡ tested (decode table) → output-of written.Table source ≡ writeOf table source
 unfolding writeOf written-back answer-of
@@ -29,7 +29,7 @@ table-written table source e = sym (ap (λ o. written-back o source) (tested-bad
 
 -- ---- a good table
 
-module _ {table : Bytes} {x : Sizes} (g : Sized table x) (source : Bytes) where
+module _ {table : Bytes} {x : Sizes} (g : GoodSizes table x) (source : Bytes) where
   abbrev text : Bytes
   text = print (tree-of table)
 
@@ -44,7 +44,7 @@ module _ {table : Bytes} {x : Sizes} (g : Sized table x) (source : Bytes) where
     pub start-pre : WritePatternPre table source 0 0
     start-pre = record { atom = record { good = g .good; there = some-pattern (tree-of table) }; room = omega (arith, h, g .source-is, ap length whole) }
 
-    module _ {y : ℕ} {r : Next} {source′ : Bytes} (w : WritePost (print (node table 0)) y source 0 r source′) where
+    module _ {y : ℕ} {r : Progress} {source′ : Bytes} (w : WritePost (print (node table 0)) y source 0 r source′) where
       puts : Puts source 0 text source′ (r .at)
       puts = puts-as (w .puts) whole
 

@@ -1,4 +1,4 @@
--- The answer of writing back, for each case of the enum. Assumes nothing.
+-- What writing back answers, by the cases of the code's answer. To be believed.
 use Rattle.pattern.specs.Numbers.{ROOM, TABLE}
 use Rattle.pattern.specs.Bytes.{Bytes}
 use Rattle.pattern.specs.Answers.{Answer, refusal, result, Output}

@@ -1,4 +1,4 @@
--- What the walk that writes asks and promises. Assumes nothing.
+-- What the walk that writes asks and promises. Private: a model for this crate's contracts.
 use mathlib.Core.Path.{_≡_}
 use Prim.Native.Nat.{ℕ, _+_, _-_, _≤_, _<_}
 use lib.ListN.{length}
@@ -7,7 +7,7 @@ use Rattle.pattern.specs.Syntax.{size}
 use Rattle.pattern.specs.Print.{print}
 use Rattle.pattern.specs.Stores.{Puts}
 use Rattle.atoms.specs.Atoms.{GoodTable, atoms, node, branches-from, head, AtomIn}
-use Rattle.printer.specs.declared.walk.Next.{Next}
+use Rattle.printer.specs.declared.walk.Progress.{Progress}
 
 -- the table has an atom x, and there is room from n on for the pattern that begins there
 pub record WritePatternPre (table out : Bytes) (x n : ℕ) : Type 0 where
@@ -27,6 +27,6 @@ pub record WriteGroupPre (table out : Bytes) (x n k : ℕ) : Type 0 where
   pub room : n + length (print (branches-from table (k - 1) x)) ≤ length out
 
 -- v was written from n on, and the next atom is y
-pub record WritePost (v : Bytes) (y : ℕ) (out : Bytes) (n : ℕ) (r : Next) (out′ : Bytes) : Type 0 where
+pub record WritePost (v : Bytes) (y : ℕ) (out : Bytes) (n : ℕ) (r : Progress) (out′ : Bytes) : Type 0 where
   pub puts : Puts out n v out′ (r .at)
   pub next : r .atom ≡ y

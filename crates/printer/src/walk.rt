@@ -10,17 +10,17 @@ ghost use Rattle.atoms.specs.Atoms.{node, branches-from, head};
 ghost use Rattle.printer.specs.Walk.{WritePatternPre, WriteAtomPre, WriteGroupPre, WritePost};
 
 // The next atom, and the place after what is written.
-pub struct Next {
+pub struct Progress {
     pub atom: usize,
     pub at: usize,
 }
 
 // The pattern that begins at atom x, written from n on.
-pub fn write_pattern(table: &[u8], out: &mut [u8], x: usize, n: usize) -> Next
+pub fn write_pattern(table: &[u8], out: &mut [u8], x: usize, n: usize) -> Progress
     requires { ⌜ WritePatternPre (now table) (now out) x n ⌝ }
     ensures { λ r. ⌜ WritePost (print (node (now (table .entry)) x)) (x + size (node (now (table .entry)) x)) (now (out .entry)) n r (now (out .exit)) ⌝ }
 {
-    let mut from = Next { atom: x, at: n };
+    let mut from = Progress { atom: x, at: n };
     loop {
         let next = write_atom(table, out, from.atom, from.at);
         let r = record_at(table, from.atom);
@@ -32,14 +32,14 @@ pub fn write_pattern(table: &[u8], out: &mut [u8], x: usize, n: usize) -> Next
 }
 
 // Atom x.
-fn write_atom(table: &[u8], out: &mut [u8], x: usize, n: usize) -> Next
+fn write_atom(table: &[u8], out: &mut [u8], x: usize, n: usize) -> Progress
     requires { ⌜ WriteAtomPre (now table) (now out) x n ⌝ }
     ensures { λ r. ⌜ WritePost (print (head (node (now (table .entry)) x))) (x + size (head (node (now (table .entry)) x))) (now (out .entry)) n r (now (out .exit)) ⌝ }
 {
     let r = record_at(table, x);
     let m = tokens::count(out, n, r.low, r.high);
     if r.kind == kind::CODES {
-        return Next {
+        return Progress {
             atom: x + 1,
             at: tokens::letters(out, m, r.a),
         };
@@ -48,7 +48,7 @@ fn write_atom(table: &[u8], out: &mut [u8], x: usize, n: usize) -> Next
         let v = literal_at(table, x);
         let from = v.from;
         let to = from + v.len;
-        return Next {
+        return Progress {
             atom: x + 1,
             at: tokens::literal(out, m, &table[from..to]),
         };
@@ -57,18 +57,18 @@ fn write_atom(table: &[u8], out: &mut [u8], x: usize, n: usize) -> Next
     let next = write_group(table, out, x + 1, m + 1, r.a as usize);
     let z = next.at;
     out[z] = b')';
-    Next {
+    Progress {
         atom: next.atom,
         at: z + 1,
     }
 }
 
 // k branches from atom x on.
-fn write_group(table: &[u8], out: &mut [u8], x: usize, n: usize, k: usize) -> Next
+fn write_group(table: &[u8], out: &mut [u8], x: usize, n: usize, k: usize) -> Progress
     requires { ⌜ WriteGroupPre (now table) (now out) x n k ⌝ }
     ensures { λ r. ⌜ WritePost (print (branches-from (now (table .entry)) (k - 1) x)) (x + size (branches-from (now (table .entry)) (k - 1) x)) (now (out .entry)) n r (now (out .exit)) ⌝ }
 {
-    let mut from = Next { atom: x, at: n };
+    let mut from = Progress { atom: x, at: n };
     let mut more = k - 1;
     loop {
         let next = write_pattern(table, out, from.atom, from.at);
@@ -77,7 +77,7 @@ fn write_group(table: &[u8], out: &mut [u8], x: usize, n: usize, k: usize) -> Ne
         }
         let m = next.at;
         out[m] = b',';
-        from = Next {
+        from = Progress {
             atom: next.atom,
             at: m + 1,
         };

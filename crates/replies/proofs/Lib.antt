@@ -1,6 +1,9 @@
 pub mod Firsts
 pub mod Parts
-pub mod Replies
-pub mod Zeros
 pub mod Ends
 pub mod Cuts
+pub mod Replies
+pub mod Endings
+pub mod Compiling
+pub mod Cutting
+pub mod Zeros

@@ -24,8 +24,8 @@ pub either-same : {A : Type 0} (f : A → Bytes) (b : Bool) (x y : A) {s : Bytes
 either-same f true x y p q = p
 either-same f false x y p q = q
 
-abbrev blank : ℕ → Bytes
-blank n = replicate n 0
+abbrev zeros-of : ℕ → Bytes
+zeros-of n = replicate n 0
 
 -- what is left of bytes that are all the same
 pub drop-same : (k n a : ℕ) → (m : ℕ) × (drop k (replicate n a) ≡ replicate m a)
@@ -33,18 +33,18 @@ drop-same zero n a = (n, refl)
 drop-same (suc k) zero a = (0, refl)
 drop-same (suc k) (suc n) a = drop-same k n a
 
-pub blank-zero : (n : ℕ) (s : Bytes) → s ≡ blank n → Zero s
-blank-zero n s e = e ∙ ap blank (sym (length-replicate {A = ℕ} n 0) ∙ sym (ap length e))
+pub blank-zero : (n : ℕ) (s : Bytes) → s ≡ zeros-of n → Zero s
+blank-zero n s e = e ∙ ap zeros-of (sym (length-replicate {A = ℕ} n 0) ∙ sym (ap length e))
 
 -- zeros further on, and over what isn't zero yet
 pub drop-zero : (k : ℕ) (s : Bytes) → Zero s → Zero (drop k s)
 drop-zero k s z = let (m, e) = drop-same k (length s) 0 in blank-zero m (drop k s) (ap (drop k) z ∙ e)
 
 pub rest-zeroed : (n : ℕ) (s : Bytes) → Zero (drop n s) → Zero (zeroed n s)
-rest-zeroed n s z = blank-zero (n + length (drop n s)) (zeroed n s) (ap (λ v. blank n ++ v) z ∙ replicate-append-replicate n (length (drop n s)) 0)
+rest-zeroed n s z = blank-zero (n + length (drop n s)) (zeroed n s) (ap (λ v. zeros-of n ++ v) z ∙ replicate-append-replicate n (length (drop n s)) 0)
 
 -- zeros over zeros
-take-blank : (k n : ℕ) → k ≤ n → take k (blank n) ≡ blank k
+take-blank : (k n : ℕ) → k ≤ n → take k (zeros-of n) ≡ zeros-of k
 take-blank zero n h = refl
 take-blank (suc k) zero h = absurd (omega arith)
 take-blank (suc k) (suc n) h = ap (λ v. 0 ∷ v) (take-blank k n (omega arith))

@@ -1,4 +1,5 @@
 pub mod Sizes
+pub mod Rooms
 pub mod Text
 pub mod Reply
 pub mod Stores

@@ -1,4 +1,4 @@
--- The reply to one line. Assumes nothing.
+-- The reply to one line. To be believed.
 use mathlib.Core.Bool.{true, false}
 use mathlib.Core.List.{[], _∷_, _++_}
 use mathlib.Core.Option.{Option, none, some}

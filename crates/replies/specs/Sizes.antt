@@ -1,4 +1,4 @@
--- The numbers and the bytes of the line tool, each named once. Assumes nothing.
+-- The numbers and the bytes of the line tool, each named once. To be believed.
 use Prim.Native.Nat.{ℕ, _+_, _*_}
 use Rattle.pattern.specs.Numbers.{parts-room}
 
@@ -32,20 +32,6 @@ refused-letter = 82
 
 abbrev pub unmatched-letter : ℕ
 unmatched-letter = 77
-
--- texts are no longer than this: a 64-bit number, a letter with a space and such a number, the same with a space and another number
-abbrev pub number-room : ℕ
-number-room = 20
-
-abbrev pub coded-room : ℕ
-coded-room = 2 + number-room
-
-abbrev pub refused-room : ℕ
-refused-room = coded-room + 1 + number-room
-
--- a byte and a 16-bit number
-abbrev pub part-room : ℕ
-part-room = 6
 
 -- a reply without its newline: the longest is a yes with a byte and three digits for each part
 abbrev pub reply-room : ℕ

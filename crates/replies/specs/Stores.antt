@@ -1,4 +1,4 @@
--- Lent bytes after a text of limited length is stored in them, and bytes that are zero. Assumes nothing.
+-- Lent bytes after a text of limited length is stored in them, and bytes that are zero. To be believed.
 use mathlib.Core.Path.{_≡_}
 use Prim.Native.Nat.{ℕ, _+_, _≤_}
 use lib.ListN.{length, replicate}

@@ -1,4 +1,4 @@
--- The texts of an answer. Assumes nothing.
+-- The texts of an answer. To be believed.
 use mathlib.Core.List.{List, [], _∷_, _++_}
 use mathlib.Core.Option.{none, some}
 use Prim.Native.Nat.{ℕ, _+_, _*_}

@@ -4,7 +4,7 @@ ghost use Prim.Native.Nat.{_+_, _≤_};
 ghost use lib.ListN.{length};
 ghost use Rattle.pattern.specs.Decode.{decode};
 ghost use Rattle.table.specs.declared.Tested.the-variants.{Good};
-ghost use Rattle.table.specs.Walk.{tested};
+ghost use Rattle.table.specs.Tested.{tested};
 ghost use Rattle.replies.specs.Sizes.{tab-byte, reply-room};
 ghost use Rattle.replies.specs.Reply.{index-of, label-reply, source-reply, reply, answer-to};
 ghost use Rattle.replies.specs.Stores.{Replied};

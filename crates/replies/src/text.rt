@@ -2,7 +2,7 @@
 ghost use mathlib.Core.List.{[], _∷_};
 ghost use Prim.Native.Nat.{_+_, _*_, _≤_, _<_};
 ghost use lib.ListN.{length};
-ghost use Rattle.replies.specs.Sizes.{coded-room, refused-room, part-room};
+ghost use Rattle.replies.specs.Rooms.{coded-room, refused-room, part-room};
 ghost use Rattle.pattern.specs.Print.{decimal};
 ghost use Rattle.replies.specs.Text.{coded-text, refused-text, unmatched-text, numbers-in, matched-text};
 ghost use Rattle.pattern.specs.Stores.{Puts};

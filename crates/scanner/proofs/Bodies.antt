@@ -19,8 +19,8 @@ use Rattle.scanner.specs.declared.cursor.Class.{Class}
 use Rattle.scanner.specs.declared.cursor.Class.the-variants as class
 use Rattle.scanner.specs.declared.cursor.Text.{Text}
 use Rattle.scanner.specs.declared.cursor.Text.the-variants as texts
-use Rattle.scanner.specs.declared.body.Letters.the-variants as sets
-use Rattle.scanner.specs.declared.body.Literal.the-variants as literals
+use Rattle.scanner.specs.declared.body.LettersRead.the-variants as sets
+use Rattle.scanner.specs.declared.body.LiteralRead.the-variants as literals
 use Rattle.scanner.specs.Places.{Onward, LetterIs, ClassPost}
 use Rattle.pattern.specs.Stores.{store-at}
 use Rattle.scanner.specs.Bodies.{Passes, Refuses, after-codes, in-literal, TextPost, CodesFromPost, QuotedPost}

@@ -1,4 +1,4 @@
--- A count that was judged by numbers held at 10,000 is judged as the scan does. Assumes nothing.
+-- The faults of a count whose numbers are held at 10,000 are those that the scan finds. Assumes nothing.
 use mathlib.Core.Path.{_≡_, refl, sym, ap, ap₂, _∙_, subst}
 use mathlib.Core.Logic.{⊎-elim}
 use mathlib.Core.Bool.{Bool, true, false, _&&_, cond}
@@ -14,16 +14,16 @@ use Rattle.pattern.specs.Numbers.{number-limit, atom-limit, open-high, FORM, NU
 use Rattle.pattern.specs.Bytes.{Bytes}
 use Rattle.pattern.specs.Table.{high-field}
 use Rattle.pattern.specs.Repeats.{repeat-of}
-use Rattle.pattern.specs.Grammar.{CountChar, digit, point, CharClass, count-char, body-start, branch-end, char-class}
+use Rattle.pattern.specs.Grammar.{CountChar, digit, point, CharClass, count-char, body-start, branch-end}
 use Rattle.pattern.specs.Parser.{CountState, empty, first, pointed, second, counting, Stack, grow, move, step, finish}
-use Rattle.pattern.specs.Scan.{low, high, longest-count, large, falls, refuse, atom-fault}
+use Rattle.pattern.specs.Scan.{low, high, longest-count, large, falls, refuse}
 use Rattle.pattern.specs.declared.repeat.Repeat.{Repeat}
 use Rattle.pattern.proofs.Tests.{le-or-lt}
-use Rattle.pattern.proofs.TableRows.{atom-fault-is}
+use Rattle.pattern.proofs.TableRows.{atom-fault-is, atom-fault}
 use Rattle.scanner.specs.declared.cursor.Cursor.{Cursor}
 use Rattle.scanner.specs.declared.cursor.Point.{Point}
 use Rattle.scanner.specs.declared.cursor.Point.the-variants as points
-use Rattle.scanner.specs.declared.count.Number.{Number}
+use Rattle.scanner.specs.declared.count.DigitsRead.{DigitsRead}
 use Rattle.scanner.specs.declared.count.CountResult.{CountResult}
 use Rattle.scanner.specs.declared.count.CountResult.the-variants as counted
 use Rattle.scanner.specs.Places.{class-at, ClassIs, ClassNot, PointPost}
@@ -32,7 +32,7 @@ use Rattle.scanner.specs.Counts.{lead, number, cap, large-number, Digits
 use Rattle.scanner.proofs.Pass.{over, past-count, count-scan, ending-refused, ending-passed}
 use Rattle.scanner.proofs.Steps.{stuck, short}
 use Rattle.scanner.proofs.Numbers.{cap-small, cap-large, cap-least, lead-more}
-use Rattle.scanner.proofs.Runs.{CountTaken, Stops, run-stops, digit-begins, runs-exact, runs-open, runs-closed}
+use Rattle.scanner.proofs.TakenCounts.{CountTaken, Stops, longest-stops, digit-begins, taken-exact, taken-open, taken-closed}
 
 -- a high number, held
 abbrev cap-high : Option ℕ → Option ℕ
@@ -50,23 +50,23 @@ falls-cap lo (some m) h =
     (⊎-elim (λ g. ap (λ x. ltb x lo) (cap-small m g)) (λ g. ap (λ x. ltb x lo) (cap-large m g) ∙ le-ltb large-number lo (omega arith) ∙ sym (le-ltb m lo (omega arith))) (le-or-lt m number-limit))
 
 -- what is answered for a fault at a place, or for none
-abbrev answered : Option ℕ → ℕ → CountResult → CountResult
-answered none i z = z
-answered (some f) i z = counted.Fault f i
+abbrev fault-or : Option ℕ → ℕ → CountResult → CountResult
+fault-or none i z = z
+fault-or (some f) i z = counted.Fault f i
 
-chain : (a b c : Bool) (i : ℕ) (z : CountResult) → cond a (counted.Fault NUMBER i) (cond b (counted.Fault RANGE i) (cond c (counted.Fault ATOMS i) z))
-    ≡ answered (refuse ((a, NUMBER) ∷ (b, RANGE) ∷ (c, ATOMS) ∷ [])) i z
+checks : (a b c : Bool) (i : ℕ) (z : CountResult) → cond a (counted.Fault NUMBER i) (cond b (counted.Fault RANGE i) (cond c (counted.Fault ATOMS i) z))
+    ≡ fault-or (refuse ((a, NUMBER) ∷ (b, RANGE) ∷ (c, ATOMS) ∷ [])) i z
 unfolding refuse
-chain true b c i z = refl
-chain false true c i z = refl
-chain false false true i z = refl
-chain false false false i z = refl
+checks true b c i z = refl
+checks false true c i z = refl
+checks false false true i z = refl
+checks false false false i z = refl
 
 module _ (n : ℕ) (r : CountState) where
-  judge-is : (rep : Repeat) (i from : ℕ) (end : Cursor) → rep .low ≡ cap (low r) → rep .high ≡ high-field (cap-high (high r))
-      → check-count rep n i from end ≡ answered (atom-fault n r) i (cond (eqb (rep .high) large-number) (counted.Fault NUMBER from) (counted.Repeat rep end))
+  check-is : (rep : Repeat) (i from : ℕ) (end : Cursor) → rep .low ≡ cap (low r) → rep .high ≡ high-field (cap-high (high r))
+      → check-count rep n i from end ≡ fault-or (atom-fault n r) i (cond (eqb (rep .high) large-number) (counted.Fault NUMBER from) (counted.Repeat rep end))
   unfolding check-count
-  judge-is rep i from end l h = go (ltb number-limit (low r)) refl ∙ ap (λ o. answered o i z) (sym (atom-fault-is n r))
+  check-is rep i from end l h = go (ltb number-limit (low r)) refl ∙ ap (λ o. fault-or o i z) (sym (atom-fault-is n r))
     where
       z : CountResult
       z = cond (eqb (rep .high) large-number) (counted.Fault NUMBER from) (counted.Repeat rep end)
@@ -76,12 +76,12 @@ module _ (n : ℕ) (r : CountState) where
 
       go : (t : Bool) → ltb number-limit (low r) ≡ t
           → cond (ltb number-limit (rep .low)) (counted.Fault NUMBER i) (cond (ltb (rep .high) (rep .low)) (counted.Fault RANGE i) (cond (leb atom-limit n) (counted.Fault ATOMS i) z))
-          ≡ answered (refuse ((ltb number-limit (low r), NUMBER) ∷ (leb (low r) number-limit && falls (low r) (high r), RANGE) ∷ (leb atom-limit n, ATOMS) ∷ [])) i z
-      go true e = rw (a, e) (chain true (leb (low r) number-limit && falls (low r) (high r)) (leb atom-limit n) i z)
+          ≡ fault-or (refuse ((ltb number-limit (low r), NUMBER) ∷ (leb (low r) number-limit && falls (low r) (high r), RANGE) ∷ (leb atom-limit n, ATOMS) ∷ [])) i z
+      go true e = rw (a, e) (checks true (leb (low r) number-limit && falls (low r) (high r)) (leb atom-limit n) i z)
       go false e =
           let f : ltb (rep .high) (rep .low) ≡ (leb (low r) number-limit && falls (low r) (high r)) =
           ap₂ ltb h l ∙ falls-cap (low r) (high r) (ltb-false number-limit (low r) e) in
-          rw (a, e, f) (chain false (leb (low r) number-limit && falls (low r) (high r)) (leb atom-limit n) i z)
+          rw (a, e, f) (checks false (leb (low r) number-limit && falls (low r) (high r)) (leb atom-limit n) i z)
 
   -- what no fault means
   no-fault : atom-fault n r ≡ none → (low r ≤ number-limit) × (n < atom-limit)
@@ -120,7 +120,7 @@ module _ (s : Bytes) (i n : ℕ) (x : CountChar) (w : i < length s) (e : class-a
   counted-scan k = rw (drop-cons s i 0) (count-scan (getD s i 0) (drop (suc i) s) x k i n e)
 
   same-fault : (o : Option ℕ) → atom-fault n r ≡ o → atom-fault n (longest-count empty (drop i s)) ≡ o
-  same-fault o f = rw (runs .run) f
+  same-fault o f = rw (runs .state) f
 
   refused-first : (f : ℕ) → atom-fault n r ≡ some f → CountPost s i n (counted.Fault f i)
   unfolding CountPost past-count
@@ -128,32 +128,32 @@ module _ (s : Bytes) (i n : ℕ) (x : CountChar) (w : i < length s) (e : class-a
 
   refused-second : atom-fault n r ≡ none → over r ≡ true → CountPost s i n (counted.Fault NUMBER (i + suc (lead (drop i s))))
   unfolding CountPost past-count
-  refused-second h o = record { scan = λ k. counted-scan k ∙ rw (same-fault none h, past-count) (ending-refused (longest-count empty (drop i s)) k _ _ _ _ (rw (runs .run) o)) }
+  refused-second h o = record { scan = λ k. counted-scan k ∙ rw (same-fault none h, past-count) (ending-refused (longest-count empty (drop i s)) k _ _ _ _ (rw (runs .state) o)) }
 
   passed : atom-fault n r ≡ none → over r ≡ false → (k : Stack) → scanned s (counting empty, k) i n ≡ scanned s (counting r, k) (i + m) (suc n)
   unfolding past-count
   passed h o k =
       counted-scan k
-      ∙ rw (same-fault none h, past-count) (ending-passed (longest-count empty (drop i s)) k _ _ _ _ (rw (runs .run) o) ∙ rw (runs .run, runs .size, drop-drop))
+      ∙ rw (same-fault none h, past-count) (ending-passed (longest-count empty (drop i s)) k _ _ _ _ (rw (runs .state) o) ∙ rw (runs .state, runs .size, drop-drop))
 
   stops-there : (j : ℕ) → j ≡ i + m → j < length s → (y : CountChar) → class-at s j ≡ count-char y → grow r y (getD s j 0) ≡ none
   stops-there j g v y k =
       let a : drop m (drop i s) ≡ getD s j 0 ∷ drop (suc j) s = drop-drop m i s ∙ ap (λ x. drop x s) (sym g) ∙ drop-cons s j 0 v in
-      let b : Stops r (getD s j 0 ∷ drop (suc j) s) = rw (runs .run, runs .size, a) at (run-stops (drop i s) empty) in
+      let b : Stops r (getD s j 0 ∷ drop (suc j) s) = rw (runs .state, runs .size, a) at (longest-stops (drop i s) empty) in
       b y k
 
-  pub judged-right : (rep : Repeat) (from : ℕ) (end : Cursor) → rep .low ≡ cap (low r) → rep .high ≡ high-field (cap-high (high r))
+  pub check-right : (rep : Repeat) (from : ℕ) (end : Cursor) → rep .low ≡ cap (low r) → rep .high ≡ high-field (cap-high (high r))
       → (over r ≡ true → from ≡ i + suc (lead (drop i s))) → end .at ≡ i + m → 0 < m → end .at ≤ length s → ¬ (r ≡ empty)
       → CountPost s i n (check-count rep n i from end)
-  judged-right rep from end l h f g p t d = rw (judge-is n r rep i from end l h) (go (atom-fault n r) refl)
+  check-right rep from end l h f g p t d = rw (check-is n r rep i from end l h) (go (atom-fault n r) refl)
     where
       last : atom-fault n r ≡ none → (b : Bool) → over r ≡ b → CountPost s i n (cond b (counted.Fault NUMBER from) (counted.Repeat rep end))
       last u true o = rw (f o) (refused-second u o)
       last u false o =
           let (a, b) = no-fault n r u in
           unfold CountPost in record {
-            run = r;
-            some-run = d;
+            state = r;
+            begun = d;
             rep-is = λ j. record { low = (l ∙ cap-small (low r) a) j; high = (h ∙ same-high r a o) j };
             onward = record { on = omega arith; within = t };
             room = b;
@@ -161,7 +161,7 @@ module _ (s : Bytes) (i n : ℕ) (x : CountChar) (w : i < length s) (e : class-a
             scan = λ k. rw g (passed u o k);
           }
 
-      go : (o : Option ℕ) → atom-fault n r ≡ o → CountPost s i n (answered o i (cond (eqb (rep .high) large-number) (counted.Fault NUMBER from) (counted.Repeat rep end)))
+      go : (o : Option ℕ) → atom-fault n r ≡ o → CountPost s i n (fault-or o i (cond (eqb (rep .high) large-number) (counted.Fault NUMBER from) (counted.Repeat rep end)))
       go (some y) u = refused-first y u
       go none u =
           let (a, b) = no-fault n r u in
@@ -169,14 +169,14 @@ module _ (s : Bytes) (i n : ℕ) (x : CountChar) (w : i < length s) (e : class-a
           rw v (last u (over r) refl)
 
 -- the two numbers of a count, as the code has them
-abbrev low-of : Repeat → ℕ
-low-of rep = rep .low
+abbrev low-field-of : Repeat → ℕ
+low-field-of rep = rep .low
 
-abbrev high-of : Repeat → ℕ
-high-of rep = rep .high
+abbrev high-field-of : Repeat → ℕ
+high-field-of rep = rep .high
 
 -- the count from its digits and its point
-module _ (s : Bytes) (i n : ℕ) (a : Number) (d : DigitsPost s i a) (p : Point) (f : PointPost s (a .end .at) p) where
+module _ (s : Bytes) (i n : ℕ) (a : DigitsRead) (d : DigitsPost s i a) (p : Point) (f : PointPost s (a .end .at) p) where
   -- no count at all
   not-counted : (x : CharClass) → ¬ (x ≡ count-char digit) → ¬ (x ≡ count-char point) → (k : Stack) (c : ℕ) → move (counting empty) k x c ≡ none
   unfolding move
@@ -204,8 +204,8 @@ module _ (s : Bytes) (i n : ℕ) (a : Number) (d : DigitsPost s i a) (p : Point)
       let (w, k) = digit-begins s i z in
       let q : ClassNot s (i + lead (drop i s)) (count-char point) = rw (d .end) at (subst (λ p. PointPost s (a .end .at) p) e f) in
       rw j
-      (judged-right s i n digit w k (first (number 0 (drop i s))) (lead (drop i s)) (runs-exact s i z q)
-      rep i (a .end) (ap low-of h ∙ d .value) (ap high-of h ∙ d .value)
+      (check-right s i n digit w k (first (number 0 (drop i s))) (lead (drop i s)) (taken-exact s i z q)
+      rep i (a .end) (ap low-field-of h ∙ d .value) (ap high-field-of h ∙ d .value)
       (λ o. let y : _≡_ {A = ℕ} 0 1 = cc in absurd (omega arith)) (d .end) z (d .within)
       (λ o. let y : _≡_ {A = ℕ} 0 1 = cc in omega arith))
 
@@ -225,7 +225,7 @@ module _ (s : Bytes) (i n : ℕ) (a : Number) (d : DigitsPost s i a) (p : Point)
         (λ u. let (w, e) = digit-begins s i u in (digit, w, e))
         (le-or-lt (lead (drop i s)) 0)
 
-    module _ (b : Number) (c : DigitsPost s (next .at) b) (rep : Repeat) (r : CountResult) (j : r ≡ check-count rep n i (next .at) (b .end)) where
+    module _ (b : DigitsRead) (c : DigitsPost s (next .at) b) (rep : Repeat) (r : CountResult) (j : r ≡ check-count rep n i (next .at) (b .end)) where
       pub count-open : b .end .at ≡ next .at → rep ≡ repeat-of (a .value) none → CountPost s i n r
       unfolding low high over
       count-open g h =
@@ -233,8 +233,8 @@ module _ (s : Bytes) (i n : ℕ) (a : Number) (d : DigitsPost s i a) (p : Point)
           let t = point-here in
           let z : lead (drop (next .at) s) ≡ 0 = omega (arith, c .end) in
           rw j
-          (judged-right s i n x w k (pointed (number 0 (drop i s))) (lead (drop i s) + 1) (runs-open s i next t z)
-          rep (next .at) (b .end) (ap low-of h ∙ d .value) (ap high-of h)
+          (check-right s i n x w k (pointed (number 0 (drop i s))) (lead (drop i s) + 1) (taken-open s i next t z)
+          rep (next .at) (b .end) (ap low-field-of h ∙ d .value) (ap high-field-of h)
           (λ o. let y : _≡_ {A = ℕ} 0 1 = cc in absurd (omega arith)) (omega (arith, t .past)) (omega arith) (c .within)
           (λ o. let y : _≡_ {A = ℕ} 0 1 = cc in omega arith))
 
@@ -245,6 +245,6 @@ module _ (s : Bytes) (i n : ℕ) (a : Number) (d : DigitsPost s i a) (p : Point)
           let t = point-here in
           let z : 0 < lead (drop (next .at) s) = ⊎-elim (λ u. absurd (g (omega (arith, c .end)))) (λ u. u) (le-or-lt (lead (drop (next .at) s)) 0) in
           rw j
-          (judged-right s i n x w k (second (number 0 (drop i s)) (number 0 (drop (next .at) s))) (lead (drop i s) + suc (lead (drop (next .at) s))) (runs-closed s i next t z)
-          rep (next .at) (b .end) (ap low-of h ∙ d .value) (ap high-of h ∙ c .value) (λ o. omega (arith, t .past)) (omega (arith, c .end, t .past)) (omega arith) (c .within)
+          (check-right s i n x w k (second (number 0 (drop i s)) (number 0 (drop (next .at) s))) (lead (drop i s) + suc (lead (drop (next .at) s))) (taken-closed s i next t z)
+          rep (next .at) (b .end) (ap low-field-of h ∙ d .value) (ap high-field-of h ∙ c .value) (λ o. omega (arith, t .past)) (omega (arith, c .end, t .past)) (omega arith) (c .within)
           (λ o. let y : _≡_ {A = ℕ} 0 1 = cc in omega arith))

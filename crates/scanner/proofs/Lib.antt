@@ -4,5 +4,5 @@ pub mod Steps
 mod Texts
 mod Bodies
 mod Numbers
-mod Runs
+mod TakenCounts
 mod Counts

@@ -1,4 +1,4 @@
--- A run of digits: how many, and the number that they spell, held at 10,000. Assumes nothing.
+-- Digits: how many there are, and their number, held at 10,000. Assumes nothing.
 use mathlib.Core.Path.{_≡_, refl, sym, _∙_, subst}
 use mathlib.Core.Logic.{_⊎_, inl, inr, ⊎-elim}
 use mathlib.Core.List.{[], _∷_}
@@ -14,7 +14,7 @@ use Rattle.pattern.proofs.Tests.{le-or-lt}
 use Rattle.scanner.specs.declared.cursor.Cursor.{Cursor}
 use Rattle.scanner.specs.declared.cursor.Digit.{Digit}
 use Rattle.scanner.specs.declared.cursor.Digit.the-variants as digits
-use Rattle.scanner.specs.declared.count.Number.{Number}
+use Rattle.scanner.specs.declared.count.DigitsRead.{DigitsRead}
 use Rattle.scanner.specs.Places.{Onward, ClassNot, DigitPost}
 use Rattle.scanner.specs.Counts.{lead, number, cap, large-number, DigitsPost}
 
@@ -137,7 +137,7 @@ module _ (s : Bytes) (i at v : ℕ) (g : Digits s i at v) (r : Digit) (read : Di
           end = g .end ∙ rw (drop-cons s at 0 (k .within), lead-more (getD s at 0) (drop (suc at) s) (k .kind), k .past) (omega arith);
         }
 
-  pub digits-end : (n : Number) → n .value ≡ v → n .end .at ≡ at → r ≡ digits.None → DigitsPost s i n
+  pub digits-end : (n : DigitsRead) → n .value ≡ v → n .end .at ≡ at → r ≡ digits.None → DigitsPost s i n
   unfolding DigitPost
   digits-end n x y e =
       let (a, b) = nothing-leads s at (subst (λ r. DigitPost s at r) e read) in

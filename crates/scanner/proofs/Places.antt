@@ -10,13 +10,13 @@ use denote.Enum.Declared.{tagOf}
 use Rattle.pattern.specs.Bytes.{Bytes, between}
 use Rattle.pattern.specs.Grammar.{letter, quote, opening, digit, point, CharClass, count-char, body-start, branch-end, char-class, literal-class}
 use Rattle.pattern.proofs.Tests.{agree, agreed, all, all-at}
-use Rattle.pattern.proofs.Notation.{Byte as Spelt, class-byte}
+use Rattle.pattern.proofs.Notation.{ByteIn as Spelt, class-byte}
 use Rattle.scanner.specs.declared.cursor.Cursor.{Cursor}
 use Rattle.scanner.specs.declared.cursor.Byte.{Byte}
 use Rattle.scanner.specs.declared.cursor.Byte.the-variants as byte
 use Rattle.scanner.specs.declared.cursor.Class.{Class}
 use Rattle.scanner.specs.declared.cursor.Class.the-variants as class
-use Rattle.scanner.specs.Places.{digit-class, letter-class, is-digit, is-letter, is-plain, count-flag, flag, ByteIs, ClassIs, LetterIs, ClassNot, BytePost, ClassPost}
+use Rattle.scanner.specs.Places.{digit-class, letter-class, is-digit, is-letter, is-plain, ends-class, ends-at, ByteIs, ClassIs, LetterIs, ClassNot, BytePost, ClassPost}
 use Rattle.scanner.proofs.cursor.Class.{the-type}
 
 -- the code's tests of a byte, each compared at all 256 of them
@@ -32,7 +32,7 @@ pub plain-test : (b : ℕ) → b < 256 → cond (eqb b 34) false (cond (leb 32 b
 unfolding is-plain literal-class between all agree
 plain-test b h = agreed _ _ (all-at 256 (λ b. agree (cond (eqb b 34) false (cond (leb 32 b) (leb b 126) false)) (is-plain b)) tt b h)
 
--- what they say of its kind
+-- what they say of its class
 pub digit-is : (b : ℕ) → is-digit b ≡ true → char-class b ≡ count-char digit
 unfolding is-digit
 digit-is b e = go (char-class b) e
@@ -70,7 +70,7 @@ digit-range b h e = go (leb 48 b) refl (digit-test b h ∙ e)
     go true f g = (leb-true 48 b f, leb-true b 57 g)
     go false f g = let y : _≡_ {A = ℕ} 0 1 = cc in absurd (omega arith)
 
--- what a kind of one byte only says of it
+-- what a class of one byte says of the byte
 only-at : (b c : ℕ) (x : CharClass) → (Spelt x b → b ≡ c) → ¬ (b ≡ c) → ¬ (char-class b ≡ x)
 only-at b c x f d h = d (f (rw h at (class-byte b)))
 
@@ -105,22 +105,22 @@ module _ (s : Bytes) (at : ℕ) where
     pub no-letter : (t : Bool) → t ≡ is-letter c → t ≡ false → ClassNot s at (body-start letter)
     no-letter t e f = not-class (body-start letter) (letter-not c (sym e ∙ f))
 
-    -- it is not the one byte of a kind
+    -- it is not the one byte of a class
     pub not-only : (b : ℕ) (x : CharClass) → (Spelt x c → c ≡ b) → ¬ (c ≡ b) → ClassNot s at x
     not-only b x f d = not-class x (only-at c b x f d)
 
-    pub flag-is : flag s at ≡ count-flag (char-class c)
-    unfolding flag
+    pub flag-is : ends-at s at ≡ ends-class (char-class c)
+    unfolding ends-at
     flag-is = simp (lt-ltb at (length s) (is .within)) (rw (is .value))
 
-  pub flag-end : length s ≤ at → flag s at ≡ 1
-  unfolding flag
+  pub flag-end : length s ≤ at → ends-at s at ≡ 1
+  unfolding ends-at
   flag-end h = simp (le-ltb at (length s) h)
 
-pub flag-other : (b : ℕ) → is-digit b ≡ false → ¬ (b ≡ 46) → count-flag (char-class b) ≡ 1
+pub flag-other : (b : ℕ) → is-digit b ≡ false → ¬ (b ≡ 46) → ends-class (char-class b) ≡ 1
 flag-other b e d = go (char-class b) (digit-not b e) (only-at b 46 (count-char point) (λ h. h) d)
   where
-    go : (x : CharClass) → ¬ (x ≡ count-char digit) → ¬ (x ≡ count-char point) → count-flag x ≡ 1
+    go : (x : CharClass) → ¬ (x ≡ count-char digit) → ¬ (x ≡ count-char point) → ends-class x ≡ 1
     go (count-char digit) u v = absurd (u refl)
     go (count-char point) u v = absurd (v refl)
     go (body-start x) u v = refl

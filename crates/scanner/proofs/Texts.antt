@@ -12,7 +12,7 @@ use Rattle.pattern.specs.Syntax.{literal}
 use Rattle.pattern.specs.Grammar.{quote, body-start, char-class, LiteralClass, plain, quoting, barred, literal-class}
 use Rattle.pattern.specs.Parser.{inside, after, Stack, extend, quoted, move, step, finish}
 use Rattle.pattern.specs.Scan.{begins, begun, body-begins, fault, refused}
-use Rattle.pattern.proofs.Notation.{text-byte}
+use Rattle.pattern.proofs.Notation.{literal-byte}
 use Rattle.scanner.specs.declared.cursor.Cursor.{Cursor}
 use Rattle.scanner.specs.declared.cursor.Text.the-variants as read
 use Rattle.scanner.specs.Places.{Onward, class-at, is-plain, plain-text, ByteIs, ClassNot}
@@ -31,7 +31,7 @@ plain-is b e = go (literal-class b) e
 
 barred-is : (b : ℕ) → is-plain b ≡ false → ¬ (b ≡ quote-byte) → literal-class b ≡ barred
 unfolding is-plain
-barred-is b e d = go (literal-class b) e (λ h. d (rw h at (text-byte b)))
+barred-is b e d = go (literal-class b) e (λ h. d (rw h at (literal-byte b)))
   where
     go : (x : LiteralClass) → plain-text x ≡ false → ¬ (x ≡ quoting) → x ≡ barred
     go plain h f = cc

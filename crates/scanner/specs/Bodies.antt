@@ -1,4 +1,4 @@
--- Code letters and literals: the promises of their readers, as equations on the scan. Assumes nothing.
+-- Code letters and literals: what their readers promise, as equations on the scan. Private: a model for this crate's contracts.
 use mathlib.Core.Path.{_≡_}
 use mathlib.Core.List.{[], _∷_, _++_}
 use mathlib.Core.Option.{Option}
@@ -13,15 +13,15 @@ use Rattle.pattern.specs.Scan.{refused}
 use Rattle.scanner.specs.declared.cursor.Cursor.{Cursor}
 use Rattle.scanner.specs.declared.cursor.Text.{Text}
 use Rattle.scanner.specs.declared.cursor.Text.the-variants as text
-use Rattle.scanner.specs.declared.body.Letters.{Letters}
-use Rattle.scanner.specs.declared.body.Letters.the-variants as letters
-use Rattle.scanner.specs.declared.body.Literal.{Literal}
-use Rattle.scanner.specs.declared.body.Literal.the-variants as literals
+use Rattle.scanner.specs.declared.body.LettersRead.{LettersRead}
+use Rattle.scanner.specs.declared.body.LettersRead.the-variants as letters
+use Rattle.scanner.specs.declared.body.LiteralRead.{LiteralRead}
+use Rattle.scanner.specs.declared.body.LiteralRead.the-variants as literals
 use Rattle.scanner.specs.Places.{Onward, ClassNot}
 use Rattle.scanner.specs.Scans.{scanned}
 use Rattle.pattern.specs.Stores.{store-at}
 
--- a place in a body, after a count and inside groups
+-- a state of the parser in or after a body, for any count and any stack
 abbrev pub Inside : Type 0
 Inside = ℕ → Option ℕ → Stack → ParserState
 
@@ -48,7 +48,7 @@ TextPost s at (text.End next) = Onward s at next × ((v : Bytes) → Passes s (i
 TextPost s at text.Broken = (v : Bytes) → Refuses s (in-literal v) at FORM at
 
 -- a run of letters from i on, as after codes with no bit yet
-unfoldable pub CodesFromPost : Bytes → ℕ → Letters → Type 0
+unfoldable pub CodesFromPost : Bytes → ℕ → LettersRead → Type 0
 CodesFromPost s i (letters.Set set next) =
     (set < set-limit) × (i ≤ next .at) × (next .at ≤ length s) × Passes s (after-codes 0) i (after-codes set) (next .at) × ClassNot s (next .at) (body-start letter)
 CodesFromPost s i (letters.Fault p) = Refuses s (after-codes 0) i CODE p
@@ -63,6 +63,6 @@ pub record LiteralIs (s : Bytes) (i p : ℕ) (pool pool′ : Bytes) (next : Curs
   pub scan : Passes s (in-literal []) i (past-literal value) (next .at)
   pub rests : ClassNot s (next .at) (body-start quote)
 
-unfoldable pub QuotedPost : Bytes → (i p : ℕ) → (pool pool′ : Bytes) → Literal → Type 0
+unfoldable pub QuotedPost : Bytes → (i p : ℕ) → (pool pool′ : Bytes) → LiteralRead → Type 0
 QuotedPost s i p pool pool′ (literals.Value next end) = LiteralIs s i p pool pool′ next end
 QuotedPost s i p pool pool′ (literals.Fault f) = Refuses s (in-literal []) i FORM f

@@ -1,4 +1,4 @@
--- Repeat counts: the promises of their readers. Assumes nothing.
+-- Repeat counts: what their readers promise. Private: a model for this crate's contracts.
 use mathlib.Core.Path.{_≡_}
 use mathlib.Core.Bool.{cond}
 use mathlib.Core.List.{[], _∷_}
@@ -14,7 +14,7 @@ use Rattle.pattern.specs.Parser.{CountState, empty, counting, Stack, grow}
 use Rattle.pattern.specs.Scan.{low, high, refused}
 use Rattle.pattern.specs.declared.repeat.Repeat.{Repeat}
 use Rattle.scanner.specs.declared.cursor.Cursor.{Cursor}
-use Rattle.scanner.specs.declared.count.Number.{Number}
+use Rattle.scanner.specs.declared.count.DigitsRead.{DigitsRead}
 use Rattle.scanner.specs.declared.count.CountResult.{CountResult}
 use Rattle.scanner.specs.declared.count.CountResult.the-variants as counted
 use Rattle.scanner.specs.Places.{Onward, class-at}
@@ -25,20 +25,20 @@ unfoldable pub lead : Bytes → ℕ
 lead [] = 0
 lead (c ∷ s) = elim (char-class c) [ count-char m ↦ elim m [ digit ↦ suc (lead s) | point ↦ 0 ] | body-start b ↦ 0 | branch-end e ↦ 0 ]
 
--- the number that they spell, after v
+-- the number that these digits give after those of v
 unfoldable pub number : ℕ → Bytes → ℕ
 number v [] = v
 number v (c ∷ s) = elim (char-class c) [ count-char m ↦ elim m [ digit ↦ number (10 * v + (c - zero-byte)) s | point ↦ v ] | body-start b ↦ v | branch-end e ↦ v ]
 
--- the code's number for every one over the limit
+-- the code's number for every number over the limit
 abbrev pub large-number : ℕ
 large-number = 10000
 
--- a number, held at that
+-- a number, or that one if it is over the limit
 unfoldable pub cap : ℕ → ℕ
 cap x = cond (leb x number-limit) x large-number
 
-pub record DigitsPost (s : Bytes) (i : ℕ) (r : Number) : Type 0 where
+pub record DigitsPost (s : Bytes) (i : ℕ) (r : DigitsRead) : Type 0 where
   pub value : r .value ≡ cap (number 0 (drop i s))
   pub end : r .end .at ≡ i + lead (drop i s)
   pub within : r .end .at ≤ length s
@@ -53,13 +53,13 @@ check-count rep n start from end =
 
 -- the scan goes on after the longest run
 pub record CountIs (s : Bytes) (i n : ℕ) (rep : Repeat) (next : Cursor) : Type 0 where
-  pub run : CountState
-  pub some-run : ¬ (run ≡ empty)
-  pub rep-is : rep ≡ repeat-of (low run) (high run)
+  pub state : CountState
+  pub begun : ¬ (state ≡ empty)
+  pub rep-is : rep ≡ repeat-of (low state) (high state)
   pub onward : Onward s i next
   pub room : n < atom-limit
-  pub stops : (m : CountChar) → next .at < length s → class-at s (next .at) ≡ count-char m → grow run m (getD s (next .at) 0) ≡ none
-  pub scan : (k : Stack) → scanned s (counting empty, k) i n ≡ scanned s (counting run, k) (next .at) (suc n)
+  pub stops : (m : CountChar) → next .at < length s → class-at s (next .at) ≡ count-char m → grow state m (getD s (next .at) 0) ≡ none
+  pub scan : (k : Stack) → scanned s (counting empty, k) i n ≡ scanned s (counting state, k) (next .at) (suc n)
 
 pub record CountRefused (s : Bytes) (i n f p : ℕ) : Type 0 where
   pub scan : (k : Stack) → scanned s (counting empty, k) i n ≡ refused f p

@@ -1,4 +1,4 @@
--- What stands at a place of a source: the promises of the cursor's methods and of `last`. Assumes nothing.
+-- The byte at a place of a source: what the cursor's methods and `ends_at` promise. Private: a model for this crate's contracts.
 use mathlib.Core.Path.{_≡_}
 use mathlib.Core.Bool.{Bool, true, false, cond}
 use Prim.Native.Nat.{ℕ, suc, _-_, _≤_, _<_}
@@ -19,7 +19,7 @@ use Rattle.scanner.specs.declared.cursor.Class.the-variants as class
 use Rattle.scanner.specs.declared.cursor.Separator.{Separator}
 use Rattle.scanner.specs.declared.cursor.Separator.the-variants as separator
 
--- the kind of the byte at a place
+-- the class of the byte at a place
 abbrev pub class-at : Bytes → ℕ → CharClass
 class-at s at = char-class (getD s at 0)
 
@@ -51,13 +51,13 @@ unfoldable pub is-plain : ℕ → Bool
 is-plain b = plain-text (literal-class b)
 
 -- 0 where an atom begins, else 1
-abbrev pub count-flag : CharClass → ℕ
-count-flag (count-char m) = 0
-count-flag (body-start b) = 1
-count-flag (branch-end e) = 1
+abbrev pub ends-class : CharClass → ℕ
+ends-class (count-char m) = 0
+ends-class (body-start b) = 1
+ends-class (branch-end e) = 1
 
-unfoldable pub flag : Bytes → ℕ → ℕ
-flag s at = cond (ltb at (length s)) (count-flag (class-at s at)) 1
+unfoldable pub ends-at : Bytes → ℕ → ℕ
+ends-at s at = cond (ltb at (length s)) (ends-class (class-at s at)) 1
 
 -- a cursor past a place, within the source
 pub record Onward (s : Bytes) (at : ℕ) (next : Cursor) : Type 0 where
@@ -70,7 +70,7 @@ pub record ByteIs (s : Bytes) (at c : ℕ) (next : Cursor) : Type 0 where
   pub value : c ≡ getD s at 0
   pub past : next .at ≡ suc at
 
--- the byte at a place is of this kind, and this is the cursor past it
+-- the byte at a place is of this class, and this is the cursor past it
 pub record ClassIs (s : Bytes) (at : ℕ) (x : CharClass) (next : Cursor) : Type 0 where
   pub within : at < length s
   pub kind : class-at s at ≡ x
@@ -81,7 +81,7 @@ pub record LetterIs (s : Bytes) (at c : ℕ) (next : Cursor) : Type 0 where
   pub kind : ClassIs s at (body-start letter) next
   pub value : c ≡ getD s at 0
 
--- no byte of this kind stands at a place
+-- no byte of this class is at a place
 pub record ClassNot (s : Bytes) (at : ℕ) (x : CharClass) : Type 0 where
   pub not : at < length s → ¬ (class-at s at ≡ x)
 

@@ -1,4 +1,4 @@
--- The scan of a source from a place on. Assumes nothing.
+-- The scan of a source from a place on. Private: a model for this crate's contracts.
 use Prim.Native.Nat.{ℕ}
 use lib.ListN.{drop}
 use Rattle.pattern.specs.Bytes.{Bytes}

@@ -9,19 +9,19 @@ use crate::cursor::Text;
 use pattern::limits::SET_LIMIT;
 
 // The set of a run of code letters, or the place of a letter that is no code.
-pub enum Letters {
+pub enum LettersRead {
     Set(u8, Cursor),
     Fault(usize),
 }
 
 // Where a literal ends, with the length of the pool after it; or the place where it breaks off.
-pub enum Literal {
+pub enum LiteralRead {
     Value(Cursor, usize),
     Fault(usize),
 }
 
 // The run of letters that begins with the one before the cursor. One that is no code takes the set to its limit.
-pub fn codes_from(s: &[u8], first: u8, c: Cursor) -> Letters
+pub fn codes_from(s: &[u8], first: u8, c: Cursor) -> LettersRead
     requires { ⌜ LetterIs (now s) (c .at - 1) first c ⌝ }
     ensures { λ r. ⌜ CodesFromPost (now (s .entry)) (c .at - 1) r ⌝ }
 {
@@ -29,16 +29,16 @@ pub fn codes_from(s: &[u8], first: u8, c: Cursor) -> Letters
     let mut set = codes::bit(first);
     while set < SET_LIMIT {
         let Class::Letter(b, next) = at.class(s) else {
-            return Letters::Set(set, at);
+            return LettersRead::Set(set, at);
         };
         set |= codes::bit(b);
         at = next;
     }
-    Letters::Fault(at.at - 1)
+    LettersRead::Fault(at.at - 1)
 }
 
 // The rest of a literal after its first quote; its value goes to the pool from p on.
-pub fn quoted(s: &[u8], c: Cursor, p: usize, pool: &mut [u8]) -> Literal
+pub fn quoted(s: &[u8], c: Cursor, p: usize, pool: &mut [u8]) -> LiteralRead
     requires { ⌜ (c .at ≤ length (now s)) × (p ≤ c .at) × (length (now s) ≤ length (now pool)) ⌝ }
     ensures { λ r. ⌜ QuotedPost (now (s .entry)) (c .at) p (now (pool .entry)) (now (pool .exit)) r ⌝ }
 {
@@ -51,8 +51,8 @@ pub fn quoted(s: &[u8], c: Cursor, p: usize, pool: &mut [u8]) -> Literal
                 end += 1;
                 at = next;
             }
-            Text::End(next) => return Literal::Value(next, end),
-            Text::Broken => return Literal::Fault(at.at),
+            Text::End(next) => return LiteralRead::Value(next, end),
+            Text::Broken => return LiteralRead::Fault(at.at),
         }
     }
 }

@@ -14,7 +14,7 @@ use pattern::repeat::Repeat;
 const LARGE: u16 = 10000;
 
 // A run of digits: its value, or LARGE, and where it ends.
-struct Number {
+struct DigitsRead {
     value: u16,
     end: Cursor,
 }
@@ -32,7 +32,7 @@ fn push_digit(v: u16, d: u16) -> u16
     if 999 < v { LARGE } else { 10 * v + d }
 }
 
-fn digits(s: &[u8], c: Cursor) -> Number
+fn digits(s: &[u8], c: Cursor) -> DigitsRead
     requires { ⌜ c .at ≤ length (now s) ⌝ }
     ensures { λ r. ⌜ DigitsPost (now (s .entry)) (c .at) r ⌝ }
 {
@@ -44,7 +44,7 @@ fn digits(s: &[u8], c: Cursor) -> Number
                 v = push_digit(v, d);
                 at = next;
             }
-            Digit::None => return Number { value: v, end: at },
+            Digit::None => return DigitsRead { value: v, end: at },
         }
     }
 }

@@ -1,7 +1,7 @@
 // A place in the source, by value. Each method answers the byte or digit read there beside the advanced cursor; a point, quote,
 // parenthesis or comma is a case of its own. A case in which nothing was read carries nothing.
 ghost use mathlib.Core.Path.{_≡_};
-ghost use Rattle.scanner.specs.Places.{is-digit, is-letter, is-plain, flag, BytePost, DigitPost, PointPost, ClassPost, SeparatorPost};
+ghost use Rattle.scanner.specs.Places.{is-digit, is-letter, is-plain, ends-at, BytePost, DigitPost, PointPost, ClassPost, SeparatorPost};
 ghost use Rattle.scanner.specs.Bodies.{TextPost};
 
 pub struct Cursor {
@@ -182,9 +182,9 @@ impl Cursor {
     }
 }
 
-// 0 where an atom begins at the cursor, else 1: then the atom before it is the last of its branch.
-pub fn last(s: &[u8], at: Cursor) -> u8
-    ensures { λ r. ⌜ r ≡ flag (now (s .entry)) (at .at) ⌝ }
+// 0 where an atom begins at the cursor, else 1: then the atom before it ends its branch.
+pub fn ends_at(s: &[u8], at: Cursor) -> u8
+    ensures { λ r. ⌜ r ≡ ends-at (now (s .entry)) (at .at) ⌝ }
 {
     match at.byte(s) {
         Byte::Is(b, _) => {

@@ -1,4 +1,4 @@
--- Numbers in bytes, the lowest byte first. Assumes nothing.
+-- Numbers in bytes, the lowest byte first. To be believed.
 use mathlib.Core.List.{[], _∷_}
 use Prim.Native.Nat.{ℕ, zero, suc, _/_, _%_}
 use Rattle.pattern.specs.Bytes.{Bytes}

@@ -15,7 +15,8 @@ use Rattle.pattern.specs.Print.{print}
 use Rattle.pattern.specs.Decode.{decode}
 use Rattle.table.specs.Headers.{pick, header-of, headed, read-header}
 use Rattle.table.specs.Checked.{bind, only-if, read-pattern, read-table, walk}
-use Rattle.table.specs.Walk.{place, WalkPre, PatternPost, tested}
+use Rattle.table.specs.Walk.{place, WalkPre, PatternPost}
+use Rattle.table.specs.Tested.{tested}
 use Rattle.table.specs.declared.Tested.the-variants as verdict
 use Rattle.table.specs.declared.header.Header.{Header}
 use Rattle.table.specs.declared.header.HeaderRead.{HeaderRead}

@@ -1,4 +1,4 @@
--- Trees with good counts, sets that have a code and literals of plain bytes: just those that their printed source spells. Assumes nothing.
+-- Trees with good counts, sets that have a code and literals of plain bytes: just those that derive their printed source. Assumes nothing.
 use mathlib.Core.Path.{_≡_, refl, sym}
 use mathlib.Core.Bool.{Bool, true, false, _&&_, _||_}
 use mathlib.Core.List.{[], _∷_}
@@ -36,7 +36,7 @@ unfolding all-plain Printable
 printable-plain [] p = refl
 printable-plain (b ∷ v) (p, q) = true-and (between 32 126 b) (all-plain v) (passed _ p) (printable-plain v q)
 
--- a good and clean tree is spelt by its printed source
+-- a clean tree within the limits derives its printed source
 pub clean-derives : {s : Sort} (d : ℕ) (x : Syntax s) → InLimits d x → Clean x → Derives x (print x)
 unfolding Derives Cut InLimits Clean print
 clean-derives d (last a) g c = clean-derives d a g c
@@ -48,7 +48,7 @@ clean-derives d (group bs) (g, k) c = (print bs, refl, clean-derives (suc d) bs 
 clean-derives d (only p) g c = clean-derives d p g c
 clean-derives d (or p bs) (g, k) (c, e) = (print p, print bs, refl, clean-derives d p g c, clean-derives d bs k e)
 
--- what some source spells is clean
+-- a tree that derives some source is clean
 pub derives-clean : {s : Sort} (x : Syntax s) (w : Bytes) → Derives x w → Clean x
 unfolding Derives Cut Clean
 derives-clean (last a) w h = derives-clean a w h

@@ -16,7 +16,7 @@ use Rattle.pattern.specs.Decode.{layout, record-at, high-of}
 use Rattle.pattern.proofs.Records.{Placed, head-there, tail-there, then-there, or-there}
 use Rattle.pattern.proofs.RoundTrip.{some-atom, some-pattern, some-choice, high-again}
 use Rattle.table.specs.Fields.{record-of}
-use Rattle.table.specs.Checked.{all-plain, ordered, a-set, bind, only-if, choose, text, leaf, closed, read-pattern, read-atom, read-branches}
+use Rattle.table.specs.Checked.{all-plain, ordered, a-set, bind, only-if, choose, pool-slice, leaf, closed-group, read-pattern, read-atom, read-branches}
 use Rattle.table.proofs.Standing.{Clean, laid-out, Set}
 use Rattle.table.specs.declared.record.Record.{Record}
 use Rattle.table.proofs.Options.{kept, first, second, going-on, true-and}
@@ -56,12 +56,12 @@ module _ (s : Bytes) (A : ℕ) where
       record { placed = tail-there (h .placed); good = h .good .1 .1; clean = h .clean; within = omega (arith, h .within); pooled = h .pooled }
 
   -- the record of an atom
-  its-there : (e low : ℕ) (high : Option ℕ) (b : Syntax body) (i p : ℕ) → Placed s (laid-out A) e (repeat low high b) i p → record-at s (layout s) i ≡ rec e low high b i p
+  record-there : (e low : ℕ) (high : Option ℕ) (b : Syntax body) (i p : ℕ) → Placed s (laid-out A) e (repeat low high b) i p → record-at s (layout s) i ≡ rec e low high b i p
   unfolding records
-  its-there e low high b i p h = head-there h
+  record-there e low high b i p h = head-there h
 
-  its-ends : (e : ℕ) (a : Syntax atom) (i p : ℕ) → Placed s (laid-out A) e a i p → record-at s (layout s) i .ends ≡ e
-  its-ends e (repeat low high b) i p h = ap (λ (r : Rec). r .ends) (its-there e low high b i p h)
+  record-ends : (e : ℕ) (a : Syntax atom) (i p : ℕ) → Placed s (laid-out A) e a i p → record-at s (layout s) i .ends ≡ e
+  record-ends e (repeat low high b) i p h = ap (λ (r : Rec). r .ends) (record-there e low high b i p h)
 
   -- an atom, by its record
   abbrev pub by-record : ℕ → Record → ℕ → ℕ → ℕ → Option (Syntax atom)
@@ -70,7 +70,7 @@ module _ (s : Bytes) (A : ℕ) where
       (only-if (ordered (r .low) (r .high))
       (bind (
       choose (eqb (r .kind) 3)
-      (only-if (ltb d depth-limit) (bind (read-branches s A f (r .a) (suc i) p (suc d)) (closed s A (r .b) i)))
+      (only-if (ltb d depth-limit) (bind (read-branches s A f (r .a) (suc i) p (suc d)) (closed-group s A (r .b) i)))
       (leaf s A (r .kind) (r .a) (r .b) p)
       ) λ b. some (repeat (r .low) (high-of (r .high)) b)))
 
@@ -82,26 +82,26 @@ module _ (s : Bytes) (A : ℕ) where
   -- once its body is read
   read-body : (f e low : ℕ) (high : Option ℕ) (b : Syntax body) (i p d : ℕ) → Set s A e (repeat low high b) i p d
       → choose (eqb (kind-field b) 3)
-      (only-if (ltb d depth-limit) (bind (read-branches s A f (a-field b p) (suc i) p (suc d)) (closed s A (b-field b i) i)))
+      (only-if (ltb d depth-limit) (bind (read-branches s A f (a-field b p) (suc i) p (suc d)) (closed-group s A (b-field b i) i)))
       (leaf s A (kind-field b) (a-field b p) (b-field b i) p) ≡ some b
       → read-atom s A (suc f) i p d ≡ some (repeat low high b)
   unfolding read-pattern size InLimits
   read-body f e low high b i p d h g =
       let n : i < A = omega (arith, h .within) in
       let x = h .good .0 in
-      ap (λ r. by-record f (record-of r) i p d) (its-there e low high b i p (h .placed))
+      ap (λ r. by-record f (record-of r) i p d) (record-there e low high b i p (h .placed))
       ∙ kept _ _ (lt-ltb _ _ n)
       ∙ kept _ _ (fits-ordered low high x)
       ∙ going-on _ _ g
       ∙ ap (λ y. some (repeat low y b)) (high-again high (x .1))
 
   complete-atom : (f : ℕ) → Complete f → (e : ℕ) (a : Syntax atom) (i p d : ℕ) → Set s A e a i p d → 3 * size a < suc f → read-atom s A (suc f) i p d ≡ some a
-  unfolding kind-field a-field b-field choose leaf closed a-set size pool records InLimits Clean
+  unfolding kind-field a-field b-field choose leaf closed-group a-set size pool records InLimits Clean
   complete-atom f ih e (repeat low high (codes set)) i p d h n =
       read-body f e low high (codes set) i p d h
       (kept _ _ (true-and (ltb 0 set) (ltb set set-limit) (lt-ltb _ _ (h .clean)) (lt-ltb _ _ (h .good .1))) ∙ kept _ _ refl)
   complete-atom f ih e (repeat low high (literal v)) i p d h n =
-      let t : text s A p (length v) ≡ v = ap (take (length v)) (h .placed .text) ∙ take-append-seam v (h .placed .over) in
+      let t : pool-slice s A p (length v) ≡ v = ap (take (length v)) (h .placed .text) ∙ take-append-seam v (h .placed .over) in
       read-body f e low high (literal v) i p d h
       (kept _ _ refl ∙ kept _ _ (eq-eqb p p refl) ∙ kept _ _ (le-leb _ _ (h .pooled)) ∙ kept _ _ (ap all-plain t ∙ h .clean) ∙ ap (λ x. some (literal x)) t)
   complete-atom f ih e (repeat low high (group bs)) i p d h n =
@@ -113,10 +113,10 @@ module _ (s : Bytes) (A : ℕ) where
   unfolding read-pattern size
   complete-pattern f ih e (last a) i p d h n =
       let b = set-last h in
-      going-on _ _ (ih .atoms 1 a i p d b (omega (arith, n))) ∙ first _ _ _ (eq-eqb _ _ (its-ends 1 a i p (b .placed)))
+      going-on _ _ (ih .atoms 1 a i p d b (omega (arith, n))) ∙ first _ _ _ (eq-eqb _ _ (record-ends 1 a i p (b .placed)))
   complete-pattern f ih e (then a q) i p d h n =
       let (b, c) = set-then e a q i p d h in
-      let z = its-ends 0 a i p (b .placed) in
+      let z = record-ends 0 a i p (b .placed) in
       going-on _ _ (ih .atoms 0 a i p d b (omega (arith, n)))
       ∙ second _ _ _ (ne-eqb (record-at s (layout s) i .ends) 1 (λ x. omega (arith, z, x)))
       ∙ kept _ _ (eq-eqb _ _ z)

@@ -15,7 +15,7 @@ use Rattle.pattern.specs.Syntax.{pattern, atom, body, branches, Syntax, then, r
 use Rattle.pattern.specs.Within.{Fits, InLimits}
 use Rattle.pattern.specs.Table.{pool, branch-count, kind-field, a-field, b-field, high-field, Rec, rec, records, record-bytes}
 use Rattle.pattern.specs.Decode.{layout, record-at, high-of}
-use Rattle.table.specs.Checked.{all-plain, a-set, bind, only-if, text, leaf, closed, read-pattern, read-atom, read-branches}
+use Rattle.table.specs.Checked.{all-plain, a-set, bind, only-if, pool-slice, leaf, closed-group, read-pattern, read-atom, read-branches}
 use Rattle.table.proofs.Standing.{Clean, Set, both-placed}
 use Rattle.table.proofs.Options.{nothing, inside, after-some, only-some, choose-some, and-true}
 use Rattle.pattern.proofs.Records.{count-records}
@@ -89,10 +89,10 @@ module _ (s : Bytes) (A : ℕ) (laid : Laid s A) where
         pooled = omega arith;
       }
 
-  length-text : (p n : ℕ) → header-size + record-size * A + p + n ≤ length s → length (text s A p n) ≡ n
+  length-text : (p n : ℕ) → header-size + record-size * A + p + n ≤ length s → length (pool-slice s A p n) ≡ n
   length-text p n h = length-take n (drop (header-size + record-size * A + p) s) ∙ omega (arith, length-drop (header-size + record-size * A + p) s)
 
-  set-literal : (i p n d : ℕ) → all-plain (text s A p n) ≡ true → i ≤ A → header-size + record-size * A + p + n ≤ length s → (e : ℕ) → Set s A e (literal (text s A p n)) i p d
+  set-literal : (i p n d : ℕ) → all-plain (pool-slice s A p n) ≡ true → i ≤ A → header-size + record-size * A + p + n ≤ length s → (e : ℕ) → Set s A e (literal (pool-slice s A p n)) i p d
   unfolding records size pool record-bytes InLimits Clean
   set-literal i p n d h z v e =
       let m = length-text p n v in
@@ -105,7 +105,7 @@ module _ (s : Bytes) (A : ℕ) (laid : Laid s A) where
         pooled = omega (arith, m);
       }
 
-  pub record Sound (f : ℕ) : Type 0 where
+  pub record SoundTo (f : ℕ) : Type 0 where
     pub patterns : (i p d : ℕ) (t : Syntax pattern) → header-size + record-size * A + p ≤ length s → read-pattern s A f i p d ≡ some t → (e : ℕ) → Set s A e t i p d
     pub atoms : (i p d : ℕ) (a : Syntax atom) → header-size + record-size * A + p ≤ length s → read-atom s A f i p d ≡ some a → Set s A (record-at s (layout s) i .ends) a i p d
     pub branches : (k i p d : ℕ) (bs : Syntax branches) → header-size + record-size * A + p ≤ length s → read-branches s A f k i p d ≡ some bs
@@ -133,10 +133,10 @@ module _ (s : Bytes) (A : ℕ) (laid : Laid s A) where
       (same-rec (record-at s (layout s) i) _ _ _ (eqb-true _ _ y4) (eqb-true _ _ y5) (sym (length-text p _ q)), set-literal (suc i) p _ d z h q))
       (choose-some _ _ _ e)
 
-  group-body : (f i p d : ℕ) (b : Syntax body) → Sound f → header-size + record-size * A + p ≤ length s → record-at s (layout s) i .kind ≡ 3
-      → only-if (ltb d depth-limit) (bind (read-branches s A f (record-at s (layout s) i .a) (suc i) p (suc d)) (closed s A (record-at s (layout s) i .b) i)) ≡ some b
+  group-body : (f i p d : ℕ) (b : Syntax body) → SoundTo f → header-size + record-size * A + p ≤ length s → record-at s (layout s) i .kind ≡ 3
+      → only-if (ltb d depth-limit) (bind (read-branches s A f (record-at s (layout s) i .a) (suc i) p (suc d)) (closed-group s A (record-at s (layout s) i .b) i)) ≡ some b
       → Bodied b i p d
-  unfolding closed kind-field a-field b-field records size pool InLimits Clean
+  unfolding closed-group kind-field a-field b-field records size pool InLimits Clean
   group-body f i p d b ih v k e =
       let (y, g) = only-some _ _ e in
       let (bs, r, g1) = after-some _ _ g in
@@ -145,7 +145,7 @@ module _ (s : Bytes) (A : ℕ) (laid : Laid s A) where
       subst (λ (b : Syntax body). Bodied b i p d) (inside g2)
       (same-rec (record-at s (layout s) i) _ _ _ k (sym n) (sym (eqb-true _ _ z)), λ e. let h = st e in record { placed = h .placed; good = (ltb-true _ _ y, h .good); clean = h .clean; within = h .within; pooled = h .pooled })
 
-  sound-atom : (f : ℕ) → Sound f → (i p d : ℕ) (a : Syntax atom) → header-size + record-size * A + p ≤ length s → read-atom s A (suc f) i p d ≡ some a → Set s A (record-at s (layout s) i .ends) a i p d
+  sound-atom : (f : ℕ) → SoundTo f → (i p d : ℕ) (a : Syntax atom) → header-size + record-size * A + p ≤ length s → read-atom s A (suc f) i p d ≡ some a → Set s A (record-at s (layout s) i .ends) a i p d
   unfolding read-pattern
   sound-atom f ih i p d a v e =
       let (h, g) = only-some _ _ e in
@@ -155,7 +155,7 @@ module _ (s : Bytes) (A : ℕ) (laid : Laid s A) where
       let (m, st) : Bodied b i p d = ⊎-elim (λ (k, x). group-body f i p d b ih v (eqb-true _ _ k) x) (λ (k, x). leaf-body i p d b h2 v x) (choose-some _ _ _ r) in
       subst (λ (a : Syntax atom). Set s A (record-at s (layout s) i .ends) a i p d) (inside g2) (set-atom b i p d h2 (ordered-fits _ _ o) m st)
 
-  sound-pattern : (f : ℕ) → Sound f → (i p d : ℕ) (t : Syntax pattern) → header-size + record-size * A + p ≤ length s → read-pattern s A (suc f) i p d ≡ some t → (e : ℕ) → Set s A e t i p d
+  sound-pattern : (f : ℕ) → SoundTo f → (i p d : ℕ) (t : Syntax pattern) → header-size + record-size * A + p ≤ length s → read-pattern s A (suc f) i p d ≡ some t → (e : ℕ) → Set s A e t i p d
   unfolding read-pattern records size pool InLimits Clean
   sound-pattern f ih i p d t v e n =
       let (a, r, g) = after-some _ _ e in
@@ -171,7 +171,7 @@ module _ (s : Bytes) (A : ℕ) (laid : Laid s A) where
       (set-both n a q i p d u (ih .patterns _ _ _ q (omega (arith, u .pooled)) r2 n)))
       (choose-some _ _ _ g)
 
-  sound-branches : (f : ℕ) → Sound f → (k i p d : ℕ) (bs : Syntax branches) → header-size + record-size * A + p ≤ length s → read-branches s A (suc f) k i p d ≡ some bs
+  sound-branches : (f : ℕ) → SoundTo f → (k i p d : ℕ) (bs : Syntax branches) → header-size + record-size * A + p ≤ length s → read-branches s A (suc f) k i p d ≡ some bs
       → (branch-count bs ≡ k) × ((e : ℕ) → Set s A e bs i p d)
   unfolding read-pattern branch-count records size pool InLimits Clean
   sound-branches f ih k i p d bs v e =
@@ -188,7 +188,7 @@ module _ (s : Bytes) (A : ℕ) (laid : Laid s A) where
       (omega (arith, m, h2), λ n. set-branches n q cs i p d (st n) (su n)))
       (choose-some _ _ _ g1)
 
-  pub sound : (f : ℕ) → Sound f
+  pub sound : (f : ℕ) → SoundTo f
   unfolding read-pattern
   sound zero = record { patterns = λ i p d t v e. nothing e; atoms = λ i p d a v e. nothing e; branches = λ k i p d bs v e. nothing e }
   sound (suc f) =

@@ -16,7 +16,7 @@ use Rattle.pattern.specs.Table.{pool}
 use Rattle.pattern.specs.Print.{print-count, print}
 use Rattle.pattern.specs.Decode.{layout, record-at, high-of}
 use Rattle.table.specs.Fields.{record-of}
-use Rattle.table.specs.Checked.{ordered, bind, only-if, choose, leaf as leaf-read, closed, read-pattern, read-atom, read-branches}
+use Rattle.table.specs.Checked.{ordered, bind, only-if, choose, leaf as leaf-read, closed-group, read-pattern, read-atom, read-branches}
 use Rattle.table.specs.Leaves.{leaf-of}
 use Rattle.table.specs.Walk.{place, beyond, passed-by, walked-by, reach}
 use Rattle.table.specs.declared.record.Record.{Record}
@@ -137,30 +137,30 @@ module _ (s : Bytes) (A : ℕ) (at : Place) (d : ℕ) where
 
   module _ (r : Record) (same : r ≡ record-of (record-at s (layout s) (at .atom))) (on : at .atom < A) where
     -- the model at the record that the code has read
-    by-its : (f : ℕ) → read-atom s A (suc f) (at .atom) (at .pool) d ≡ by-record s A f r (at .atom) (at .pool) d
+    by-fields : (f : ℕ) → read-atom s A (suc f) (at .atom) (at .pool) d ≡ by-record s A f r (at .atom) (at .pool) d
     unfolding read-pattern
-    by-its f = ap (λ (x : Record). by-record s A f x (at .atom) (at .pool) d) (sym same)
+    by-fields f = ap (λ (x : Record). by-record s A f x (at .atom) (at .pool) d) (sym same)
 
     pub atom-unordered : ordered (r .low) (r .high) ≡ false → AtomReads s A at d passed.Bad
     unfolding passed-by
     atom-unordered e zero n = absurd (omega arith)
-    atom-unordered e (suc f) n = sym (ap (passed-by at) (by-its f ∙ kept _ _ (lt-ltb _ _ on) ∙ dropped _ _ e))
+    atom-unordered e (suc f) n = sym (ap (passed-by at) (by-fields f ∙ kept _ _ (lt-ltb _ _ on) ∙ dropped _ _ e))
 
     module _ (o : ordered (r .low) (r .high) ≡ true) where
       abbrev body-read : ℕ → Option (Syntax body)
       body-read f =
           choose (eqb (r .kind) 3)
-          (only-if (ltb d depth-limit) (bind (read-branches s A f (r .a) (suc (at .atom)) (at .pool) (suc d)) (closed s A (r .b) (at .atom))))
+          (only-if (ltb d depth-limit) (bind (read-branches s A f (r .a) (suc (at .atom)) (at .pool) (suc d)) (closed-group s A (r .b) (at .atom))))
           (leaf-read s A (r .kind) (r .a) (r .b) (at .pool))
 
       no-body : (f : ℕ) → body-read f ≡ none → passed.Bad ≡ passed-by at (read-atom s A (suc f) (at .atom) (at .pool) d)
       unfolding passed-by
-      no-body f e = sym (ap (passed-by at) (by-its f ∙ kept _ _ (lt-ltb _ _ on) ∙ kept _ _ o ∙ stopped _ _ e))
+      no-body f e = sym (ap (passed-by at) (by-fields f ∙ kept _ _ (lt-ltb _ _ on) ∙ kept _ _ o ∙ stopped _ _ e))
 
       some-body : (f : ℕ) (b : Syntax body) → body-read f ≡ some b → (dest : Place) → dest ≡ beyond at (repeat (r .low) (high-of (r .high)) b)
           → passed.To dest ≡ passed-by at (read-atom s A (suc f) (at .atom) (at .pool) d)
       unfolding passed-by
-      some-body f b e dest u = ap passed.To u ∙ sym (ap (passed-by at) (by-its f ∙ kept _ _ (lt-ltb _ _ on) ∙ kept _ _ o ∙ going-on _ _ e))
+      some-body f b e dest u = ap passed.To u ∙ sym (ap (passed-by at) (by-fields f ∙ kept _ _ (lt-ltb _ _ on) ∙ kept _ _ o ∙ going-on _ _ e))
 
       -- ---- a leaf
 
@@ -197,7 +197,7 @@ module _ (s : Bytes) (A : ℕ) (at : Place) (d : ℕ) where
               no-body f (first _ _ _ (eq-eqb _ _ k) ∙ kept _ _ (lt-ltb _ _ shallow) ∙ stopped _ _ (as-read f _ (bad-none (bracket-on at c) _ (w f (omega arith)))))
 
           pub group-apart : (dest : Place) → GroupReads s A (bracket-on at c) (d + 1) (r .a) (passed.To dest) → (dest .atom ≡ r .b → ⊥) → AtomReads s A at d passed.Bad
-          unfolding closed
+          unfolding closed-group
           group-apart dest w e zero n = absurd (omega arith)
           group-apart dest w e (suc f) n =
               let (bs, q, u) = to-some (bracket-on at c) _ dest (w f (omega arith)) in
@@ -206,7 +206,7 @@ module _ (s : Bytes) (A : ℕ) (at : Place) (d : ℕ) where
 
           pub group-closed : (dest : Place) → GroupReads s A (bracket-on at c) (d + 1) (r .a) (passed.To dest) → dest .atom ≡ r .b
               → AtomReads s A at d (passed.To (byte-on dest))
-          unfolding closed size pool print
+          unfolding closed-group size pool print
           group-closed dest w e zero n = absurd (omega arith)
           group-closed dest w e (suc f) n =
               let (bs, q, u) = to-some (bracket-on at c) _ dest (w f (omega arith)) in

@@ -85,20 +85,20 @@ further k (walked.To next n) = walked.To next (k + n)
 further k walked.Bad = walked.Bad
 
 -- what is walked from now on is walked from the start, k atoms later
-pub record Going (s : Bytes) (A d : ℕ) (at now : Place) (k : ℕ) : Type 0 where
+pub record WalkPatternAt (s : Bytes) (A d : ℕ) (at now : Place) (k : ℕ) : Type 0 where
   pub ready : WalkPre s A now d
   pub on : at .atom + k ≤ now .atom
   pub rest : (x : Walked) → PatternPost s A now d x → PatternPost s A at d (further k x)
 
-pub going-start : {s : Bytes} {A d : ℕ} {at : Place} → WalkPre s A at d → Going s A d at at 0
+pub pattern-at-start : {s : Bytes} {A d : ℕ} {at : Place} → WalkPre s A at d → WalkPatternAt s A d at at 0
 unfolding further
-going-start {s} {A} {d} {at} r = record { ready = r; on = omega arith; rest = same }
+pattern-at-start {s} {A} {d} {at} r = record { ready = r; on = omega arith; rest = same }
   where
     same : (x : Walked) → PatternPost s A at d x → PatternPost s A at d (further 0 x)
     same (walked.To next n) h = let e : 0 + n ≡ n = omega arith in rw e h
     same walked.Bad h = h
 
-module _ {s : Bytes} {A d : ℕ} {at now : Place} {k : ℕ} (g : Going s A d at now k) {x : Passed} (a : AtomPost s A now d x) where
+module _ {s : Bytes} {A d : ℕ} {at now : Place} {k : ℕ} (g : WalkPatternAt s A d at now k) {x : Passed} (a : AtomPost s A now d x) where
   pub going-bad : x ≡ passed.Bad → PatternPost s A at d walked.Bad
   unfolding further
   going-bad e = g .rest walked.Bad (record { past = tt; reads = pattern-none s A now d (λ f m. sym e ∙ a .reads f m) })
@@ -111,9 +111,9 @@ module _ {s : Bytes} {A d : ℕ} {at now : Place} {k : ℕ} (g : Going s A d at 
     going-moved = passed-to .past
 
     module _ {b : ℕ} (q : b ≡ record-at s (layout s) (now .atom) .ends) where
-      pub going-last : b ≡ 1 → PatternPost s A at d (walked.To next (k + 1))
+      pub pattern-at-last : b ≡ 1 → PatternPost s A at d (walked.To next (k + 1))
       unfolding further
-      going-last z = g .rest (walked.To next 1) (record {
+      pattern-at-last z = g .rest (walked.To next 1) (record {
         past = (going-moved, omega (arith, going-moved .on));
         reads = pattern-last s A now d next (passed-to .reads) (sym q ∙ z);
       })
@@ -139,23 +139,23 @@ module _ {s : Bytes} {A d : ℕ} {at now : Place} {k : ℕ} (g : Going s A d at 
           reads = then-none s A now d next (passed-to .reads) (going-moved .on) (going-moved .atom) (sym q ∙ z) (h .reads);
         })
 
-        pub going-more : Going s A d at next (k + 1)
-        going-more = record { ready = ready-on (g .ready) going-moved; on = omega (arith, g .on, going-moved .on); rest = rest-on }
+        pub pattern-at-more : WalkPatternAt s A d at next (k + 1)
+        pattern-at-more = record { ready = ready-on (g .ready) going-moved; on = omega (arith, g .on, going-moved .on); rest = rest-on }
 
 -- ---- the loop over the branches of a group
 
 -- what is walked of the branches left is walked of all k
-pub record Branching (s : Bytes) (A d k : ℕ) (at now : Place) (left : ℕ) : Type 0 where
+pub record WalkGroupAt (s : Bytes) (A d k : ℕ) (at now : Place) (left : ℕ) : Type 0 where
   pub ready : WalkPre s A now d
   pub on : at .atom ≤ now .atom
   pub rest : (x : Passed) → GroupPost s A now d left x → GroupPost s A at d k x
 
-pub branching-start : {s : Bytes} {A d k : ℕ} {at : Place} → WalkPre s A at d → Branching s A d k at at k
-branching-start r = record { ready = r; on = omega arith; rest = λ x h. h }
+pub group-at-start : {s : Bytes} {A d k : ℕ} {at : Place} → WalkPre s A at d → WalkGroupAt s A d k at at k
+group-at-start r = record { ready = r; on = omega arith; rest = λ x h. h }
 
-module _ {s : Bytes} {A d k : ℕ} {at now : Place} {left : ℕ} (g : Branching s A d k at now left) where
-  pub branching-over : left ≡ 0 → GroupPost s A at d k passed.Bad
-  branching-over e = g .rest passed.Bad (record { past = tt; reads = branches-none s A now d left e })
+module _ {s : Bytes} {A d k : ℕ} {at now : Place} {left : ℕ} (g : WalkGroupAt s A d k at now left) where
+  pub group-at-over : left ≡ 0 → GroupPost s A at d k passed.Bad
+  group-at-over e = g .rest passed.Bad (record { past = tt; reads = branches-none s A now d left e })
 
   module _ (n : left ≡ 0 → ⊥) {x : Walked} (p : PatternPost s A now d x) where
     pub branching-bad : x ≡ walked.Bad → GroupPost s A at d k passed.Bad
@@ -168,11 +168,11 @@ module _ {s : Bytes} {A d k : ℕ} {at now : Place} {left : ℕ} (g : Branching 
       pub branch-ready : WalkPre s A next d
       branch-ready = ready-on (g .ready) (walked-to .past .0)
 
-      pub branching-last : left ≡ 1 → GroupPost s A at d k (passed.To next)
-      branching-last z = g .rest (passed.To next) (record { past = walked-to .past .0; reads = branch-only s A now d left n next (walked-to .reads) z })
+      pub group-at-last : left ≡ 1 → GroupPost s A at d k (passed.To next)
+      group-at-last z = g .rest (passed.To next) (record { past = walked-to .past .0; reads = branch-only s A now d left n next (walked-to .reads) z })
 
-      pub branching-more : (left ≡ 1 → ⊥) → Branching s A d k at (byte-on next) (left - 1)
-      branching-more z =
+      pub group-at-more : (left ≡ 1 → ⊥) → WalkGroupAt s A d k at (byte-on next) (left - 1)
+      group-at-more z =
           let m = walked-to .past .0 in
           record {
             ready = ready-again (g .ready) m;

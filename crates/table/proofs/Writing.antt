@@ -14,8 +14,8 @@ use Rattle.pattern.specs.Answers.{put}
 use Rattle.pattern.proofs.Records.{record-bytes-append, length-record-bytes, count-records}
 use Rattle.pattern.proofs.Calls.{put-fits, put-short}
 use Rattle.pattern.proofs.Stores.{store-at-then, store-at-before, store-at-overwrite, take-overwrite, puts-then, puts-more}
-use Rattle.table.specs.Write.{put-records, WriteTablePre, table-of, output-of}
-use Rattle.table.specs.declared.write.Written.the-variants.{Length, Room}
+use Rattle.table.specs.Write.{put-records, WriteTablePre, table-of, table-output}
+use Rattle.table.specs.declared.write.TableWritten.the-variants.{Length, Room}
 
 -- records before other bytes
 record-bytes-over : (xs : List Rec) (s : Bytes) → record-bytes xs s ≡ record-bytes xs [] ++ s
@@ -55,13 +55,13 @@ module _ (position n m : ℕ) (recs text table : Bytes) (pre : WriteTablePre n m
   table-size =
       omega (arith, length-append (take (record-size * n) recs) (take m text), length-take-le (record-size * n) recs (pre .recs-there), length-take-le m text (pre .text-there))
 
-  pub no-room : length table < header-size + record-size * n + m → output-of position Room table ≡ put position (table-of n m recs text) table
+  pub no-room : length table < header-size + record-size * n + m → table-output position Room table ≡ put position (table-of n m recs text) table
   no-room h = sym (put-short position (table-of n m recs text) table (omega (arith, table-size)))
 
   -- the stores one after the other
   pub writes-table : (mark′ t₁ t₂ t₃ t₄ : Bytes) → header-size + record-size * n + m ≤ length table → mark′ ≡ mark ++ le16 version [] → t₁ ≡ store-at table 0 (take atoms-place mark′)
       → t₂ ≡ store-at (set t₁ atoms-place n) length-place (le16 m []) → t₃ ≡ store-at t₂ header-size (take (record-size * n) recs) → t₄ ≡ store-at t₃ (header-size + record-size * n) (take m text)
-      → output-of position (Length (header-size + record-size * n + m)) t₄ ≡ put position (table-of n m recs text) table
+      → table-output position (Length (header-size + record-size * n + m)) t₄ ≡ put position (table-of n m recs text) table
   writes-table mark′ t₁ t₂ t₃ t₄ h e e₁ e₂ e₃ e₄ =
       let r : Bytes = take (record-size * n) recs in
       let v : Bytes = take m text in
@@ -70,7 +70,7 @@ module _ (position n m : ℕ) (recs text table : Bytes) (pre : WriteTablePre n m
       let c : Puts table 0 (eight ++ r) t₃ (header-size + record-size * n) = puts-then b (record { bytes = e₃; next = ap (λ k. header-size + k) (sym (length-take-le (record-size * n) recs (pre .recs-there))) }) in
       let d : Puts table 0 ((eight ++ r) ++ v) t₄ (header-size + record-size * n + m) = puts-then c (record { bytes = e₄; next = ap (λ k. header-size + record-size * n + k) (sym (length-take-le m text (pre .text-there))) }) in
       let z = table-size in
-      ap₂ (λ k l. output-of position (Length k) l) (sym z) (d .bytes ∙ ap (store-at table 0) (append-assoc eight r v ∙ whole) ∙ store-at-overwrite table (table-of n m recs text) (omega arith))
+      ap₂ (λ k l. table-output position (Length k) l) (sym z) (d .bytes ∙ ap (store-at table 0) (append-assoc eight r v ∙ whole) ∙ store-at-overwrite table (table-of n m recs text) (omega arith))
       ∙ sym (put-fits position (table-of n m recs text) table (omega arith))
     where
       eight : Bytes

@@ -1,4 +1,4 @@
--- The reading of a table's records with every check: the tree that the test walks. Assumes nothing.
+-- The reading of a table's records with every check: the tree that the test walks. Private: a model for this crate's contracts.
 use mathlib.Core.Bool.{Bool, true, false, _&&_, _||_}
 use mathlib.Core.List.{[], _∷_}
 use mathlib.Core.Option.{Option, none, some}
@@ -50,23 +50,23 @@ codes-leaf a b = only-if (a-set a) (only-if (eqb b 0) (some (codes a)))
 
 module _ (s : Bytes) (A : ℕ) where
   -- n bytes of the pool from p on
-  abbrev pub text : (p n : ℕ) → Bytes
-  text p n = take n (drop (header-size + record-size * A + p) s)
+  abbrev pub pool-slice : (p n : ℕ) → Bytes
+  pool-slice p n = take n (drop (header-size + record-size * A + p) s)
 
   -- a literal, by the fields a and b of its record, with p bytes of the pool before it
   abbrev pub text-leaf : (a b p : ℕ) → Option (Syntax body)
   text-leaf a b p =
       only-if (eqb a p)
       (only-if (leb (header-size + record-size * A + p + b) (length s))
-      (only-if (all-plain (text p b)) (some (literal (text p b)))))
+      (only-if (all-plain (pool-slice p b)) (some (literal (pool-slice p b)))))
 
   -- a leaf, by its kind
   unfoldable pub leaf : (kind a b p : ℕ) → Option (Syntax body)
   leaf kind a b p = choose (eqb kind codes-kind) (codes-leaf a b) (only-if (eqb kind literal-kind) (text-leaf a b p))
 
   -- the group of atom i is over where its record says
-  unfoldable pub closed : (b i : ℕ) → Syntax branches → Option (Syntax body)
-  closed b i bs = only-if (eqb (suc i + size bs) b) (some (group bs))
+  unfoldable pub closed-group : (b i : ℕ) → Syntax branches → Option (Syntax body)
+  closed-group b i bs = only-if (eqb (suc i + size bs) b) (some (group bs))
 
   -- the tree from atom i on, with p bytes of the pool passed and d groups open; the first number bounds the depth of calls
   unfoldable mutual
@@ -84,7 +84,7 @@ module _ (s : Bytes) (A : ℕ) where
         (only-if (ordered (record-at s (layout s) i .low) (record-at s (layout s) i .high))
         (bind (
         choose (eqb (record-at s (layout s) i .kind) group-kind)
-        (only-if (ltb d depth-limit) (bind (read-branches f (record-at s (layout s) i .a) (suc i) p (suc d)) (closed (record-at s (layout s) i .b) i)))
+        (only-if (ltb d depth-limit) (bind (read-branches f (record-at s (layout s) i .a) (suc i) p (suc d)) (closed-group (record-at s (layout s) i .b) i)))
         (leaf (record-at s (layout s) i .kind) (record-at s (layout s) i .a) (record-at s (layout s) i .b) p)
         ) λ b. some (repeat (record-at s (layout s) i .low) (high-of (record-at s (layout s) i .high)) b)))
 

@@ -1,4 +1,4 @@
--- What the walk over a table's records promises. Assumes nothing.
+-- What the walk over a table's records promises. Private: a model for this crate's contracts.
 use mathlib.Core.Path.{_≡_}
 use mathlib.Core.Option.{Option, none, some}
 use Prim.Native.Nat.{ℕ, _+_, _*_, _-_, _≤_, _<_}
@@ -10,8 +10,6 @@ use Rattle.pattern.specs.Table.{pool}
 use Rattle.pattern.specs.Print.{print}
 use Rattle.table.specs.Headers.{length-bound}
 use Rattle.table.specs.Checked.{read-pattern, read-atom, read-branches}
-use Rattle.table.specs.declared.Tested.{Tested}
-use Rattle.table.specs.declared.Tested.the-variants as verdict
 use Rattle.table.specs.declared.walk.Place.{Place}
 use Rattle.table.specs.declared.walk.Passed.{Passed}
 use Rattle.table.specs.declared.walk.Passed.the-variants as passed
@@ -72,8 +70,3 @@ pub record PatternPost (s : Bytes) (A : ℕ) (at : Place) (d : ℕ) (r : Walked)
 pub record GroupPost (s : Bytes) (A : ℕ) (at : Place) (d k : ℕ) (r : Passed) : Type 0 where
   pub past : Past s A at r
   pub reads : (f : ℕ) → reach A at + 2 < f → r ≡ passed-by at (read-branches s A f k (at .atom) (at .pool) d)
-
--- the verdict on a table that has this tree, or none
-unfoldable pub tested : Option (Syntax pattern) → Tested
-tested none = verdict.Bad
-tested (some t) = verdict.Good (record { atoms = size t; top = top-size t; source = length (print t) })

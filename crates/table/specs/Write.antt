@@ -1,4 +1,4 @@
--- What writing a table asks and promises. Assumes nothing.
+-- What writing a table asks and promises. Private: a model for this crate's contracts.
 use mathlib.Core.Path.{_≡_}
 use mathlib.Core.List.{List, [], _++_}
 use Prim.Native.Nat.{ℕ, _*_, _≤_}
@@ -9,8 +9,8 @@ use Rattle.pattern.specs.Table.{Rec, record-bytes, header}
 use Rattle.pattern.specs.Stores.{store-at}
 use Rattle.pattern.specs.Answers.{refusal, result, Output, put}
 use Rattle.pattern.specs.declared.repeat.Repeat.{Repeat}
-use Rattle.table.specs.declared.write.Written.{Written}
-use Rattle.table.specs.declared.write.Written.the-variants.{Length, Room}
+use Rattle.table.specs.declared.write.TableWritten.{TableWritten}
+use Rattle.table.specs.declared.write.TableWritten.the-variants.{Length, Room}
 
 -- a record as the code has it
 abbrev pub rec-of : (kind last : ℕ) → Repeat → (a b : ℕ) → Rec
@@ -36,10 +36,10 @@ unfoldable pub table-of : (n m : ℕ) → (recs text : Bytes) → Bytes
 table-of n m recs text = header n m (take (record-size * n) recs ++ take m text)
 
 -- what was answered and written; too little room is ROOM at this position
-abbrev pub output-of : (position : ℕ) → Written → Bytes → Output
-output-of position (Length n) bytes = record { answer = result n 0; bytes = bytes }
-output-of position Room bytes = record { answer = refusal ROOM position; bytes = bytes }
+abbrev pub table-output : (position : ℕ) → TableWritten → Bytes → Output
+table-output position (Length n) bytes = record { answer = result n 0; bytes = bytes }
+table-output position Room bytes = record { answer = refusal ROOM position; bytes = bytes }
 
 -- the table in lent bytes, or ROOM at whatever position the caller answers
-pub record WriteTablePost (n m : ℕ) (recs text table : Bytes) (r : Written) (table′ : Bytes) : Type 0 where
-  pub puts : (position : ℕ) → output-of position r table′ ≡ put position (table-of n m recs text) table
+pub record WriteTablePost (n m : ℕ) (recs text table : Bytes) (r : TableWritten) (table′ : Bytes) : Type 0 where
+  pub puts : (position : ℕ) → table-output position r table′ ≡ put position (table-of n m recs text) table

@@ -20,8 +20,8 @@ pub enum TextLength {
     Bad,
 }
 
-// The digits of a repeat number.
-fn digits(n: u16) -> usize
+// How many digits a repeat number has.
+fn number_length(n: u16) -> usize
     ensures { λ r. ⌜ (r ≡ length (decimal n)) × (r ≤ 5) ⌝ }
 {
     decimal_length(n as u64)
@@ -30,7 +30,7 @@ fn digits(n: u16) -> usize
 fn low_length(low: u16) -> usize
     ensures { λ r. ⌜ (r ≡ length (print-low low)) × (r ≤ 5) ⌝ }
 {
-    if low == 0 { 0 } else { digits(low) }
+    if low == 0 { 0 } else { number_length(low) }
 }
 
 // The bytes of a repeat count.
@@ -41,13 +41,13 @@ pub fn count_length(low: u16, high: u16) -> usize
         return low_length(low) + 1;
     }
     if low == high {
-        return digits(low);
+        return number_length(low);
     }
-    low_length(low) + 1 + digits(high)
+    low_length(low) + 1 + number_length(high)
 }
 
-// The letters of a set.
-pub fn letters(set: u16) -> usize
+// How many letters a set has.
+pub fn letters_length(set: u16) -> usize
     requires { ⌜ set < set-limit ⌝ }
     ensures { λ r. ⌜ (r ≡ length (print-set all-codes set)) × (r ≤ 7) ⌝ }
 {

@@ -13,7 +13,7 @@ use walk::Place;
 use walk::Walked;
 ghost use mathlib.Core.Path.{_≡_};
 ghost use Rattle.pattern.specs.Decode.{decode};
-ghost use Rattle.table.specs.Walk.{tested};
+ghost use Rattle.table.specs.Tested.{tested};
 
 // A good table: its atoms, how many of them stand in no group, and the bytes of its shortest source.
 pub struct Sizes {

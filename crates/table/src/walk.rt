@@ -74,7 +74,7 @@ fn codes_leaf(table: &[u8], atoms: usize, a: u16, b: u16, p: usize) -> Leaf
 {
     if is_set(a) {
         if b == 0 {
-            return Leaf::Is(0, lengths::letters(a));
+            return Leaf::Is(0, lengths::letters_length(a));
         }
     }
     Leaf::Bad

@@ -19,7 +19,7 @@ pub const RECORDS_ROOM: usize = layout::RECORD_SIZE * limits::ATOM_LIMIT;
 pub const TABLE_ROOM: usize = layout::HEADER_SIZE + RECORDS_ROOM + limits::SOURCE_LIMIT;
 
 // The length of the table, or that the lent bytes are too short.
-pub enum Written {
+pub enum TableWritten {
     Length(usize),
     Room,
 }
@@ -38,14 +38,20 @@ pub fn put_record(recs: &mut [u8], i: usize, kind: u8, last: u8, rep: Repeat, a:
 }
 
 // The table of the first atoms of these records and the first text bytes of this pool; too little room writes nothing.
-pub fn write_table(atoms: usize, text: usize, recs: &[u8], pool: &[u8], table: &mut [u8]) -> Written
+pub fn write_table(
+    atoms: usize,
+    text: usize,
+    recs: &[u8],
+    pool: &[u8],
+    table: &mut [u8],
+) -> TableWritten
     requires { ⌜ WriteTablePre atoms text (now recs) (now pool) ⌝ }
     ensures { λ r. ⌜ WriteTablePost atoms text (now (recs .entry)) (now (pool .entry)) (now (table .entry)) r (now (table .exit)) ⌝ }
 {
     let from = layout::HEADER_SIZE + layout::RECORD_SIZE * atoms;
     let total = from + text;
     if table.len() < total {
-        return Written::Room;
+        return TableWritten::Room;
     }
     let mark = layout::first_bytes();
     copy(&mark, layout::ATOMS_PLACE, table, 0);
@@ -58,5 +64,5 @@ pub fn write_table(atoms: usize, text: usize, recs: &[u8], pool: &[u8], table: &
         layout::HEADER_SIZE,
     );
     copy(pool, text, table, from);
-    Written::Length(total)
+    TableWritten::Length(total)
 }

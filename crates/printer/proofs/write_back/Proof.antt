@@ -1,13 +1,13 @@
 -- `write_back` meets its contract: each answer is what the test says of the table. Assumes nothing.
 use mathlib.Core.Path.{sym, _∙_}
 use borrow.Author.Needs.{needs}
-use Rattle.atoms.proofs.Goods.{Sized, tested-good}
+use Rattle.atoms.proofs.Goods.{GoodSizes, tested-good}
 use Rattle.printer.proofs.Writing.{table-written, room-written, start-pre, kept-length, length-written}
 use Rattle.printer.proofs.write_back.Statement.{statement}
 use Rattle.printer.proofs.write_back.Tie as tie
 
 -- what is known of a good table
-good : (c : tie.After-known-told) → Sized (c .before .before .before .before .before .before .args .table .now) (c .before .s .given .0 .0)
+good : (c : tie.After-known-told) → GoodSizes (c .before .before .before .before .before .before .args .table .now) (c .before .s .given .0 .0)
 good c = tested-good _ _ (sym (c .before .s .given .1) ∙ c .before .before .before .test .ensures)
 
 returns : tie.Need-returns

@@ -7,7 +7,7 @@ use borrow.Author.Needs.{needs}
 use Rattle.scanner.specs.Counts.{CountIs}
 use Rattle.scanner.proofs.Places.{class-letter}
 use Rattle.compiler.specs.Readers.{ReadPre, BuffersFit}
-use Rattle.compiler.proofs.Readers.{reach, count-is, quote-is, letter-before, atom-fault, atom-codes, atom-literal, atom-other, opening-is, atom-deep, group-ready, atom-group-fault, atom-group, group-is, atom-is, pattern-is, Going, going-start, going-fault, going-last, going-more, comma-is, Branching, branching-start, branching-fault, branching-other, branching-close, branching-more, count-few}
+use Rattle.compiler.proofs.Readers.{read-measure, count-is, quote-is, letter-before, atom-refused, atom-codes, atom-literal, atom-other, opening-is, atom-deep, group-ready, atom-group-fault, atom-group, group-is, atom-is, pattern-is, ReadPatternAt, read-pattern-start, going-fault, read-pattern-last, read-pattern-more, comma-is, ReadGroupAt, read-group-start, branching-fault, branching-other, branching-close, read-group-more, count-few}
 use Prim.Native.Nat.{ℕ, _<_}
 use borrow.Fn.Kinds.{In}
 use borrow.Fn.PlainCycle.{Measures, is, falls, and}
@@ -23,7 +23,7 @@ use Rattle.compiler.proofs.reader.+read_atom+read_group+read_pattern.Lt
 use Rattle.table.proofs.write.put_record.Reads as put-record-reads
 use Rattle.scanner.proofs.count.count.Reads as count-reads
 use Rattle.scanner.proofs.cursor.Cursor.class.Reads as class-reads
-use Rattle.scanner.proofs.cursor.last.Reads as last-reads
+use Rattle.scanner.proofs.cursor.ends_at.Reads as last-reads
 use Rattle.scanner.proofs.cursor.Cursor.separator.Reads as separator-reads
 use Rattle.compiler.proofs.reader.read_codes.Reads as coded-reads
 use Rattle.compiler.proofs.reader.read_literal.Reads as worded-reads
@@ -31,13 +31,13 @@ use Rattle.compiler.proofs.reader.+read_atom+read_group+read_pattern.{s
 use Rattle.compiler.proofs.reader.+read_atom+read_group+read_pattern.Tie.{close}
 
 abbrev μ-read-atom : Measures 3 read-atom-kinds.ps ℕ
-μ-read-atom κs a = reach (a .0 .now) (a .1 .0)
+μ-read-atom κs a = read-measure (a .0 .now) (a .1 .0)
 
 abbrev μ-read-group : Measures 3 read-group-kinds.ps ℕ
-μ-read-group κs a = reach (a .0 .now) (a .1 .0) + 2
+μ-read-group κs a = read-measure (a .0 .now) (a .1 .0) + 2
 
 abbrev μ-read-pattern : Measures 3 read-pattern-kinds.ps ℕ
-μ-read-pattern κs a = reach (a .0 .now) (a .1 .0) + 1
+μ-read-pattern κs a = read-measure (a .0 .now) (a .1 .0) + 1
 
 abbrev read-atom-at : ℕ → In 3 read-atom-kinds.ps
 read-atom-at t = and 3 read-atom-kinds.ps (is 3 read-atom-kinds.ps μ-read-atom t) read-atom.Pre
@@ -141,8 +141,8 @@ read-atom-read-group-requires t c κs =
 read-atom-enum-known-end : (t : ℕ) → read-atom-lts.Need-enum-known-end (read-atom-claims t) (read-atom-at t) read-atom.Post
 read-atom-enum-known-end t c = search needs
 
-read-atom-last-requires : (t : ℕ) → read-atom-lts.Need-last-requires (read-atom-claims t) (read-atom-at t) read-atom.Post
-read-atom-last-requires t c κs = search needs
+read-atom-ends-at-requires : (t : ℕ) → read-atom-lts.Need-ends-at-requires (read-atom-claims t) (read-atom-at t) read-atom.Post
+read-atom-ends-at-requires t c κs = search needs
 
 read-atom-cast-put-record : (t : ℕ) → read-atom-lts.Need-cast-put-record (read-atom-claims t) (read-atom-at t) read-atom.Post
 read-atom-cast-put-record t c = record { fits = omega (arith, count-few _ _ _ _ _ _ _ _ _ (group-is _ _ _ _ _ _ _ _ _ _ (c .before .before .before .before .end .given .1) (c .before .before .before .before .before .before .before .before .before .before .read-group .ensures))) }
@@ -197,14 +197,14 @@ read-atom-same-length-5 t c = search needs
 
 read-atom-returns-4 : (t : ℕ) → read-atom-lts.Need-returns-4 (read-atom-claims t) (read-atom-at t) read-atom.Post
 read-atom-returns-4 t c =
-    let after-last = c .before .before .before .before in
-    let after-end = after-last .before .before .before .before in
+    let after-ends-at = c .before .before .before .before in
+    let after-end = after-ends-at .before .before .before .before in
     let after-read-group = after-end .before .before .before .before .before .before in
     let after-if1 = after-read-group .before .before .before in
     let after-after2 = after-if1 .before .before in
     let after-class = after-after2 .before .before in
     let there = after-class .before in
-    atom-group _ _ _ _ _ (read-atom-ready t there) _ _ (read-atom-counted t there) _ (after-class .class .ensures) _ (after-after2 .after2 .given .1) (omega (arith, after-if1 .if1 .left)) _ _ _ _ _ _ (group-is _ _ _ _ _ _ _ _ _ _ (after-end .end .given .1) (after-read-group .read-group .ensures)) (after-last .last .ensures) (c .before .before .put-record .ensures)
+    atom-group _ _ _ _ _ (read-atom-ready t there) _ _ (read-atom-counted t there) _ (after-class .class .ensures) _ (after-after2 .after2 .given .1) (omega (arith, after-if1 .if1 .left)) _ _ _ _ _ _ (group-is _ _ _ _ _ _ _ _ _ _ (after-end .end .given .1) (after-read-group .read-group .ensures)) (after-ends-at .ends-at .ensures) (c .before .before .put-record .ensures)
 
 read-atom-same-length-6 : (t : ℕ) → read-atom-lts.Need-same-length-6 (read-atom-claims t) (read-atom-at t) read-atom.Post
 read-atom-same-length-6 t c = search needs
@@ -225,16 +225,16 @@ read-atom-returns-6 : (t : ℕ) → read-atom-lts.Need-returns-6 (read-atom-clai
 read-atom-returns-6 t c = atom-other _ _ _ _ _ (read-atom-ready t (c .before .before .before)) _ _ (read-atom-counted t (c .before .before .before)) _ (c .before .before .class .ensures) _ _ (c .enum-told .given .1)
 
 read-atom-returns-7 : (t : ℕ) → read-atom-lts.Need-returns-7 (read-atom-claims t) (read-atom-at t) read-atom.Post
-read-atom-returns-7 t c = atom-fault _ _ _ _ _ _ _ _ _ _ (c .before .no2 .given .1) (c .before .before .before .count .ensures)
+read-atom-returns-7 t c = atom-refused _ _ _ _ _ _ _ _ _ _ (c .before .no2 .given .1) (c .before .before .before .count .ensures)
 
 abbrev read-group-Inv-loop : read-group-lts.InvT-loop
-read-group-Inv-loop s depth recs₀ pool₀ from₀ before₀ recs pool from before = Branching s depth from₀ from recs₀ recs pool₀ pool before
+read-group-Inv-loop s depth recs₀ pool₀ from₀ before₀ recs pool from before = ReadGroupAt s depth from₀ from recs₀ recs pool₀ pool before
 
 abbrev read-group-μ-loop : read-group-lts.MeasureT-loop
-read-group-μ-loop s depth recs₀ pool₀ from₀ before₀ recs pool from before = reach s from
+read-group-μ-loop s depth recs₀ pool₀ from₀ before₀ recs pool from before = read-measure s from
 
 read-group-loop-holds : (t : ℕ) → read-group-lts.Need-loop-holds (read-group-claims t) (read-group-at t) read-group.Post read-group-Inv-loop read-group-μ-loop
-read-group-loop-holds t c = branching-start _ _ _ _ _ (c .before .before .before .pre .1 .0)
+read-group-loop-holds t c = read-group-start _ _ _ _ _ (c .before .before .before .pre .1 .0)
 
 read-group-read-pattern-requires : (t : ℕ) → read-group-lts.Need-read-pattern-requires (read-group-claims t) (read-group-at t) read-group.Post read-group-Inv-loop read-group-μ-loop
 read-group-read-pattern-requires t c κs =
@@ -266,7 +266,7 @@ read-group-loop-again t c =
     let after-next = after-separator .before .before .before in
     let after-read-pattern = after-next .before .before .before .before .before .before in
     let turn = after-read-pattern .before .before .before in
-    branching-more _ _ _ _ _ _ _ _ _ (turn .loop .inv) _ _ _ (pattern-is _ _ _ _ _ _ _ _ _ (after-next .next .given .1) (after-read-pattern .read-pattern .ensures)) _ (after-separator .separator .ensures) _ (c .before .after .given .1) (after-read-pattern .read-pattern .kept .1 .1 .1 .0) (after-read-pattern .read-pattern .kept .1 .1 .1 .1 .0)
+    read-group-more _ _ _ _ _ _ _ _ _ (turn .loop .inv) _ _ _ (pattern-is _ _ _ _ _ _ _ _ _ (after-next .next .given .1) (after-read-pattern .read-pattern .ensures)) _ (after-separator .separator .ensures) _ (c .before .after .given .1) (after-read-pattern .read-pattern .kept .1 .1 .1 .0) (after-read-pattern .read-pattern .kept .1 .1 .1 .1 .0)
 
 read-group-enum-known-after-2 : (t : ℕ) → read-group-lts.Need-enum-known-after-2 (read-group-claims t) (read-group-at t) read-group.Post read-group-Inv-loop read-group-μ-loop
 read-group-enum-known-after-2 t c = search needs
@@ -338,13 +338,13 @@ read-group-returns-3 t c =
     branching-fault _ _ _ _ _ _ _ _ _ (turn .loop .inv) _ _ _ _ _ (c .before .no .given .1) (after-read-pattern .read-pattern .ensures)
 
 abbrev read-pattern-Inv-loop : read-pattern-lts.InvT-loop
-read-pattern-Inv-loop s depth recs₀ pool₀ from₀ recs pool from = Going s depth from₀ from recs₀ recs pool₀ pool
+read-pattern-Inv-loop s depth recs₀ pool₀ from₀ recs pool from = ReadPatternAt s depth from₀ from recs₀ recs pool₀ pool
 
 abbrev read-pattern-μ-loop : read-pattern-lts.MeasureT-loop
-read-pattern-μ-loop s depth recs₀ pool₀ from₀ recs pool from = reach s from
+read-pattern-μ-loop s depth recs₀ pool₀ from₀ recs pool from = read-measure s from
 
 read-pattern-loop-holds : (t : ℕ) → read-pattern-lts.Need-loop-holds (read-pattern-claims t) (read-pattern-at t) read-pattern.Post read-pattern-Inv-loop read-pattern-μ-loop
-read-pattern-loop-holds t c = going-start _ _ _ _ _ (c .before .before .before .pre .1 .0)
+read-pattern-loop-holds t c = read-pattern-start _ _ _ _ _ (c .before .before .before .pre .1 .0)
 
 read-pattern-read-atom-requires : (t : ℕ) → read-pattern-lts.Need-read-atom-requires (read-pattern-claims t) (read-pattern-at t) read-pattern.Post read-pattern-Inv-loop read-pattern-μ-loop
 read-pattern-read-atom-requires t c κs =
@@ -354,8 +354,8 @@ read-pattern-read-atom-requires t c κs =
 read-pattern-enum-known-next : (t : ℕ) → read-pattern-lts.Need-enum-known-next (read-pattern-claims t) (read-pattern-at t) read-pattern.Post read-pattern-Inv-loop read-pattern-μ-loop
 read-pattern-enum-known-next t c = search needs
 
-read-pattern-last-requires : (t : ℕ) → read-pattern-lts.Need-last-requires (read-pattern-claims t) (read-pattern-at t) read-pattern.Post read-pattern-Inv-loop read-pattern-μ-loop
-read-pattern-last-requires t c κs = search needs
+read-pattern-ends-at-requires : (t : ℕ) → read-pattern-lts.Need-ends-at-requires (read-pattern-claims t) (read-pattern-at t) read-pattern.Post read-pattern-Inv-loop read-pattern-μ-loop
+read-pattern-ends-at-requires t c κs = search needs
 
 read-pattern-same-length : (t : ℕ) → read-pattern-lts.Need-same-length (read-pattern-claims t) (read-pattern-at t) read-pattern.Post read-pattern-Inv-loop read-pattern-μ-loop
 read-pattern-same-length t c =
@@ -374,7 +374,7 @@ read-pattern-returns t c =
     let after-next = c .before .before .before .before in
     let after-read-atom = after-next .before .before .before .before .before .before in
     let turn = after-read-atom .before .before .before in
-    going-last _ _ _ _ _ _ _ _ (turn .loop .inv) _ _ _ (atom-is _ _ _ _ _ _ _ _ _ (after-next .next .given .1) (after-read-atom .read-atom .ensures)) _ (c .before .last .ensures) (c .if1 .taken)
+    read-pattern-last _ _ _ _ _ _ _ _ (turn .loop .inv) _ _ _ (atom-is _ _ _ _ _ _ _ _ _ (after-next .next .given .1) (after-read-atom .read-atom .ensures)) _ (c .before .ends-at .ensures) (c .if1 .taken)
 
 read-pattern-loop-less : (t : ℕ) → read-pattern-lts.Need-loop-less (read-pattern-claims t) (read-pattern-at t) read-pattern.Post read-pattern-Inv-loop read-pattern-μ-loop
 read-pattern-loop-less t c = let h = (atom-is _ _ _ _ _ _ _ _ _ (c .before .before .before .before .next .given .1) (c .before .before .before .before .before .before .before .before .before .before .read-atom .ensures)) in let m = h .moved in omega (arith, m .on, m .within)
@@ -384,7 +384,7 @@ read-pattern-loop-again t c =
     let after-next = c .before .before .before .before in
     let after-read-atom = after-next .before .before .before .before .before .before in
     let turn = after-read-atom .before .before .before in
-    going-more _ _ _ _ _ _ _ _ (turn .loop .inv) _ _ _ (atom-is _ _ _ _ _ _ _ _ _ (after-next .next .given .1) (after-read-atom .read-atom .ensures)) _ (c .before .last .ensures) (c .if1 .left) (after-read-atom .read-atom .kept .1 .1 .1 .0) (after-read-atom .read-atom .kept .1 .1 .1 .1 .0)
+    read-pattern-more _ _ _ _ _ _ _ _ (turn .loop .inv) _ _ _ (atom-is _ _ _ _ _ _ _ _ _ (after-next .next .given .1) (after-read-atom .read-atom .ensures)) _ (c .before .ends-at .ensures) (c .if1 .left) (after-read-atom .read-atom .kept .1 .1 .1 .0) (after-read-atom .read-atom .kept .1 .1 .1 .1 .0)
 
 read-pattern-enum-known-no : (t : ℕ) → read-pattern-lts.Need-enum-known-no (read-pattern-claims t) (read-pattern-at t) read-pattern.Post read-pattern-Inv-loop read-pattern-μ-loop
 read-pattern-enum-known-no t c = search needs
@@ -423,7 +423,7 @@ pub +read-atom+read-group+read-pattern-spec : {M : Type 1} → statement M
     (read-atom-add-read-group-2 t)
     (read-atom-read-group-requires t)
     (read-atom-enum-known-end t)
-    (read-atom-last-requires t)
+    (read-atom-ends-at-requires t)
     (read-atom-cast-put-record t)
     (read-atom-cast-put-record-2 t)
     (read-atom-put-record-requires t)
@@ -476,7 +476,7 @@ pub +read-atom+read-group+read-pattern-spec : {M : Type 1} → statement M
     (read-pattern-loop-holds t)
     (read-pattern-read-atom-requires t)
     (read-pattern-enum-known-next t)
-    (read-pattern-last-requires t)
+    (read-pattern-ends-at-requires t)
     (read-pattern-same-length t)
     (read-pattern-same-length-2 t)
     (read-pattern-returns t)

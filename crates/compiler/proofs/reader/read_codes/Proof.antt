@@ -6,11 +6,11 @@ use Rattle.compiler.proofs.reader.read_codes.Tie as tie
 
 returns : tie.Need-returns
 returns c =
-    let after-last = c .before .before .before in
-    let after-set = after-last .before .before .before in
+    let after-ends-at = c .before .before .before in
+    let after-set = after-ends-at .before .before .before in
     let after-codes-from = after-set .before .before in
     let start = after-codes-from .before .before .before in
-    codes-done _ _ _ _ _ _ _ _ (after-codes-from .codes-from .ensures) _ _ _ (after-set .set .given .1) (after-last .last .ensures) (c .before .before .put-record .ensures) (start .pre .1 .pool)
+    codes-done _ _ _ _ _ _ _ _ (after-codes-from .codes-from .ensures) _ _ _ (after-set .set .given .1) (after-ends-at .ends-at .ensures) (c .before .before .put-record .ensures) (start .pre .1 .pool)
 
 returns-2 : tie.Need-returns-2
 returns-2 c = codes-fault _ _ _ _ _ _ _ _ (c .before .before .before .codes-from .ensures) _ (c .before .pos .given .1)

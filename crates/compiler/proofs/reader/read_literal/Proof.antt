@@ -21,10 +21,10 @@ cast-put-record-2 c =
 
 returns : tie.Need-returns
 returns c =
-    let after-last = c .before .before .before in
-    let after-next = after-last .before .before .before in
+    let after-ends-at = c .before .before .before in
+    let after-next = after-ends-at .before .before .before in
     let after-quoted = after-next .before .before .before .before in
-    literal-done _ _ _ _ _ _ _ _ _ _ (after-quoted .quoted .ensures) _ _ _ (after-next .next .given .1) (after-last .last .ensures) (c .before .before .put-record .ensures)
+    literal-done _ _ _ _ _ _ _ _ _ _ (after-quoted .quoted .ensures) _ _ _ (after-next .next .given .1) (after-ends-at .ends-at .ensures) (c .before .before .put-record .ensures)
 
 returns-2 : tie.Need-returns-2
 returns-2 c = literal-fault _ _ _ _ _ _ _ _ _ _ (c .before .before .before .before .before .quoted .ensures) _ (c .before .pos .given .1)

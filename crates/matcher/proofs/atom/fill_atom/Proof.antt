@@ -22,7 +22,7 @@ repeat-body-requires : tie.Need-repeat-body-requires
 repeat-body-requires c κs =
     let after-begin = c .before .before .before .before .before .before .before .before in
     let start = after-begin .before .before .before .before .before in
-    (start .pre .0, after-begin .begin .ensures .making)
+    (start .pre .0, after-begin .begin .ensures .repeatable)
 
 same-length : tie.Need-same-length
 same-length c = c .before .before .before .repeat-body .kept .0 ∙ c .before .before .before .before .before .before .before .before .before .before .before .before .begin .kept .1 .1 .0

@@ -22,11 +22,11 @@ abbrev μ-loop : tie.MeasureT-loop
 loop-holds : tie.Need-loop-holds Inv-loop μ-loop
 loop-holds c = (c .before .pre .0, omega arith, refl)
 
-byte-requires : tie.Need-byte-requires Inv-loop μ-loop
-byte-requires c κs = let p = c .before .before .before .pre in (omega arith, (omega arith, p .1 .1 .0 .room))
+cell-requires : tie.Need-cell-requires Inv-loop μ-loop
+cell-requires c κs = let p = c .before .before .before .pre in (omega arith, (omega arith, p .1 .1 .0 .room))
 
-byte-requires-2 : tie.Need-byte-requires-2 Inv-loop μ-loop
-byte-requires-2 c κs = let p = c .before .before .before .before .pre in (p .1 .0, (omega arith, p .1 .1 .1 .room))
+cell-requires-2 : tie.Need-cell-requires-2 Inv-loop μ-loop
+cell-requires-2 c κs = let p = c .before .before .before .before .pre in (p .1 .0, (omega arith, p .1 .1 .1 .room))
 
 returns : tie.Need-returns Inv-loop μ-loop
 returns c =
@@ -35,8 +35,8 @@ returns c =
     let start = turn .before .before in
     let p = start .pre in
     let l = turn .loop in
-    let h : bitAnd (c .before .before .byte .result) (c .before .byte2 .result) ≡ 0 → ⊥ = c .if1 .taken in
-    let hit = trial-hit _ _ _ _ (p .1 .1 .0 .flags) (p .1 .1 .1 .flags) _ (l .m) _ (omega arith) (omega arith) (p .1 .0) (rw (c .before .before .byte .ensures, c .before .byte2 .ensures) at h) in
+    let h : bitAnd (c .before .before .cell .result) (c .before .cell2 .result) ≡ 0 → ⊥ = c .if1 .taken in
+    let hit = trial-hit _ _ _ _ (p .1 .1 .0 .flags) (p .1 .1 .1 .flags) _ (l .m) _ (omega arith) (omega arith) (p .1 .0) (rw (c .before .before .cell .ensures, c .before .cell2 .ensures) at h) in
     let a = start .args in
     omega (arith, l .inv .2, longest-hit (trial (on (now (a .scratch)) (a .w) (a .left)) (on (now (a .scratch)) (a .w) (a .right)) (a .i) (a .n)) (a .i) (l .m) (after-loop-test .loop-test .taken) hit)
 
@@ -47,8 +47,8 @@ loop-again c =
     let start = turn .before .before in
     let p = start .pre in
     let l = turn .loop in
-    let h : bitAnd (c .before .before .byte .result) (c .before .byte2 .result) ≡ 0 = c .if1 .left in
-    let miss = trial-miss _ _ _ _ (p .1 .1 .0 .flags) (p .1 .1 .1 .flags) _ (l .m) _ (omega arith) (omega arith) (p .1 .0) (rw (c .before .before .byte .ensures, c .before .byte2 .ensures) at h) in
+    let h : bitAnd (c .before .before .cell .result) (c .before .cell2 .result) ≡ 0 = c .if1 .left in
+    let miss = trial-miss _ _ _ _ (p .1 .1 .0 .flags) (p .1 .1 .1 .flags) _ (l .m) _ (omega arith) (omega arith) (p .1 .0) (rw (c .before .before .cell .ensures, c .before .cell2 .ensures) at h) in
     (omega arith, omega arith, l .inv .2 ∙ longest-miss _ _ (l .m) (after-loop-test .loop-test .taken) miss)
 
 returns-2 : tie.Need-returns-2 Inv-loop μ-loop
@@ -58,4 +58,4 @@ returns-2 c =
     omega (arith, l .inv .2, longest-none (trial (on (now (a .scratch)) (a .w) (a .left)) (on (now (a .scratch)) (a .w) (a .right)) (a .i) (a .n)) (a .i) (l .m) (c .loop-test .left))
 
 pub last-end-spec : {M : Type 1} → statement M
-last-end-spec = tie.close (tie.spec Inv-loop μ-loop loop-holds byte-requires byte-requires-2 returns (λ c. omega arith) (λ c. omega arith) loop-again returns-2)
+last-end-spec = tie.close (tie.spec Inv-loop μ-loop loop-holds cell-requires cell-requires-2 returns (λ c. omega arith) (λ c. omega arith) loop-again returns-2)

@@ -7,7 +7,7 @@ use Rattle.pattern.proofs.Stores.{puts-length}
 use denote.Ref.{now}
 use Rattle.atoms.specs.Atoms.{atoms, node, head}
 use Rattle.matcher.proofs.Groups.{work-few}
-use Rattle.matcher.proofs.Ends.{PartsAt, parts-start, parts-room, parts-end, parts-next, parts-left, parts-right, parts-in, parts-step}
+use Rattle.matcher.proofs.Ends.{PartsAt, parts-start, parts-lent, parts-end, parts-next, parts-left, parts-right, parts-in, parts-step}
 use Rattle.matcher.proofs.parts.write_parts.Statement.{statement}
 use Rattle.matcher.proofs.parts.write_parts.Tie as tie
 
@@ -30,7 +30,7 @@ put16-requires : tie.Need-put16-requires Inv-loop μ-loop
 put16-requires c κs =
     let turn = c .before .before .before .before in
     let start = turn .before .before .before .before .before in
-    parts-room _ _ _ _ _ (start .pre) _ _ _ _ (turn .loop .inv)
+    parts-lent _ _ _ _ _ (start .pre) _ _ _ _ (turn .loop .inv)
 
 same-length : tie.Need-same-length Inv-loop μ-loop
 same-length c = c .before .before .put16 .kept .0 ∙ puts-length (c .before .before .before .before .before .before .before .loop .inv .puts)
@@ -92,7 +92,7 @@ cast-put16-2 c =
 put16-requires-2 : tie.Need-put16-requires-2 Inv-loop μ-loop
 put16-requires-2 c κs =
     let turn = c .before .before .before .before .before .before in
-    parts-room _ _ _ _ _ (turn .before .before .before .before .before .pre) _ _ _ _ (turn .loop .inv)
+    parts-lent _ _ _ _ _ (turn .before .before .before .before .before .pre) _ _ _ _ (turn .loop .inv)
 
 loop-less : tie.Need-loop-less Inv-loop μ-loop
 loop-less c =

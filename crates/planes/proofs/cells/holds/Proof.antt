@@ -10,7 +10,7 @@ use Rattle.planes.proofs.cells.holds.Tie as tie
 
 returns : tie.Need-returns
 unfolding on
-returns c = ap (λ (v : ℕ). not (eqb v 0)) (c .byte .ensures)
+returns c = ap (λ (v : ℕ). not (eqb v 0)) (c .cell .ensures)
 
 pub holds-spec : {M : Type 1} → statement M
 holds-spec = tie.close (tie.spec (λ c κs. search needs) returns)

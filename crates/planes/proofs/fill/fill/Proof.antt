@@ -29,8 +29,8 @@ value-requires c κs =
     let start = c .before .before .before .before .before .before .before .before .before .before .before in
     (omega (arith, c .before .before .loop .inv .from, start .pre .wide), start .pre .fit)
 
-mark-requires : tie.Need-mark-requires Inv-loop μ-loop
-mark-requires c κs =
+set-stretch-requires : tie.Need-set-stretch-requires Inv-loop μ-loop
+set-stretch-requires c κs =
     let turn = c .before .before .before in
     let after-blank = turn .before .before .before .before in
     let start = after-blank .before .before .before .before .before in
@@ -43,7 +43,7 @@ loop-again c =
     let turn = after-loop-test .before in
     let after-blank = turn .before .before .before .before in
     let start = after-blank .before .before .before .before .before in
-    rw (c .before .before .mark .ensures) (fill-step _ _ _ _ _ _ _ (start .pre) (after-blank .blank .kept .0) (after-blank .blank .ensures) _ _ (turn .loop .inv) (after-loop-test .loop-test .taken) _ (omega (arith, turn .loop .inv .from)) _ (after-value .value .ensures))
+    rw (c .before .before .set-stretch .ensures) (fill-step _ _ _ _ _ _ _ (start .pre) (after-blank .blank .kept .0) (after-blank .blank .ensures) _ _ (turn .loop .inv) (after-loop-test .loop-test .taken) _ (omega (arith, turn .loop .inv .from)) _ (after-value .value .ensures))
 
 same-length : tie.Need-same-length Inv-loop μ-loop
 same-length c = c .before .loop .inv .long ∙ c .before .before .before .before .before .blank .kept .0
@@ -55,4 +55,4 @@ returns c =
     fill-end _ _ _ _ _ _ _ (start .pre) (after-blank .blank .kept .0) (after-blank .blank .ensures) _ _ (c .before .loop .inv) (c .loop-test .left)
 
 pub fill-spec : {M : Type 1} → statement M
-fill-spec = tie.close (tie.spec Inv-loop μ-loop blank-requires (λ c κs. tt) loop-holds sub-i value-requires mark-requires (λ c. omega arith) (λ c. omega arith) loop-again same-length returns)
+fill-spec = tie.close (tie.spec Inv-loop μ-loop blank-requires (λ c κs. tt) loop-holds sub-i value-requires set-stretch-requires (λ c. omega arith) (λ c. omega arith) loop-again same-length returns)

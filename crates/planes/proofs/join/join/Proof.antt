@@ -45,22 +45,22 @@ loop2-holds c = column-start (c .before .loop .inv) (c .loop-test .taken)
 loop3-holds : tie.Need-loop3-holds Inv-loop3 μ-loop3 Inv-loop2 μ-loop2 Inv-loop μ-loop
 loop3-holds c = search-start (c .loop2-test .taken) (c .before .loop2 .inv .counting .within)
 
-byte-requires : tie.Need-byte-requires Inv-loop3 μ-loop3 Inv-loop2 μ-loop2 Inv-loop μ-loop
-byte-requires c κs = (omega arith, (omega arith, column-ready (c .before .before .before .before .loop2 .inv) .from-left .room))
+cell-requires : tie.Need-cell-requires Inv-loop3 μ-loop3 Inv-loop2 μ-loop2 Inv-loop μ-loop
+cell-requires c κs = (omega arith, (omega arith, column-ready (c .before .before .before .before .loop2 .inv) .from-left .room))
 
-byte-requires-2 : tie.Need-byte-requires-2 Inv-loop3 μ-loop3 Inv-loop2 μ-loop2 Inv-loop μ-loop
-byte-requires-2 c κs = (omega arith, (omega arith, column-ready (c .before .before .before .before .before .before .loop2 .inv) .from-right .room))
+cell-requires-2 : tie.Need-cell-requires-2 Inv-loop3 μ-loop3 Inv-loop2 μ-loop2 Inv-loop μ-loop
+cell-requires-2 c κs = (omega arith, (omega arith, column-ready (c .before .before .before .before .before .before .loop2 .inv) .from-right .room))
 
 loop3-again : tie.Need-loop3-again Inv-loop3 μ-loop3 Inv-loop2 μ-loop2 Inv-loop μ-loop
 loop3-again c =
     let search = c .before .before .before .before .before .before .before in
     let second = c .before .before in
     let first = second .before .before in
-    let h : bitAnd (first .byte .result) (second .byte2 .result) ≡ 0 = c .before .if2 .left in
-    trial-next (search .before .before .loop2 .inv) (search .loop3 .inv) (first .before .before .if1 .left) (rw (first .byte .ensures, second .byte2 .ensures) at h) (c .if3 .left)
+    let h : bitAnd (first .cell .result) (second .cell2 .result) ≡ 0 = c .before .if2 .left in
+    trial-next (search .before .before .loop2 .inv) (search .loop3 .inv) (first .before .before .if1 .left) (rw (first .cell .ensures, second .cell2 .ensures) at h) (c .if3 .left)
 
-mark-requires : tie.Need-mark-requires Inv-loop3 μ-loop3 Inv-loop2 μ-loop2 Inv-loop μ-loop
-mark-requires c κs =
+set-stretch-requires : tie.Need-set-stretch-requires Inv-loop3 μ-loop3 Inv-loop2 μ-loop2 Inv-loop μ-loop
+set-stretch-requires c κs =
     let turn = c .before .before .before .before .before .before in
     (omega arith, (omega arith, column-ready (turn .loop2 .inv) .into))
 
@@ -123,4 +123,4 @@ returns-2 c =
 pub join-spec : {M : Type 1} → statement M
 join-spec =
     tie.close
-    (tie.spec Inv-loop3 μ-loop3 Inv-loop2 μ-loop2 Inv-loop μ-loop blank-requires loop-holds loop2-holds loop3-holds (λ c. omega arith) byte-requires byte-requires-2 (λ c. omega arith) (λ c. omega arith) loop3-again (search needs) mark-requires (search needs) (search needs) same-length returns (λ c. omega arith) (λ c. omega arith) loop2-again (λ c. omega arith) (λ c. omega arith) loop-again same-length-2 returns-2)
+    (tie.spec Inv-loop3 μ-loop3 Inv-loop2 μ-loop2 Inv-loop μ-loop blank-requires loop-holds loop2-holds loop3-holds (λ c. omega arith) cell-requires cell-requires-2 (λ c. omega arith) (λ c. omega arith) loop3-again (search needs) set-stretch-requires (search needs) (search needs) same-length returns (λ c. omega arith) (λ c. omega arith) loop2-again (λ c. omega arith) (λ c. omega arith) loop-again same-length-2 returns-2)

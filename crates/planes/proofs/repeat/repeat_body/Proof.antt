@@ -2,7 +2,7 @@
 use mathlib.Core.Path.{_≡_, _∙_}
 use Prim.Native.Nat.{_-_}
 use native.Mathlib.Omega.{arith}
-use Rattle.planes.proofs.Bodies.{RepeatBodyAt, make-few, make-start, make-gather, make-gathered, make-ready, make-end, make-stop, make-step}
+use Rattle.planes.proofs.Bodies.{RepeatBodyAt, repeat-few, repeat-start, repeat-add, repeat-added, repeat-ready, repeat-end, repeat-stop, repeat-step}
 use Rattle.planes.proofs.repeat.repeat_body.Statement.{statement}
 use Rattle.planes.proofs.repeat.repeat_body.Tie as tie
 
@@ -14,16 +14,16 @@ abbrev μ-loop : tie.MeasureT-loop
 μ-loop scratch₀ w temp out low times budget trials spent₀ from₀ to₀ k₀ scratch spent from to k = times - k
 
 add-from : tie.Need-add-from Inv-loop μ-loop
-add-from c = omega (arith, make-few _ _ _ _ 0 0 0 0 (c .before .pre .1))
+add-from c = omega (arith, repeat-few _ _ _ _ 0 0 0 0 (c .before .pre .1))
 
 add-to : tie.Need-add-to Inv-loop μ-loop
-add-to c = omega (arith, make-few _ _ _ _ 0 0 0 0 (c .before .pre .1))
+add-to c = omega (arith, repeat-few _ _ _ _ 0 0 0 0 (c .before .pre .1))
 
 loop-holds : tie.Need-loop-holds Inv-loop μ-loop
-loop-holds c = make-start _ _ _ _ _ _ _ _ (c .before .pre .1) (c .before .pre .0)
+loop-holds c = repeat-start _ _ _ _ _ _ _ _ (c .before .pre .1) (c .before .pre .0)
 
 add-from-requires : tie.Need-add-from-requires Inv-loop μ-loop
-add-from-requires c κs = make-gather _ _ _ _ _ _ _ _ (c .before .before .before .before .pre .1) _ _ _ _ _ (c .before .before .loop .inv)
+add-from-requires c κs = repeat-add _ _ _ _ _ _ _ _ (c .before .before .before .before .pre .1) _ _ _ _ _ (c .before .before .loop .inv)
 
 join-requires : tie.Need-join-requires Inv-loop μ-loop
 join-requires c κs =
@@ -31,8 +31,8 @@ join-requires c κs =
     let turn = after-add-from .before .before .before in
     let start = turn .before .before in
     let p = start .pre .1 in
-    let g = make-gathered _ _ _ _ _ _ _ _ p _ _ _ _ _ (turn .loop .inv) _ (after-add-from .add-from .kept .0) (after-add-from .add-from .ensures) in
-    (g .counting .within, make-ready _ _ _ _ _ _ _ _ p _ _ _ _ _ g)
+    let g = repeat-added _ _ _ _ _ _ _ _ p _ _ _ _ _ (turn .loop .inv) _ (after-add-from .add-from .kept .0) (after-add-from .add-from .ensures) in
+    (g .counting .within, repeat-ready _ _ _ _ _ _ _ _ p _ _ _ _ _ g)
 
 same-length : tie.Need-same-length Inv-loop μ-loop
 same-length c =
@@ -49,8 +49,8 @@ returns c =
     let turn = after-loop-test .before in
     let start = turn .before .before in
     let p = start .pre .1 in
-    let g = make-gathered _ _ _ _ _ _ _ _ p _ _ _ _ _ (turn .loop .inv) _ (after-add-from .add-from .kept .0) (after-add-from .add-from .ensures) in
-    make-stop _ _ _ _ _ _ _ _ p _ _ _ _ _ g (after-loop-test .loop-test .taken) _ _ (after-join .join .ensures) (c .if1 .taken)
+    let g = repeat-added _ _ _ _ _ _ _ _ p _ _ _ _ _ (turn .loop .inv) _ (after-add-from .add-from .kept .0) (after-add-from .add-from .ensures) in
+    repeat-stop _ _ _ _ _ _ _ _ p _ _ _ _ _ g (after-loop-test .loop-test .taken) _ _ (after-join .join .ensures) (c .if1 .taken)
 
 loop-again : tie.Need-loop-again Inv-loop μ-loop
 loop-again c =
@@ -60,11 +60,11 @@ loop-again c =
     let turn = after-loop-test .before in
     let start = turn .before .before in
     let p = start .pre .1 in
-    let g = make-gathered _ _ _ _ _ _ _ _ p _ _ _ _ _ (turn .loop .inv) _ (after-add-from .add-from .kept .0) (after-add-from .add-from .ensures) in
-    make-step _ _ _ _ _ _ _ _ p _ _ _ _ _ g (after-loop-test .loop-test .taken) _ _ (after-join .join .ensures) (after-join .join .kept .0) (c .if1 .left)
+    let g = repeat-added _ _ _ _ _ _ _ _ p _ _ _ _ _ (turn .loop .inv) _ (after-add-from .add-from .kept .0) (after-add-from .add-from .ensures) in
+    repeat-step _ _ _ _ _ _ _ _ p _ _ _ _ _ g (after-loop-test .loop-test .taken) _ _ (after-join .join .ensures) (after-join .join .kept .0) (c .if1 .left)
 
 add-from-requires-2 : tie.Need-add-from-requires-2 Inv-loop μ-loop
-add-from-requires-2 c κs = make-gather _ _ _ _ _ _ _ _ (c .before .before .before .before .pre .1) _ _ _ _ _ (c .before .before .loop .inv)
+add-from-requires-2 c κs = repeat-add _ _ _ _ _ _ _ _ (c .before .before .before .before .pre .1) _ _ _ _ _ (c .before .before .loop .inv)
 
 same-length-2 : tie.Need-same-length-2 Inv-loop μ-loop
 same-length-2 c = c .before .before .add-from2 .kept .0 ∙ c .before .before .before .before .before .loop .inv .long
@@ -77,8 +77,8 @@ returns-2 c =
     let p = start .pre .1 in
     let l = turn .loop in
     let e : start .args .times ≡ l .k = omega (arith, l .inv .counting .below) in
-    let g = make-gathered _ _ _ _ _ _ _ _ p _ _ _ _ _ (l .inv) _ (c .before .before .add-from2 .kept .0) (rw e at (c .before .before .add-from2 .ensures)) in
-    make-end _ _ _ _ _ _ _ _ p _ _ _ _ _ g (after-loop-test .loop-test .left)
+    let g = repeat-added _ _ _ _ _ _ _ _ p _ _ _ _ _ (l .inv) _ (c .before .before .add-from2 .kept .0) (rw e at (c .before .before .add-from2 .ensures)) in
+    repeat-end _ _ _ _ _ _ _ _ p _ _ _ _ _ g (after-loop-test .loop-test .left)
 
 pub repeat-body-spec : {M : Type 1} → statement M
 repeat-body-spec =

@@ -4,16 +4,17 @@ use mathlib.Core.List.{[]}
 use lib.Seq.{length-take-le}
 use native.Mathlib.Omega.{arith}
 use Rattle.replies.specs.Sizes.{reply-room}
-use Rattle.replies.proofs.Replies.{replied-same, replied, store-at-within, refused-short, table-fits, table-reply-is, refused-reply-is}
+use Rattle.replies.proofs.Replies.{replied-same, replied, store-at-within, refused-short}
+use Rattle.replies.proofs.Compiling.{compiled-fits, table-reply-is, refused-reply-is}
 use borrow.Author.Needs.{needs}
 use Rattle.replies.proofs.reply.put_cut.Statement.{statement}
 use Rattle.replies.proofs.reply.put_cut.Tie as tie
 
 array-share-prefix-table : tie.Need-array-share-prefix-table
-array-share-prefix-table c = table-fits _ [] [] _ _ (c .before .before .before .before .compile .ensures) _ (c .before .n .given .1)
+array-share-prefix-table c = compiled-fits _ [] [] _ _ (c .before .before .before .before .compile .ensures) _ (c .before .n .given .1)
 
 slice-aggregate-put-label : tie.Need-slice-aggregate-put-label
-slice-aggregate-put-label c = sym (length-take-le _ _ (table-fits _ [] [] _ _ (c .before .before .before .before .before .compile .ensures) _ (c .before .before .n .given .1)))
+slice-aggregate-put-label c = sym (length-take-le _ _ (compiled-fits _ [] [] _ _ (c .before .before .before .before .before .compile .ensures) _ (c .before .before .n .given .1)))
 
 returns : tie.Need-returns
 returns c =

@@ -3,7 +3,8 @@ use mathlib.Core.Path.{sym, _∙_}
 use native.Mathlib.Omega.{arith}
 use Rattle.pattern.specs.Numbers.{TABLE}
 use Rattle.replies.specs.Sizes.{reply-room}
-use Rattle.replies.proofs.Replies.{replied-same, replied, store-at-within, unmatched-short, bad-reply}
+use Rattle.replies.proofs.Replies.{replied-same, replied, store-at-within, unmatched-short}
+use Rattle.replies.proofs.Endings.{bad-reply}
 use borrow.Author.Needs.{needs}
 use Rattle.replies.proofs.reply.put_label.Statement.{statement}
 use Rattle.replies.proofs.reply.put_label.Tie as tie

@@ -4,7 +4,8 @@ use lib.Seq.{length-take-le}
 use native.Mathlib.Omega.{arith}
 use Rattle.pattern.specs.Bytes.{bytes}
 use Rattle.replies.specs.Sizes.{reply-room}
-use Rattle.replies.proofs.Replies.{replied-same, replied, store-at-within, long-reply, whole-reply, cut-replied}
+use Rattle.replies.proofs.Replies.{replied-same, replied, store-at-within}
+use Rattle.replies.proofs.Cutting.{long-reply, whole-reply, cut-replied}
 use borrow.Author.Needs.{needs}
 use Rattle.replies.proofs.reply.put_reply.Statement.{statement}
 use Rattle.replies.proofs.reply.put_reply.Tie as tie

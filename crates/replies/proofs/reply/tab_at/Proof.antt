@@ -1,4 +1,4 @@
--- `line::tab_at` meets its contract: the first tab is i further than that of what is left. What is left falls. Assumes nothing.
+-- `reply::tab_at` meets its contract: the first tab is i further than that of what is left. What is left falls. Assumes nothing.
 use mathlib.Core.Path.{_≡_}
 use Prim.Native.Nat.{_≤_, _-_, _+_}
 use native.Mathlib.Omega.{arith}

@@ -11,7 +11,7 @@ returns : tie.Need-returns
 returns c = (sym (ap length (low-zero (c .before .args .low) (c .if1 .taken))), omega arith)
 
 returns-2 : tie.Need-returns-2
-returns-2 c = (c .digits .ensures .0 ∙ sym (ap length (low-other (c .before .before .args .low) (c .before .if1 .left))), c .digits .ensures .1)
+returns-2 c = (c .number-length .ensures .0 ∙ sym (ap length (low-other (c .before .before .args .low) (c .before .if1 .left))), c .number-length .ensures .1)
 
 pub low-length-spec : {M : Type 1} → statement M
 low-length-spec = tie.close (tie.spec (λ c κs. search needs) returns returns-2)

@@ -9,7 +9,7 @@ use borrow.Fn.PlainCycle.{Measures, is, falls, and}
 use Rattle.table.specs.Walk.{reach}
 use Rattle.table.proofs.Moves.{ready-leaf, ready-on, short-source, record-in}
 use Rattle.table.proofs.Steps.{atom-over, atom-unordered}
-use Rattle.table.proofs.Walks.{CountMeasured, leaf-bad, leaf-moved, leaf-passed, too-deep, inner-ready, group-bad, dest-ready, group-elsewhere, group-passed, Going, going-start, going-bad, going-moved, going-last, going-other, going-more, Branching, branching-start, branching-over, branching-bad, branch-ready, branching-last, branching-more}
+use Rattle.table.proofs.Walks.{CountMeasured, leaf-bad, leaf-moved, leaf-passed, too-deep, inner-ready, group-bad, dest-ready, group-elsewhere, group-passed, WalkPatternAt, pattern-at-start, going-bad, going-moved, pattern-at-last, going-other, pattern-at-more, WalkGroupAt, group-at-start, group-at-over, branching-bad, branch-ready, group-at-last, group-at-more}
 use Rattle.table.proofs.walk.atom.Reads as atom
 use Rattle.table.proofs.walk.atom.Kinds as atom-kinds
 use Rattle.table.proofs.walk.+atom+group+pattern.Lts-atom as atom-lts
@@ -164,13 +164,13 @@ atom-returns-8 : (t : ℕ) → atom-lts.Need-returns-8 (atom-claims t) (atom-at 
 atom-returns-8 t c = record { past = tt; reads = atom-unordered _ _ _ _ _ (c .before .before .record-at .ensures) (c .before .before .before .if1 .left) (sym (c .before .is-ordered .ensures) ∙ c .if2 .left) }
 
 abbrev group-Inv-loop : group-lts.InvT-loop
-group-Inv-loop table atoms depth k from₀ left₀ from left = Branching table atoms depth left₀ from₀ from left
+group-Inv-loop table atoms depth k from₀ left₀ from left = WalkGroupAt table atoms depth left₀ from₀ from left
 
 abbrev group-μ-loop : group-lts.MeasureT-loop
 group-μ-loop table atoms depth k from₀ left₀ from left = left
 
 group-loop-holds : (t : ℕ) → group-lts.Need-loop-holds (group-claims t) (group-at t) group.Post group-Inv-loop group-μ-loop
-group-loop-holds t c = branching-start (c .before .pre .1)
+group-loop-holds t c = group-at-start (c .before .pre .1)
 
 group-pattern-requires : (t : ℕ) → group-lts.Need-pattern-requires (group-claims t) (group-at t) group.Post group-Inv-loop group-μ-loop
 group-pattern-requires t c κs = let g = c .before .loop .inv in (omega (arith, g .on, c .before .before .before .pre .0), g .ready)
@@ -180,7 +180,7 @@ group-returns t c =
     let after-pattern = c .before .before .before .before in
     let after-loop-test = after-pattern .before in
     let turn = after-loop-test .before in
-    branching-last (turn .loop .inv) (λ z. omega (arith, z, after-loop-test .loop-test .taken)) (after-pattern .pattern .ensures) (c .before .before .next .given .1) (c .if1 .taken)
+    group-at-last (turn .loop .inv) (λ z. omega (arith, z, after-loop-test .loop-test .taken)) (after-pattern .pattern .ensures) (c .before .before .next .given .1) (c .if1 .taken)
 
 group-add-from : (t : ℕ) → group-lts.Need-add-from (group-claims t) (group-at t) group.Post group-Inv-loop group-μ-loop
 group-add-from t c =
@@ -196,22 +196,22 @@ group-loop-again t c =
     let after-pattern = after-next .before .before in
     let after-loop-test = after-pattern .before in
     let turn = after-loop-test .before in
-    branching-more (turn .loop .inv) (λ z. omega (arith, z, after-loop-test .loop-test .taken)) (after-pattern .pattern .ensures) (after-next .next .given .1) (c .before .if1 .left)
+    group-at-more (turn .loop .inv) (λ z. omega (arith, z, after-loop-test .loop-test .taken)) (after-pattern .pattern .ensures) (after-next .next .given .1) (c .before .if1 .left)
 
 group-returns-2 : (t : ℕ) → group-lts.Need-returns-2 (group-claims t) (group-at t) group.Post group-Inv-loop group-μ-loop
 group-returns-2 t c = branching-bad (c .before .before .before .before .loop .inv) (λ z. omega (arith, z, c .before .before .before .loop-test .taken)) (c .before .before .pattern .ensures) (c .enum-told .given .1)
 
 group-returns-3 : (t : ℕ) → group-lts.Need-returns-3 (group-claims t) (group-at t) group.Post group-Inv-loop group-μ-loop
-group-returns-3 t c = branching-over (c .before .loop .inv) (omega arith)
+group-returns-3 t c = group-at-over (c .before .loop .inv) (omega arith)
 
 abbrev pattern-Inv-loop : pattern-lts.InvT-loop
-pattern-Inv-loop table atoms depth from₀ before₀ from before = Going table atoms depth from₀ from before
+pattern-Inv-loop table atoms depth from₀ before₀ from before = WalkPatternAt table atoms depth from₀ from before
 
 abbrev pattern-μ-loop : pattern-lts.MeasureT-loop
 pattern-μ-loop table atoms depth from₀ before₀ from before = reach atoms from
 
 pattern-loop-holds : (t : ℕ) → pattern-lts.Need-loop-holds (pattern-claims t) (pattern-at t) pattern.Post pattern-Inv-loop pattern-μ-loop
-pattern-loop-holds t c = going-start (c .before .pre .1)
+pattern-loop-holds t c = pattern-at-start (c .before .pre .1)
 
 pattern-atom-requires : (t : ℕ) → pattern-lts.Need-atom-requires (pattern-claims t) (pattern-at t) pattern.Post pattern-Inv-loop pattern-μ-loop
 pattern-atom-requires t c κs = let g = c .loop .inv in (omega (arith, g .on, c .before .before .pre .0), g .ready)
@@ -230,7 +230,7 @@ pattern-returns t c =
     let after-next = c .before .before .before in
     let after-atom = after-next .before .before in
     let turn = after-atom .before in
-    going-last (turn .loop .inv) (after-atom .atom .ensures) (after-next .next .given .1) (c .before .ends-of .ensures) (c .if1 .taken)
+    pattern-at-last (turn .loop .inv) (after-atom .atom .ensures) (after-next .next .given .1) (c .before .ends-of .ensures) (c .if1 .taken)
 
 pattern-returns-2 : (t : ℕ) → pattern-lts.Need-returns-2 (pattern-claims t) (pattern-at t) pattern.Post pattern-Inv-loop pattern-μ-loop
 pattern-returns-2 t c =
@@ -254,7 +254,7 @@ pattern-loop-again t c =
     let after-next = c .before .before .before .before in
     let after-atom = after-next .before .before in
     let turn = after-atom .before in
-    going-more (turn .loop .inv) (after-atom .atom .ensures) (after-next .next .given .1) (c .before .before .ends-of .ensures) (c .if2 .left)
+    pattern-at-more (turn .loop .inv) (after-atom .atom .ensures) (after-next .next .given .1) (c .before .before .ends-of .ensures) (c .if2 .left)
 
 pattern-returns-3 : (t : ℕ) → pattern-lts.Need-returns-3 (pattern-claims t) (pattern-at t) pattern.Post pattern-Inv-loop pattern-μ-loop
 pattern-returns-3 t c = going-bad (c .before .before .before .loop .inv) (c .before .before .atom .ensures) (c .enum-told .given .1)

@@ -1,4 +1,4 @@
--- What the line tool writes is the output: at each step what was written and what is still owed come to it. Assumes nothing.
+-- What the line tool writes is the output: at each step what was written and what is still to come make it up. Assumes nothing.
 use mathlib.Core.Path.{_≡_, refl, sym, ap, ap₂, _∙_}
 use mathlib.Core.Logic.{_⊎_, inl, inr, ⊎-elim}
 use mathlib.Core.Bool.{Bool, true, false, not, _&&_, _||_}
@@ -27,8 +27,8 @@ use Rattle.lines.proofs.Answering.{take-replied, held-overwrite}
 use Rattle.lines.proofs.Chunks.{in-chunks, in-parts, chunks-hold}
 
 -- what is still to be written, if the input goes on with these chunks and nothing fails
-unfoldable owed : State → List Bytes → Bytes
-owed s chunks =
+unfoldable remaining : State → List Bytes → Bytes
+remaining s chunks =
     elim (s .next) [
       | Stop ↦ []
       | Read held ↦ in-chunks (take held (s .buffers .line)) chunks (s .buffers .scratch)
@@ -43,14 +43,14 @@ ahead (Write p) chunks = elim (p .last) [ true ↦ [] | false ↦ chunks ]
 
 -- part of a chunk is answered
 module _ {chunk input : Bytes} {from held : ℕ} {b : Buffers} {s : State} (a : Continues chunk from held input b s) where
-  continues-owed : take (length chunk) input ≡ chunk → (chunks : List Bytes) → owed s chunks ≡ in-chunks (take held (b .line)) (drop from chunk ∷ chunks) (b .scratch)
-  unfolding owed
-  continues-owed e chunks =
+  continues-remaining : take (length chunk) input ≡ chunk → (chunks : List Bytes) → remaining s chunks ≡ in-chunks (take held (b .line)) (drop from chunk ∷ chunks) (b .scratch)
+  unfolding remaining
+  continues-remaining e chunks =
       let p = a .part in
       let d = a .answered .done in
       let b′ = a .after in
       let l = lines-in (take held (b .line)) (slice from (p .from) chunk) in
-      ap (λ x. owed x chunks) (a .state)
+      ap (λ x. remaining x chunks) (a .state)
       ∙ ap (λ v. take (p .end) (b′ .out) ++ v) (if-false (p .last) [] _ (a .answered .last))
       ∙ ap₂ (λ v s. v ++ in-chunks (take (p .held) (b′ .line)) (drop (p .from) s ∷ chunks) (b′ .scratch)) (take-replied (d .replied)) (ap (λ n. take n input) (a .answered .to) ∙ e)
       ∙ ap₂ (λ h s. answers (l .ended) (b .scratch) .text ++ in-chunks h (drop (p .from) chunk ∷ chunks) s) (held-overwrite d) (d .replied .works)
@@ -67,10 +67,10 @@ module _ {chunk input : Bytes} {from held : ℕ} {b : Buffers} {s : State} (a : 
   unfolding ahead
   continues-ahead chunks = ap (λ (x : State). ahead (x .next) chunks) (a .state) ∙ if-false (a .part .last) [] chunks (a .answered .last)
 
--- ---- a step that goes well: what it wrote, and what is owed then, is what was owed
-record Pays (s : State) (t : Trace) (s′ : State) : Type 0 where
+-- ---- a step that goes well: what it wrote, and what remains then, is what remained before
+record StepWell (s : State) (t : Trace) (s′ : State) : Type 0 where
   well : t .well ≡ true
-  pays : (chunks : List Bytes) → t .text ++ owed s′ chunks ≡ owed s (t .chunks ++ ahead (s′ .next) chunks)
+  totals : (chunks : List Bytes) → t .text ++ remaining s′ chunks ≡ remaining s (t .chunks ++ ahead (s′ .next) chunks)
   keeps : (chunks : List Bytes) → ahead (s .next) (t .chunks ++ ahead (s′ .next) chunks) ≡ t .chunks ++ ahead (s′ .next) chunks
   awaits : (chunks : List Bytes) → ahead (s′ .next) chunks ≡ to-come (t .ended) (ahead (s .next) chunks)
 
@@ -81,71 +81,71 @@ module _ (p : Pending) (input : Bytes) (b : Buffers) (s : State) (f : PendingIn 
   abbrev replies : Trace
   replies = record { chunks = []; ended = false; text = take (p .end) (b .out); well = true }
 
-  last-pays : (rest : Bool) → p .last ≡ true → GoesOn false rest p input b s → Pays pending replies s
-  unfolding GoesOn halted owed ahead to-come
-  last-pays rest l a =
+  last-well : (rest : Bool) → p .last ≡ true → GoesOn false rest p input b s → StepWell pending replies s
+  unfolding GoesOn halted remaining ahead to-come
+  last-well rest l a =
       record {
         well = refl;
-        pays = λ chunks. ap (λ (x : State). take (p .end) (b .out) ++ owed x chunks) a ∙ ap (λ v. take (p .end) (b .out) ++ v) (sym (if-true (p .last) [] _ l));
+        totals = λ chunks. ap (λ (x : State). take (p .end) (b .out) ++ remaining x chunks) a ∙ ap (λ v. take (p .end) (b .out) ++ v) (sym (if-true (p .last) [] _ l));
         keeps = λ chunks. if-true (p .last) [] _ l ∙ ap (λ (x : State). ahead (x .next) chunks) (sym a);
         awaits = λ chunks. ap (λ (x : State). ahead (x .next) chunks) a ∙ sym (if-true (p .last) [] _ l);
       }
 
-  rest-pays : (rest : Bool) → ltb (p .from) (p .to) ≡ rest → p .last ≡ false → GoesOn true rest p input b s → Pays pending replies s
-  unfolding GoesOn written waiting owed ahead in-chunks joined to-come
-  rest-pays true e l a =
+  rest-well : (rest : Bool) → ltb (p .from) (p .to) ≡ rest → p .last ≡ false → GoesOn true rest p input b s → StepWell pending replies s
+  unfolding GoesOn written waiting remaining ahead in-chunks joined to-come
+  rest-well true e l a =
       record {
         well = refl;
-        pays =
+        totals =
             λ chunks.
             ap (λ v. take (p .end) (b .out) ++ v)
-            (continues-owed a (ap (λ k. take k input) (length-take-le (p .to) input (f .to-fits))) chunks ∙ sym (if-false (p .last) [] _ l)
+            (continues-remaining a (ap (λ k. take k input) (length-take-le (p .to) input (f .to-fits))) chunks ∙ sym (if-false (p .last) [] _ l)
             ∙ ap (λ v. elim (p .last) [ true ↦ [] | false ↦ in-chunks (take (p .held) (b .line)) (slice (p .from) (p .to) input ∷ v) (b .scratch) ]) (sym (continues-ahead a chunks)));
         keeps = λ chunks. if-false (p .last) [] _ l;
         awaits = λ chunks. continues-ahead a chunks ∙ sym (if-false (p .last) [] _ l);
       }
-  rest-pays false e l a =
+  rest-well false e l a =
       let nothing : slice (p .from) (p .to) input ≡ [] = drop-of-length-le (take (p .to) input) {i = p .from} (omega (arith, length-take-le (p .to) input (f .to-fits), ltb-false (p .from) (p .to) e)) in
       record {
         well = refl;
-        pays =
+        totals =
             λ chunks.
             ap (λ v. take (p .end) (b .out) ++ v)
-            (ap (λ x. owed x chunks) a ∙ ap (λ v. in-chunks (take (p .held) (b .line)) (v ∷ chunks) (b .scratch)) (sym nothing) ∙ sym (if-false (p .last) [] _ l)
+            (ap (λ x. remaining x chunks) a ∙ ap (λ v. in-chunks (take (p .held) (b .line)) (v ∷ chunks) (b .scratch)) (sym nothing) ∙ sym (if-false (p .last) [] _ l)
             ∙ ap (λ (x : State). elim (p .last) [ true ↦ [] | false ↦ in-chunks (take (p .held) (b .line)) (slice (p .from) (p .to) input ∷ ahead (x .next) chunks) (b .scratch) ]) (sym a));
         keeps = λ chunks. if-false (p .last) [] _ l;
         awaits = λ chunks. ap (λ (x : State). ahead (x .next) chunks) a ∙ sym (if-false (p .last) [] _ l);
       }
 
-  write-pays : AfterWrite true p input b s → Pays pending replies s
-  write-pays a = go (p .last) refl a
+  write-well : AfterWrite true p input b s → StepWell pending replies s
+  write-well a = go (p .last) refl a
     where
-      go : (last : Bool) → p .last ≡ last → GoesOn (true && not last) (ltb (p .from) (p .to)) p input b s → Pays pending replies s
-      go true l a = last-pays (ltb (p .from) (p .to)) l a
-      go false l a = rest-pays (ltb (p .from) (p .to)) refl l a
+      go : (last : Bool) → p .last ≡ last → GoesOn (true && not last) (ltb (p .from) (p .to)) p input b s → StepWell pending replies s
+      go true l a = last-well (ltb (p .from) (p .to)) l a
+      go false l a = rest-well (ltb (p .from) (p .to)) refl l a
 
 -- the first bytes of a text that is written, the rest of it, and more
 in-two : (k n : ℕ) (s v : Bytes) → k ≤ n → take k s ++ (drop k (take n s) ++ v) ≡ take n s ++ v
 in-two k n s v h =
     ap (λ x. x ++ (drop k (take n s) ++ v)) (sym (take-take k n s h)) ∙ sym (append-assoc (take k (take n s)) (drop k (take n s)) v) ∙ ap (λ x. x ++ v) (take-append-drop k (take n s))
 
--- a step that fails stops, and what it wrote is a beginning of what was owed
+-- a step that fails stops, and what it wrote is a beginning of what remained
 record Fails (s : State) (t : Trace) (s′ : State) : Type 0 where
   ill : t .well ≡ false
   unread : t .chunks ≡ []
   unended : t .ended ≡ false
-  begins : (chunks : List Bytes) → (rest : Bytes) × (t .text ++ rest ≡ owed s chunks)
+  begins : (chunks : List Bytes) → (rest : Bytes) × (t .text ++ rest ≡ remaining s chunks)
   stop : s′ .next ≡ Stop
 
-step-goes : {s s′ : State} {t : Trace} → Steps s t s′ → Pays s t s′ ⊎ Fails s t s′
-unfolding AfterRead GoesOn finished halted owed ahead in-chunks joined lines-in to-come
+step-goes : {s s′ : State} {t : Trace} → Steps s t s′ → StepWell s t s′ ⊎ Fails s t s′
+unfolding AfterRead GoesOn finished halted remaining ahead in-chunks joined lines-in to-come
 step-goes (read held n input input′ b s′ g h a) =
     inl
     (record {
       well = refl;
-      pays =
+      totals =
           λ chunks.
-          continues-owed a (ap (λ k. take k input′) (length-take-le n input′ h)) chunks ∙ ap (λ v. in-chunks (take held (b .line)) (take n input′ ∷ v) (b .scratch)) (sym (continues-ahead a chunks));
+          continues-remaining a (ap (λ k. take k input′) (length-take-le n input′ h)) chunks ∙ ap (λ v. in-chunks (take held (b .line)) (take n input′ ∷ v) (b .scratch)) (sym (continues-ahead a chunks));
       keeps = λ chunks. refl;
       awaits = λ chunks. continues-ahead a chunks;
     })
@@ -153,14 +153,14 @@ step-goes (end held input input′ b s′ a) =
     inl
     (record {
       well = refl;
-      pays =
+      totals =
           λ chunks.
-          ap (λ x. owed x chunks) a ∙ append-nil _ ∙ take-overwrite (answers (last-line (take held (b .line))) (b .scratch) .text) (b .out)
+          ap (λ x. remaining x chunks) a ∙ append-nil _ ∙ take-overwrite (answers (last-line (take held (b .line))) (b .scratch) .text) (b .out)
           ∙ ap (λ (x : State). in-chunks (take held (b .line)) (ahead (x .next) chunks) (b .scratch)) (sym a);
       keeps = λ chunks. refl;
       awaits = λ chunks. ap (λ (x : State). ahead (x .next) chunks) a;
     })
-step-goes (write p input b s′ f a) = inl (write-pays p input b s′ f a)
+step-goes (write p input b s′ f a) = inl (write-well p input b s′ f a)
 step-goes (read-fails held input input′ b s′ a) = inr (record { ill = refl; unread = refl; unended = refl; begins = λ chunks. (_, refl); stop = ap (λ (x : State). x .next) a })
 step-goes (write-fails p k input b s′ h f a) =
     inr (record { ill = refl; unread = refl; unended = refl; begins = λ chunks. (drop k (take (p .end) (b .out)) ++ _, in-two k (p .end) (b .out) _ h); stop = ap (λ (x : State). x .next) a })
@@ -190,33 +190,33 @@ module _ (input : Bytes) (b : Buffers) where
   abbrev start : State
   start = started input b
 
-  -- nothing has failed: what was written, and what is owed
-  record Going (t : Trace) (s : State) : Type 0 where
+  -- nothing has failed: what was written, and what remains
+  record RunWell (t : Trace) (s : State) : Type 0 where
     well : t .well ≡ true
-    owes : (chunks : List Bytes) → t .text ++ owed s chunks ≡ owed start (t .chunks ++ ahead (s .next) chunks)
+    totals : (chunks : List Bytes) → t .text ++ remaining s chunks ≡ remaining start (t .chunks ++ ahead (s .next) chunks)
     awaits : (chunks : List Bytes) → ahead (s .next) chunks ≡ to-come (t .ended) chunks
 
   -- something failed: what was written is a beginning, however the input would have gone on
-  record Broken (t : Trace) (s : State) : Type 0 where
+  record RunFailed (t : Trace) (s : State) : Type 0 where
     ill : t .well ≡ false
     stop : s .next ≡ Stop
-    begins : (chunks : List Bytes) → (rest : Bytes) × (t .text ++ rest ≡ owed start (t .chunks ++ to-come (t .ended) chunks))
+    begins : (chunks : List Bytes) → (rest : Bytes) × (t .text ++ rest ≡ remaining start (t .chunks ++ to-come (t .ended) chunks))
 
-  going-on : (t u : Trace) (s s′ : State) → Going t s → Pays s u s′ → Going (followed-by t u) s′
+  run-on : (t u : Trace) (s s′ : State) → RunWell t s → StepWell s u s′ → RunWell (followed-by t u) s′
   unfolding followed-by
-  going-on t u s s′ g a =
+  run-on t u s s′ g a =
       record {
         well = ap₂ (λ v w. v && w) (g .well) (a .well);
-        owes =
+        totals =
             λ chunks.
-            append-assoc (t .text) (u .text) _ ∙ ap (λ v. t .text ++ v) (a .pays chunks) ∙ g .owes (u .chunks ++ ahead (s′ .next) chunks)
-            ∙ ap (λ v. owed start (t .chunks ++ v)) (a .keeps chunks) ∙ ap (owed start) (sym (append-assoc (t .chunks) (u .chunks) _));
+            append-assoc (t .text) (u .text) _ ∙ ap (λ v. t .text ++ v) (a .totals chunks) ∙ g .totals (u .chunks ++ ahead (s′ .next) chunks)
+            ∙ ap (λ v. remaining start (t .chunks ++ v)) (a .keeps chunks) ∙ ap (remaining start) (sym (append-assoc (t .chunks) (u .chunks) _));
         awaits = λ chunks. a .awaits chunks ∙ ap (to-come (u .ended)) (g .awaits chunks) ∙ to-come-or (u .ended) (t .ended) chunks;
       }
 
-  going-wrong : (t u : Trace) (s s′ : State) → Going t s → Fails s u s′ → Broken (followed-by t u) s′
+  run-fails : (t u : Trace) (s s′ : State) → RunWell t s → Fails s u s′ → RunFailed (followed-by t u) s′
   unfolding followed-by
-  going-wrong t u s s′ g f =
+  run-fails t u s s′ g f =
       record {
         ill = ap₂ (λ v w. v && w) (g .well) (f .ill);
         stop = f .stop;
@@ -224,42 +224,42 @@ module _ (input : Bytes) (b : Buffers) where
             λ chunks.
             let (rest, e) = f .begins chunks in (
               rest,
-              append-assoc (t .text) (u .text) rest ∙ ap (λ v. t .text ++ v) e ∙ g .owes chunks ∙ ap (λ v. owed start (t .chunks ++ v)) (g .awaits chunks)
-                  ∙ ap₂ (λ v w. owed start (v ++ to-come w chunks)) (sym (append-nil (t .chunks)) ∙ ap (λ v. t .chunks ++ v) (sym (f .unread))) (ap (λ w. w || t .ended) (sym (f .unended))),
+              append-assoc (t .text) (u .text) rest ∙ ap (λ v. t .text ++ v) e ∙ g .totals chunks ∙ ap (λ v. remaining start (t .chunks ++ v)) (g .awaits chunks)
+                  ∙ ap₂ (λ v w. remaining start (v ++ to-come w chunks)) (sym (append-nil (t .chunks)) ∙ ap (λ v. t .chunks ++ v) (sym (f .unread))) (ap (λ w. w || t .ended) (sym (f .unended))),
             );
       }
 
-  runs-go : {turns : ℕ} {t : Trace} {s : State} → Runs start turns t s → Going t s ⊎ Broken t s
-  unfolding started owed ahead to-come
-  runs-go none = inl (record { well = refl; owes = λ chunks. refl; awaits = λ chunks. refl })
+  runs-go : {turns : ℕ} {t : Trace} {s : State} → Runs start turns t s → RunWell t s ⊎ RunFailed t s
+  unfolding started remaining ahead to-come
+  runs-go none = inl (record { well = refl; totals = λ chunks. refl; awaits = λ chunks. refl })
   runs-go (more turns t u s s′ run step) =
-      ⊎-elim (λ g. ⊎-elim (λ a. inl (going-on t u s s′ g a)) (λ f. inr (going-wrong t u s s′ g f)) (step-goes step)) (λ d. absurd (no-step step (d .stop))) (runs-go run)
+      ⊎-elim (λ g. ⊎-elim (λ a. inl (run-on t u s s′ g a)) (λ f. inr (run-fails t u s s′ g f)) (step-goes step)) (λ d. absurd (no-step step (d .stop))) (runs-go run)
 
   -- scratch is zeros at first
-  start-owed : Sound (record { next = Stop; input = input; buffers = b }) → (chunks : List Bytes) → owed start chunks ≡ output (joined chunks)
-  unfolding started owed zeros joined in-chunks
-  start-owed y chunks =
+  start-remaining : Sound (record { next = Stop; input = input; buffers = b }) → (chunks : List Bytes) → remaining start chunks ≡ output (joined chunks)
+  unfolding started remaining zeros joined in-chunks
+  start-remaining y chunks =
       ap₂ (λ v s. v ++ in-chunks [] ([] ∷ chunks) s) (take-overwrite first-line (b .out)) (y .tidy .scratch-zero ∙ ap (λ n. replicate n 0) (y .sized .scratch-full)) ∙ chunks-hold ([] ∷ chunks)
 
-  owes-then : (t : Trace) (s : State) → Going t s → (chunks : List Bytes) → t .text ++ owed s chunks ≡ owed start (t .chunks ++ to-come (t .ended) chunks)
-  owes-then t s g chunks = g .owes chunks ∙ ap (λ v. owed start (t .chunks ++ v)) (g .awaits chunks)
+  totals-then : (t : Trace) (s : State) → RunWell t s → (chunks : List Bytes) → t .text ++ remaining s chunks ≡ remaining start (t .chunks ++ to-come (t .ended) chunks)
+  totals-then t s g chunks = g .totals chunks ∙ ap (λ v. remaining start (t .chunks ++ v)) (g .awaits chunks)
 
   module _ (fresh : Sound (record { next = Stop; input = input; buffers = b })) where
     -- what is written is always a beginning of the output, whatever fails and however the input goes on
     pub runs-begin : {turns : ℕ} {t : Trace} {s : State} → Runs start turns t s → (chunks : List Bytes) → (rest : Bytes) × (t .text ++ rest ≡ output (joined (t .chunks ++ to-come (t .ended) chunks)))
     runs-begin {t = t} {s} run chunks =
-        ⊎-elim (λ g. (owed s chunks, owes-then t s g chunks ∙ start-owed fresh _)) (λ d. let (rest, e) = d .begins chunks in (rest, e ∙ start-owed fresh _)) (runs-go run)
+        ⊎-elim (λ g. (remaining s chunks, totals-then t s g chunks ∙ start-remaining fresh _)) (λ d. let (rest, e) = d .begins chunks in (rest, e ∙ start-remaining fresh _)) (runs-go run)
 
     -- and where nothing failed until it stopped the input had ended, and it is the output
     pub runs-hold : {turns : ℕ} {t : Trace} {s : State} → Runs start turns t s → t .well ≡ true → s .next ≡ Stop → (t .ended ≡ true) × (t .text ≡ output (joined (t .chunks)))
-    unfolding owed ahead to-come
+    unfolding remaining ahead to-come
     runs-hold {t = t} {s} run w e =
         ⊎-elim
         (λ g.
-        let nothing : owed s [] ≡ [] = rw e in
+        let nothing : remaining s [] ≡ [] = rw e in
         let none-left : ahead (s .next) [] ≡ [] = rw e in (
           stopped-ended (t .ended) (rw e at (g .awaits ([] ∷ []))),
-          sym (append-nil (t .text)) ∙ ap (λ v. t .text ++ v) (sym nothing) ∙ g .owes [] ∙ ap (λ v. owed start (t .chunks ++ v)) none-left ∙ ap (owed start) (append-nil (t .chunks)) ∙ start-owed fresh (t .chunks),
+          sym (append-nil (t .text)) ∙ ap (λ v. t .text ++ v) (sym nothing) ∙ g .totals [] ∙ ap (λ v. remaining start (t .chunks ++ v)) none-left ∙ ap (remaining start) (append-nil (t .chunks)) ∙ start-remaining fresh (t .chunks),
         ))
         (λ d. apart (sym w ∙ d .ill))
         (runs-go run)

@@ -1,9 +1,9 @@
--- `lengths::letters` meets its contract: the rule of the list is a test at every set. Assumes nothing.
+-- `lengths::letters_length` meets its contract: the rule of the list is a test at every set. Assumes nothing.
 use native.Mathlib.Omega.{arith}
 use borrow.Author.Needs.{needs}
 use Rattle.table.proofs.Measures.{fours, letters-at}
-use Rattle.table.proofs.lengths.letters.Statement.{statement}
-use Rattle.table.proofs.lengths.letters.Tie as tie
+use Rattle.table.proofs.lengths.letters_length.Statement.{statement}
+use Rattle.table.proofs.lengths.letters_length.Tie as tie
 
 add-result : tie.Need-add-result
 unfolding fours
@@ -17,8 +17,8 @@ returns : tie.Need-returns
 unfolding fours
 returns c = letters-at (c .args .set) (c .pre)
 
-pub letters-spec : {M : Type 1} → statement M
-letters-spec =
+pub letters-length-spec : {M : Type 1} → statement M
+letters-length-spec =
     tie.close
     (tie.spec
     (search needs)

@@ -1,0 +1,18 @@
+-- The bytes that each text of a reply needs at most. Private: a model for this crate's contracts.
+use Prim.Native.Nat.{ℕ, _+_}
+
+-- a 64-bit number in decimal
+abbrev pub number-room : ℕ
+number-room = 20
+
+-- a letter, a space and such a number
+abbrev pub coded-room : ℕ
+coded-room = 2 + number-room
+
+-- the same, a space and another number
+abbrev pub refused-room : ℕ
+refused-room = coded-room + 1 + number-room
+
+-- a byte and a 16-bit number
+abbrev pub part-room : ℕ
+part-room = 6
