@@ -55,6 +55,28 @@ decimal-more (suc f) h = more-digits f (suc f) h ∙ ap (λ (v : Bytes). v ++ (z
 pub decimal-longer : (n : ℕ) → 10 ≤ n → length (decimal n) ≡ length (decimal (n / 10)) + 1
 decimal-longer n h = ap length (decimal-more n h) ∙ length-append (decimal (n / 10)) _
 
+-- how many digits a number of two, three and four digits has, and how many more than that without its last four
+pub two-digits : (n : ℕ) → 10 ≤ n → n < 100 → length (decimal n) ≡ 2
+two-digits n h k = omega (arith, decimal-longer n h, ap length (decimal-one (n / 10) (omega arith)))
+
+pub three-digits : (n : ℕ) → 100 ≤ n → n < 1000 → length (decimal n) ≡ 3
+three-digits n h k = omega (arith, decimal-longer n (omega arith), two-digits (n / 10) (omega arith) (omega arith))
+
+pub four-digits : (n : ℕ) → 1000 ≤ n → n < 10000 → length (decimal n) ≡ 4
+four-digits n h k = omega (arith, decimal-longer n (omega arith), three-digits (n / 10) (omega arith) (omega arith))
+
+pub four-longer : (n : ℕ) → 10000 ≤ n → length (decimal n) ≡ length (decimal (n / 10000)) + 4
+four-longer n h =
+    let e : n / 10 / 10 / 10 / 10 ≡ n / 10000 = omega arith in
+    omega (
+      arith,
+      decimal-longer n (omega arith),
+      decimal-longer (n / 10) (omega arith),
+      decimal-longer (n / 10 / 10) (omega arith),
+      decimal-longer (n / 10 / 10 / 10) (omega arith),
+      ap (λ (k : ℕ). length (decimal k)) e,
+    )
+
 -- a number below a power of ten has no more digits
 pub decimal-short : (k n : ℕ) → n < 10 ^ suc k → length (decimal n) ≤ suc k
 decimal-short zero n h = omega (arith, ap length (decimal-one n h))
