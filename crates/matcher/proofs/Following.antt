@@ -19,14 +19,14 @@ use Rattle.table.specs.declared.record.Record.{Record}
 use Rattle.atoms.specs.Records.{RecordOf}
 use Rattle.planes.specs.declared.join.Tally.{Tally}
 use Rattle.planes.specs.Cells.{InRoom, Plane, Kept, on}
-use Rattle.planes.specs.Join.{join-trials, JoinPre, JoinPost}
+use Rattle.planes.specs.Join.{JoinPre, JoinPost}
 use Rattle.planes.specs.Whole.{BlankPost, AddPre, AddPost}
 use Rattle.atoms.specs.Atoms.{atoms, node, head}
 use Rattle.matcher.specs.Settled.{StepPre, Settled}
 use Rattle.matcher.specs.FillBody.{FillBodyPre}
 use Rattle.matcher.specs.Steps.{NoPlane, FillAtomPost, follow-trials, JoinFollowersPre, JoinFollowersPost, SettlePost, SettleAllPost}
 use Rattle.planes.proofs.Planes.{kept-all, kept-then, kept-less, plane-on, plane-same, plane-flags, plane-kept}
-use Rattle.planes.proofs.Relations.{join-same, join-trials-same, joins-all}
+use Rattle.planes.proofs.Relations.{join-same, joins-same}
 use Rattle.planes.proofs.Counting.{counted-whole, counted-room, counted-all, counted-stop}
 use Rattle.matcher.proofs.Groups.{settled-kept, work-long, work-room, work-few}
 
@@ -36,7 +36,7 @@ follows-last : (l : Bytes) (p : Syntax pattern) (a : Syntax atom) → p ≡ last
 unfolding follow-trials decide
 follows-last l p a e = (ap (follow-trials l) e, ap (λ (z : Syntax pattern). decide l z) e)
 
-follows-then : (l : Bytes) (p : Syntax pattern) (a : Syntax atom) (q : Syntax pattern) → p ≡ then a q → (follow-trials l p ≡ joins (length l) (decide l a) (decide l q)) × (decide l p ≡ join (decide l a) (decide l q))
+follows-then : (l : Bytes) (p : Syntax pattern) (a : Syntax atom) (q : Syntax pattern) → p ≡ then a q → (follow-trials l p ≡ joins (suc (length l)) (decide l a) (decide l q)) × (decide l p ≡ join (decide l a) (decide l q))
 unfolding follow-trials decide
 follows-then l p a q e = (ap (follow-trials l) e, ap (λ (z : Syntax pattern). decide l z) e)
 
@@ -91,9 +91,8 @@ module _ (table label s : Bytes) (w x : ℕ) (ok : JoinFollowersPre table label 
           let m = is .is-followed n .is in
           let (tried, same) = follows-then label _ _ _ (m ∙ ap (λ (k : ℕ). then (head (node table x)) (node table k)) (sym e)) in
           let z : w ≡ suc (length label) = omega (arith, ok .work .wide) in
-          let count : join-trials w (on s w (2 * x)) (on s w (2 * next + 1)) ≡ follow-trials label (node table x)
-          = join-trials-same w _ _ _ _ (plane-on (ok .here)) (plane-on follow-plane) ∙ ap (λ (v : ℕ). join-trials v (decide label (head (node table x))) (decide label (node table next))) z
-          ∙ sym (joins-all (length label) _ _) ∙ sym tried in
+          let count : joins w (on s w (2 * x)) (on s w (2 * next + 1)) ≡ follow-trials label (node table x)
+          = joins-same w _ _ _ _ (plane-on (ok .here)) (plane-on follow-plane) ∙ ap (λ (v : ℕ). joins v (decide label (head (node table x))) (decide label (node table next))) z ∙ sym tried in
           record {
             counted = rw (← count) (got .counted);
             whole = λ f. plane-same (got .whole f) (λ i j hi hj. join-same w _ _ _ _ (plane-on (ok .here)) (plane-on follow-plane) i j hi hj ∙ sym (ap (λ (R : Rel). R i j) same));

@@ -18,7 +18,6 @@ use Rattle.atoms.specs.Records.{RecordOf}
 use Rattle.planes.specs.declared.join.Tally.{Tally}
 use Rattle.planes.specs.declared.fill.Content.the-variants.{Empty}
 use Rattle.planes.specs.Cells.{InRoom, Plane, Kept, on}
-use Rattle.planes.specs.Join.{join-trials}
 use Rattle.planes.specs.Whole.{BlankPost}
 use Rattle.planes.specs.Fill.{held-in, Fit, FillPre, FillPost}
 use Rattle.planes.specs.RepeatBody.{fewer, body-trials, RepeatBodyPost}
@@ -26,7 +25,7 @@ use Rattle.atoms.specs.Atoms.{node, head, body-of}
 use Rattle.matcher.specs.FillBody.{FillBodyPre, FillBodyPost}
 use Rattle.matcher.specs.Steps.{Later, BeginPost, FillAtomPost}
 use Rattle.planes.proofs.Planes.{Same, kept-then, kept-less, plane-on, plane-same, plane-flags, plane-kept}
-use Rattle.planes.proofs.Relations.{any-same, sum-same, join-trials-same, joins-all, power-same}
+use Rattle.planes.proofs.Relations.{any-same, sum-same, joins-same, power-same}
 use Rattle.matcher.proofs.Levels.{decide-level}
 use Rattle.matcher.proofs.Groups.{work-long, work-room}
 
@@ -94,7 +93,7 @@ and-unset true false e = refl
 and-unset false b e = refl
 
 repeats-is : (l : Bytes) (a : Syntax atom) (low : ℕ) (high : Option ℕ) → a ≡ repeat low high (body-of a)
-    → repeats l a ≡ sum (max-count (length l) high) (λ k. joins (length l) (decide l (body-of a)) (power (decide l (body-of a)) k))
+    → repeats l a ≡ sum (max-count (length l) high) (λ k. joins (suc (length l)) (decide l (body-of a)) (power (decide l (body-of a)) k))
 unfolding repeats body-of
 repeats-is l a low high e = ap (repeats l) e
 
@@ -120,7 +119,7 @@ module _ (table label s : Bytes) (w temp x budget spent : ℕ) (ok : FillBodyPre
       let m : times ≡ max-count (length label) high = times-is ∙ max-count-min (length label) (r .high) (ok .work .short) in
       let z : w ≡ suc (length label) = omega (arith, ok .work .wide) in
       ap (λ (k : ℕ). sum k (body-trials w (on s₁ w temp))) m
-      ∙ sum-same (max-count (length label) high) _ _ (λ k h. join-trials-same w _ _ _ _ bodies (power-same w _ _ bodies k) ∙ ap (λ (v : ℕ). join-trials v R (power R k)) z ∙ sym (joins-all (length label) R (power R k)))
+      ∙ sum-same (max-count (length label) high) _ _ (λ k h. joins-same w _ _ _ _ bodies (power-same w _ _ bodies k) ∙ ap (λ (v : ℕ). joins v R (power R k)) z)
       ∙ sym (repeats-is label a (r .low) high (is .count))
 
   -- the stretches that are enough bodies, numbers cut to the label's length

@@ -37,7 +37,7 @@ pub record FillAtomPost (table label s s′ : Bytes) (w temp x budget trials : �
 -- the trials of the join with the followers, if there are any
 unfoldable pub follow-trials : Bytes → Syntax pattern → ℕ
 follow-trials l (last a) = 0
-follow-trials l (then a p) = joins (length l) (decide l a) (decide l p)
+follow-trials l (then a p) = joins (suc (length l)) (decide l a) (decide l p)
 
 pub record JoinFollowersPre (table label s : Bytes) (w x : ℕ) : Type 0 where
   pub work : StepPre table label s w

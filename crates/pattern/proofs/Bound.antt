@@ -10,7 +10,7 @@ use lib.ListN.{length, length-append}
 use Rattle.pattern.specs.Bytes.{Bytes}
 use Rattle.pattern.specs.Syntax.{Sort, pattern, atom, body, branches, Syntax, last, then, repeat, codes, literal, group, only, or, size, nodes}
 use Rattle.pattern.specs.Decision.{Rel, max-count, trial, power, decide}
-use Rattle.pattern.specs.Trials.{tries, sum, stretches, joins, repeats, atom-trials, total, trials, trial-bound}
+use Rattle.pattern.specs.Trials.{tries, sum, column-trials, joins, repeats, atom-trials, total, trials, trial-bound}
 use Rattle.pattern.proofs.Tests.{cond-case}
 
 tries-le : (c : ℕ) (p : ℕ → Bool) → tries c p ≤ c
@@ -35,10 +35,10 @@ max-count-le n (some m) = omega arith
 
 -- the most trials of a join: every place of every stretch of n bytes
 all-places : ℕ → ℕ
-all-places n = stretches n (λ i j. suc j - i)
+all-places n = sum (suc n) (λ j. sum (suc j) (λ i. suc j - i))
 
-joins-le : (n : ℕ) (R S : Rel) → joins n R S ≤ all-places n
-unfolding joins stretches all-places
+joins-le : (n : ℕ) (R S : Rel) → joins (suc n) R S ≤ all-places n
+unfolding joins column-trials all-places
 joins-le n R S = sum-le (suc n) _ _ (λ j h. sum-le (suc j) _ _ (λ i k. tries-le (suc j - i) (trial R S i j)))
 
 row : (n c : ℕ) → c ≤ n → 2 * sum c (λ i. n - i) + c * c ≡ c * (2 * n + 1)
@@ -83,7 +83,7 @@ module _ (l : Bytes) where
   unfolding repeats
   repeats-le (repeat low high b) =
       let n : ℕ = length l in
-      let f : ℕ → ℕ = λ k. joins n (decide l b) (power (decide l b) k) in
+      let f : ℕ → ℕ = λ k. joins (suc n) (decide l b) (power (decide l b) k) in
       let below : max-count n high ≤ n = max-count-le n high in
       omega (arith, sum-le (max-count n high) f (λ k. all-places n) (λ k h. joins-le n (decide l b) (power (decide l b) k)), sum-const (max-count n high) (all-places n), mul-le-mul-right (all-places n) below)
 
@@ -94,7 +94,7 @@ module _ (l : Bytes) where
 
   -- the count is within the bound
   pub bound : (p : Syntax pattern) → trials l p ≤ trial-bound (size p) (length l)
-  unfolding all-places stretches trials trial-bound
+  unfolding all-places trials trial-bound
   bound p =
       rw (← nodes-size p)
       (omega (arith, total-le (atom-trials l) (suc (length l) * all-places (length l)) atom-trials-le (nodes p), ap (λ x. length (nodes p) * suc (length l) * x) (row-sums (suc (length l)))))

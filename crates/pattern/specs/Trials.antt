@@ -17,22 +17,22 @@ unfoldable pub sum : ℕ → (ℕ → ℕ) → ℕ
 sum zero f = zero
 sum (suc c) f = sum c f + f c
 
--- the sum of f at all i and j with 0 ≤ i ≤ j ≤ n
-unfoldable pub stretches : ℕ → (ℕ → ℕ → ℕ) → ℕ
-stretches n f = sum (suc n) (λ j. sum (suc j) (λ i. f i j))
+-- the trials of a join for the stretches that end at j, one stretch for each i from 0 to j
+unfoldable pub column-trials : Rel → Rel → ℕ → ℕ
+column-trials R S j = sum (suc j) (λ i. tries (suc j - i) (trial R S i j))
 
--- the trials of a join, over all stretches of n bytes
+-- the trials of a join, for all i and j with 0 ≤ i ≤ j < w
 unfoldable pub joins : ℕ → Rel → Rel → ℕ
-joins n R S = stretches n (λ i j. tries (suc j - i) (trial R S i j))
+joins w R S = sum w (column-trials R S)
 
 -- the trials of an atom's bodies: one join for each k from 1 to K
 unfoldable pub repeats : Bytes → Syntax atom → ℕ
-repeats l (repeat low high b) = sum (max-count (length l) high) (λ k. joins (length l) (decide l b) (power (decide l b) k))
+repeats l (repeat low high b) = sum (max-count (length l) high) (λ k. joins (suc (length l)) (decide l b) (power (decide l b) k))
 
 -- the trials of an atom: those of its bodies, and those of the join with its followers if it is not last in its branch
 unfoldable pub atom-trials : Bytes → Syntax pattern → ℕ
 atom-trials l (last a) = repeats l a
-atom-trials l (then a p) = repeats l a + joins (length l) (decide l a) (decide l p)
+atom-trials l (then a p) = repeats l a + joins (suc (length l)) (decide l a) (decide l p)
 
 -- the sum of f over a list
 unfoldable pub total : (Syntax pattern → ℕ) → List (Syntax pattern) → ℕ

@@ -10,11 +10,12 @@ use lib.ListN.{length}
 use Rattle.pattern.specs.Decision.{any, power, join}
 use Rattle.planes.specs.declared.join.Tally.{Tally}
 use Rattle.planes.specs.Cells.{InRoom, Plane, Kept, Others, on}
-use Rattle.planes.specs.Join.{join-trials, JoinPre, JoinPost}
+use Rattle.pattern.specs.Trials.{joins}
+use Rattle.planes.specs.Join.{JoinPre, JoinPost}
 use Rattle.planes.specs.Whole.{AddPre, AddPost}
 use Rattle.planes.specs.RepeatBody.{AddFromPost, fewer, body-trials, RepeatBodyPre, Elsewhere, RepeatBodyPost}
 use Rattle.planes.proofs.Planes.{kept-all, kept-then, kept-less, plane-on, plane-same, plane-flags, plane-kept, room-of, planes-le}
-use Rattle.planes.proofs.Relations.{join-same, join-trials-same}
+use Rattle.planes.proofs.Relations.{join-same, joins-same}
 use Rattle.planes.proofs.Counting.{Counting, count-start, count-step, count-stop, count-end}
 
 module _ (s : List ℕ) (w from out : ℕ) where
@@ -108,8 +109,8 @@ module _ (s₀ : List ℕ) (w temp out low times budget trials : ℕ) (ok : Repe
           }
 
       module _ (more : k < times) (s′ : List ℕ) (r : Tally) (got : JoinPost s s′ w temp from to budget spent r) where
-        tried : join-trials w (on s w temp) (on s w from) ≡ body-trials w (on s₀ w temp) k
-        tried = join-trials-same w _ _ _ _ (plane-on (repeat-body (inv .kept))) (plane-on (inv .bodies))
+        tried : joins w (on s w temp) (on s w from) ≡ body-trials w (on s₀ w temp) k
+        tried = joins-same w _ _ _ _ (plane-on (repeat-body (inv .kept))) (plane-on (inv .bodies))
 
         all-kept : Kept s₀ s′ w (temp + 4) (Elsewhere temp out)
         all-kept =

@@ -9,15 +9,15 @@ use native.Mathlib.Omega.{arith}
 use lib.Bits.{bitAnd}
 use lib.ListN.{length}
 use Rattle.pattern.specs.Decision.{trial, join, any}
-use Rattle.pattern.specs.Trials.{tries}
+use Rattle.pattern.specs.Trials.{tries, column-trials, joins}
 use Rattle.planes.specs.declared.join.Search.the-variants.{Found, Missing}
 use Rattle.planes.specs.declared.join.Tally.{Tally}
 use Rattle.planes.specs.Cells.{cell, Tells, Plane, Kept, Others, on, bitOf, stretch-set}
 use Rattle.planes.specs.Budget.{Counted}
 use Rattle.planes.specs.Whole.{BlankPost}
-use Rattle.planes.specs.Join.{column-trials, join-trials, JoinPre, JoinPost}
+use Rattle.planes.specs.Join.{JoinPre, JoinPost}
 use Rattle.planes.proofs.Planes.{Same, Beside, stretch-long, stretch-tells, stretch-kept, kept-all, kept-then, kept-less, tells-same, tells-kept, plane-same, on-kept, read-kept, trial-hit, trial-miss}
-use Rattle.planes.proofs.Relations.{tries-same, any-same, trial-same, join-same, join-trials-same, column-same}
+use Rattle.planes.proofs.Relations.{tries-same, any-same, trial-same, join-same, joins-same, column-same}
 use Rattle.planes.proofs.Counting.{Counting, count-start, count-step, count-stop, count-end, counted-whole, counted-over}
 use Rattle.planes.proofs.Searching.{SearchAt, Searched, FoundAt, Says, search-hit, search-none, search-next}
 
@@ -135,7 +135,7 @@ plane-start ok h v = record {
 
 module _ {s₀ : List ℕ} {w left right out budget trials : ℕ} {s : List ℕ} {spent j : ℕ} (inv : PlaneAt s₀ w left right out budget trials s spent j) where
   pub plane-end : w ≤ j → JoinPost s₀ s w left right out budget trials record { trials = spent; stopped = false }
-  unfolding join-trials
+  unfolding joins
   plane-end h = record {
     counted = count-end _ w budget trials spent j (inv .counting) h;
     whole = λ _. record { holds = λ a b l m. inv .done a b l (omega arith) };
@@ -168,7 +168,7 @@ module _ {s₀ : List ℕ} {w left right out budget trials : ℕ} {s : List ℕ}
       all-kept = kept-then (inv .kept) (column .kept) (λ q a b n. n) (λ q a b n x. absurd (n x))
 
       pub plane-stop : i ≤ j → budget < t + tries (suc j - i) (trial (on s′ w left) (on s′ w right) i j) → JoinPost s₀ s′ w left right out budget trials record { trials = budget; stopped = true }
-      unfolding join-trials
+      unfolding joins
       plane-stop here over = record {
         counted = count-stop _ w budget trials spent j (inv .counting) more _ columns-tried _ _ (column-stop column here over) refl;
         whole = λ x. absurd (let z : _≡_ {A = Bool} true false = x in let y : _≡_ {A = ℕ} 0 1 = cc in omega arith);
@@ -201,7 +201,7 @@ module _ {s₀ s₁ : List ℕ} {w left right out : ℕ} (ok : JoinPre s₀ w le
       let l = on-kept (b .kept) (λ i j. ok .not-left) in
       let r = on-kept (b .kept) (λ i j. ok .not-right) in
       record {
-        counted = rw (← join-trials-same w _ _ _ _ l r) (h .counted);
+        counted = rw (← joins-same w _ _ _ _ l r) (h .counted);
         whole = λ e. plane-same (h .whole e) (join-same w _ _ _ _ l r);
         kept = kept-then (b .kept) (h .kept) (λ q i j n. n) (λ q i j n. n);
       }

@@ -4,8 +4,7 @@ use mathlib.Core.Bool.{Bool}
 use Prim.Native.Nat.{ℕ, zero, suc, _+_, _-_, _≤_, _<_}
 use native.Mathlib.Omega.{arith}
 use Rattle.pattern.specs.Decision.{Rel, any, trial, join, power}
-use Rattle.pattern.specs.Trials.{tries, sum, stretches, joins}
-use Rattle.planes.specs.Join.{column-trials, join-trials}
+use Rattle.pattern.specs.Trials.{tries, sum, column-trials, joins}
 use Rattle.planes.proofs.Planes.{Same}
 
 module _ (p q : ℕ → Bool) where
@@ -37,14 +36,9 @@ module _ (w : ℕ) (L L′ R R′ : Rel) (l : Same w L L′) (r : Same w R R′)
   unfolding column-trials
   column-same j hj = sum-same (suc j) _ _ (λ i h. tries-same _ _ (suc j - i) (trial-same i j (omega arith) hj))
 
-  pub join-trials-same : join-trials w L R ≡ join-trials w L′ R′
-  unfolding join-trials
-  join-trials-same = sum-same w _ _ column-same
-
--- the paper's count of a join
-pub joins-all : (n : ℕ) (R S : Rel) → joins n R S ≡ join-trials (suc n) R S
-unfolding joins stretches join-trials column-trials
-joins-all n R S = refl
+  pub joins-same : joins w L R ≡ joins w L′ R′
+  unfolding joins
+  joins-same = sum-same w _ _ column-same
 
 pub power-same : (w : ℕ) (R S : Rel) → Same w R S → (k : ℕ) → Same w (power R k) (power S k)
 unfolding power

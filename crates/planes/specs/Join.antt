@@ -2,19 +2,12 @@
 use mathlib.Core.Path.{_≡_}
 use mathlib.Core.Bool.{false}
 use mathlib.Core.List.{List}
-use Prim.Native.Nat.{ℕ, suc, _+_, _-_, _≤_}
-use Rattle.pattern.specs.Decision.{Rel, trial, join}
-use Rattle.pattern.specs.Trials.{tries, sum}
+use Prim.Native.Nat.{ℕ, _+_, _≤_}
+use Rattle.pattern.specs.Decision.{join}
+use Rattle.pattern.specs.Trials.{joins}
 use Rattle.planes.specs.declared.join.Tally.{Tally}
 use Rattle.planes.specs.Cells.{InRoom, Readable, Plane, Kept, Others, on}
 use Rattle.planes.specs.Budget.{Counted}
-
--- the trials of the stretches that end at j, and of all stretches below w: `joins n` is `join-trials (suc n)`
-unfoldable pub column-trials : Rel → Rel → ℕ → ℕ
-column-trials R S j = sum (suc j) (λ i. tries (suc j - i) (trial R S i j))
-
-unfoldable pub join-trials : ℕ → Rel → Rel → ℕ
-join-trials w R S = sum w (column-trials R S)
 
 -- what a join asks: two planes to read, and a third one to write
 pub record JoinPre (s : List ℕ) (w left right out : ℕ) : Type 0 where
@@ -27,6 +20,6 @@ pub record JoinPre (s : List ℕ) (w left right out : ℕ) : Type 0 where
 
 -- s and s′ are the lists before and after
 pub record JoinPost (s s′ : List ℕ) (w left right out budget trials : ℕ) (r : Tally) : Type 0 where
-  pub counted : Counted budget (trials + join-trials w (on s w left) (on s w right)) (r .trials) (r .stopped)
+  pub counted : Counted budget (trials + joins w (on s w left) (on s w right)) (r .trials) (r .stopped)
   pub whole : r .stopped ≡ false → Plane s′ w out (join (on s w left) (on s w right))
   pub kept : Kept s s′ w (out + 1) (Others out)

@@ -6,11 +6,10 @@ use Prim.Native.Nat.{ℕ, suc, _+_, _*_, _≤_, _<_}
 use lib.Dec.{eqb, leb}
 use lib.ListN.{length}
 use Rattle.pattern.specs.Decision.{Rel, any, power}
-use Rattle.pattern.specs.Trials.{sum}
+use Rattle.pattern.specs.Trials.{sum, joins}
 use Rattle.planes.specs.declared.join.Tally.{Tally}
 use Rattle.planes.specs.Cells.{Plane, Kept, Others, on}
 use Rattle.planes.specs.Budget.{Counted}
-use Rattle.planes.specs.Join.{join-trials}
 
 -- s and s′ are the lists before and after
 pub record AddFromPost (s s′ : List ℕ) (w from out low k : ℕ) : Type 0 where
@@ -23,7 +22,7 @@ fewer B low o i j = any o (λ k. leb low k && power B k i j)
 
 -- the trials of the join for k + 1 bodies
 abbrev pub body-trials : ℕ → Rel → ℕ → ℕ
-body-trials w B k = join-trials w B (power B k)
+body-trials w B k = joins w B (power B k)
 
 -- plane temp has the body, temp + 1 the empty stretches, and out nothing yet
 pub record RepeatBodyPre (s : List ℕ) (w temp out : ℕ) : Type 0 where

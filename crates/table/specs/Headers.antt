@@ -1,10 +1,10 @@
 -- The header of a table, as the code has it. Private: a model for this crate's contracts.
 use mathlib.Core.Bool.{Bool, true, false, _&&_}
 use mathlib.Core.List.{[], _++_}
-use Prim.Native.Nat.{_+_}
+use Prim.Native.Nat.{ℕ, _+_, _*_}
 use lib.Dec.{leb, eqb}
 use lib.ListN.{length, getD, take}
-use Rattle.pattern.specs.Numbers.{mark, version, atoms-place, length-place, header-size}
+use Rattle.pattern.specs.Numbers.{mark, version, atoms-place, length-place, header-size, record-size}
 use Rattle.pattern.specs.Bytes.{Bytes, le16, equal}
 use Rattle.pattern.specs.Decode.{field, layout}
 use Rattle.table.specs.declared.header.Header.{Header}
@@ -23,6 +23,10 @@ first-bytes = mark ++ le16 version []
 abbrev pub header-of : Bytes → Header
 header-of s =
     record { atoms = getD s atoms-place 0; length = field s length-place; records = layout s .records; pool = layout s .pool }
+
+-- a table is shorter: its header has the number of atoms in one byte, and the pool's length in two
+abbrev pub length-bound : ℕ
+length-bound = header-size + record-size * 256 + 65536
 
 -- the mark is there, and the length is what the header says
 unfoldable pub headed : Bytes → Bool

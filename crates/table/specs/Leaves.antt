@@ -8,7 +8,7 @@ use Rattle.pattern.specs.Bytes.{Bytes}
 use Rattle.pattern.specs.Syntax.{body, Syntax}
 use Rattle.pattern.specs.Table.{pool}
 use Rattle.pattern.specs.Print.{double, print}
-use Rattle.table.specs.Headers.{pick}
+use Rattle.table.specs.Headers.{pick, length-bound}
 use Rattle.table.specs.Checked.{all-plain}
 use Rattle.table.specs.declared.lengths.TextLength.{TextLength}
 use Rattle.table.specs.declared.lengths.TextLength.the-variants as texts
@@ -31,7 +31,7 @@ Short s A p leaf.Bad = Unit {0}
 -- where a leaf may be read
 pub record LeafPre (s : Bytes) (A p : ℕ) : Type 0 where
   pub pool : header-size + record-size * A + p ≤ length s
-  pub small : length s < 70000
+  pub small : length s < length-bound
   pub few : A < 256
 
 pub record LeafPost (s : Bytes) (A p : ℕ) (o : Option (Syntax body)) (x : Leaf) : Type 0 where

@@ -8,6 +8,7 @@ use Rattle.pattern.specs.Bytes.{Bytes}
 use Rattle.pattern.specs.Syntax.{Sort, pattern, Syntax, size, top-size}
 use Rattle.pattern.specs.Table.{pool}
 use Rattle.pattern.specs.Print.{print}
+use Rattle.table.specs.Headers.{length-bound}
 use Rattle.table.specs.Checked.{read-pattern, read-atom, read-branches}
 use Rattle.table.specs.declared.walk.Place.{Place}
 use Rattle.table.specs.declared.walk.Passed.{Passed}
@@ -33,7 +34,7 @@ walked-by at none = walked.Bad
 -- where a walk may begin
 pub record WalkPre (s : Bytes) (A : ℕ) (at : Place) (depth : ℕ) : Type 0 where
   pub few : A ≤ atom-limit
-  pub small : length s < 70000
+  pub small : length s < length-bound
   pub atom : at .atom ≤ A
   pub pool : header-size + record-size * A + at .pool ≤ length s
   pub source : at .source ≤ 20 * at .atom + 2 * at .pool

@@ -8,6 +8,7 @@ ghost use Rattle.pattern.specs.Numbers.{set-limit};
 ghost use Rattle.pattern.specs.Codes.{all-codes};
 ghost use Rattle.pattern.specs.Decode.{high-of};
 ghost use Rattle.pattern.specs.Print.{decimal, print-low, print-count, print-set};
+ghost use Rattle.table.specs.Headers.{length-bound};
 ghost use Rattle.table.specs.Leaves.{text-of};
 
 // How many codes four bits of a set stand for.
@@ -57,7 +58,7 @@ pub fn letters_length(set: u16) -> usize
 
 // A value's bytes, if they are from 32 to 126.
 pub fn text_length(v: &[u8]) -> TextLength
-    requires { ⌜ length (now v) < 70000 ⌝ }
+    requires { ⌜ length (now v) < length-bound ⌝ }
     ensures { λ r. ⌜ r ≡ text-of (now (v .entry)) ⌝ }
 {
     let mut n: usize = 0;
