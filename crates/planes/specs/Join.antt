@@ -2,7 +2,7 @@
 use mathlib.Core.Path.{_≡_}
 use mathlib.Core.Bool.{false}
 use mathlib.Core.List.{List}
-use Prim.Native.Nat.{ℕ, suc, _+_, _-_, _≤_}
+use Prim.Native.Nat.{ℕ, _+_, _≤_}
 use Rattle.pattern.specs.Decision.{join}
 use Rattle.pattern.specs.Trials.{joins}
 use Rattle.planes.specs.declared.join.Tally.{Tally}
