@@ -222,6 +222,7 @@ module _ (table : Bytes) (x : ℕ) (ok : AtomIn table x) where
     record-is =
         let c : head (node table x) ≡ repeat (r .low) (high-of (r .high)) (body-of (head (node table x))) = v .heads ∙ count-is ∙ ap (repeat (r .low) (high-of (r .high))) (sym inside-is) in
         record {
+          fields = got;
           count = c;
           fits = count-fits table x ok (r .low) (high-of (r .high)) _ c;
           is-codes = λ e. inside-is ∙ kinds-codes b (v .text) (sym kind-is ∙ e) ∙ ap codes (sym a-is);

@@ -7,8 +7,9 @@ use Rattle.pattern.specs.Numbers.{codes-kind, literal-kind, group-kind}
 use Rattle.pattern.specs.Bytes.{Bytes}
 use Rattle.pattern.specs.Syntax.{last, then, repeat, codes, literal, group, size}
 use Rattle.pattern.specs.Within.{Fits}
-use Rattle.pattern.specs.Decode.{high-of}
+use Rattle.pattern.specs.Decode.{layout, record-at, high-of}
 use Rattle.table.specs.declared.record.Record.{Record}
+use Rattle.table.specs.Fields.{record-of}
 use Rattle.atoms.specs.Atoms.{atoms, node, branches-from, head, body-of, AtomIn}
 
 -- atom x is a literal
@@ -34,8 +35,9 @@ pub record FollowedIn (table : Bytes) (x : ℕ) : Type 0 where
   pub is : node table x ≡ then (head (node table x)) (node table (x + size (head (node table x))))
   pub there : x + size (head (node table x)) < atoms table
 
--- r is the record of atom x
+-- r is the record of atom x, and what that says of the atom
 pub record RecordOf (table : Bytes) (x : ℕ) (r : Record) : Type 0 where
+  pub fields : r ≡ record-of (record-at table (layout table) x)
   pub count : head (node table x) ≡ repeat (r .low) (high-of (r .high)) (body-of (head (node table x)))
   pub fits : Fits (r .low) (high-of (r .high))
   pub is-codes : r .kind ≡ codes-kind → body-of (head (node table x)) ≡ codes (r .a)

@@ -188,10 +188,6 @@ module _ (table label scratch parts : Bytes) (t : Syntax pattern) (good : decode
   pub budgets-agree : (b c : ℕ) → trials label t ≤ b → trials label t ≤ c → matchOf table label scratch parts b ≡ matchOf table label scratch parts c
   budgets-agree b c h k = within-budget b h ∙ sym (within-budget c k)
 
-  -- a budget of the bound is always enough
-  pub bound-enough : (budget : ℕ) → trial-bound (size t) (length label) ≤ budget → matchOf table label scratch parts budget ≡ ended (decided (scratch-needed t (length label)) (trials label t) (verdict label t)) scratch parts
-  bound-enough budget h = within-budget budget (omega (arith, bound label t))
-
 -- ---- what a refused call leaves
 
 put-untouched : (b : Bool) (position : ℕ) (x lent : Bytes) → ¬ (put-if b position x lent .answer .number ≡ 0) → put-if b position x lent .bytes ≡ lent
@@ -304,16 +300,17 @@ match-number table label scratch parts budget =
     (λ number l h. inr (omega arith, omega arith)) (λ t d f h. inr (omega arith, omega arith)) (λ t d f h. inl (decided-reports (scratch-needed t (length label)) _ (verdict label t) scratch parts .number-zero))
 
 -- demand 1: scratch after a verdict or BUDGET
-pub match-zeroed : (table label scratch parts : Bytes) (budget : ℕ) (t : Syntax pattern) → decode table ≡ some t
+pub match-zeroed : (table label scratch parts : Bytes) (budget : ℕ)
     → (matchOf table label scratch parts budget .answer .number ≡ 0) ⊎ (matchOf table label scratch parts budget .answer .number ≡ BUDGET)
-    → matchOf table label scratch parts budget .scratch ≡ zeroed (scratch-needed t (length label)) scratch
+    → (t : Syntax pattern) × (decode table ≡ some t) × (matchOf table label scratch parts budget .scratch ≡ zeroed (scratch-needed t (length label)) scratch)
 unfolding matchOf ended
-match-zeroed table label scratch parts budget t d =
-    match-cases (λ e. ((ended e scratch parts .answer .number ≡ 0) ⊎ (ended e scratch parts .answer .number ≡ BUDGET)) → ended e scratch parts .scratch ≡ zeroed (scratch-needed t (length label)) scratch)
+match-zeroed table label scratch parts budget =
+    match-cases
+    (λ e. ((ended e scratch parts .answer .number ≡ 0) ⊎ (ended e scratch parts .answer .number ≡ BUDGET)) → (t : Syntax pattern) × (decode table ≡ some t) × (ended e scratch parts .scratch ≡ zeroed (scratch-needed t (length label)) scratch))
     (decode table) label scratch parts budget
     (λ f l h. ⊎-elim (λ z. absurd (omega arith)) (λ z. absurd (omega arith)))
-    (λ u g f h z. let e : u ≡ t = cc in ap (λ x. zeroed (scratch-needed x (length label)) scratch) e)
-    (λ u g f h z. let e : u ≡ t = cc in decided-reports (scratch-needed u (length label)) _ (verdict label u) scratch parts .used-zeroed ∙ ap (λ x. zeroed (scratch-needed x (length label)) scratch) e)
+    (λ t d f h z. (t, d, refl))
+    (λ t d f h z. (t, d, decided-reports (scratch-needed t (length label)) _ (verdict label t) scratch parts .used-zeroed))
 
 -- ---- the verdict of a call
 

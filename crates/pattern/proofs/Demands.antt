@@ -1,5 +1,5 @@
 -- The owner's three demands: the fields of each record are its sentences, in order, and each is given by its theorem. Assumes nothing.
-use mathlib.Core.Path.{_≡_, refl, ap}
+use mathlib.Core.Path.{_≡_, refl, ap, _∙_}
 use mathlib.Core.Logic.{_↔_, _⊎_, inl, inr, ⊎-elim}
 use mathlib.Core.List.{List}
 use mathlib.Core.Option.{none, some}
@@ -7,7 +7,7 @@ use Prim.Native.Nat.{ℕ, _*_, _≤_, _<_}
 use native.Mathlib.Omega.{arith}
 use lib.ListN.{length}
 use lib.Seq.{take-length}
-use Rattle.pattern.specs.Numbers.{source-limit, LONG, ROOM, TABLE, BUDGET}
+use Rattle.pattern.specs.Numbers.{source-limit, LONG, FORM, ROOM, TABLE, BUDGET}
 use Rattle.pattern.specs.Bytes.{Bytes, overwrite, zeroed}
 use Rattle.pattern.specs.Syntax.{pattern, Syntax, size, top-size}
 use Rattle.pattern.specs.Parts.{Partition, IsVerdict}
@@ -15,20 +15,24 @@ use Rattle.pattern.specs.Trials.{trials, trial-bound}
 use Rattle.pattern.specs.Grammar.{Derives}
 use Rattle.pattern.specs.Scan.{Outcome, refused, accepted, outcome}
 use Rattle.pattern.specs.Within.{Limited}
-use Rattle.pattern.specs.Faults.{Least}
+use Rattle.pattern.specs.Faults.{FormAt, rows-at, Applies, Least}
+use Rattle.pattern.specs.Print.{print}
 use Rattle.pattern.specs.Table.{encode}
 use Rattle.pattern.specs.Decode.{decode}
-use Rattle.pattern.specs.Answers.{refusal, result, compiled, compileOf, writeOf, scratch-needed, part-bytes, lent-fault, matchOf, result-bytes, Untouched, shown, MatchNumber}
+use Rattle.pattern.specs.Answers.{refusal, result, Output, compiled, compileOf, written-back, writeOf, scratch-needed, part-bytes, lent-fault, matchOf, result-bytes, Untouched, shown, MatchNumber}
 use Rattle.pattern.proofs.Longest.{partition-satisfies}
 use Rattle.pattern.proofs.Bound.{bound}
 use Rattle.pattern.proofs.Accepted.{accepted-exactly}
 use Rattle.pattern.proofs.Least.{refused-exactly}
-use Rattle.pattern.proofs.Calls.{write-compile, budgets-agree, within-reports, beyond-reports, verdict-exactly, count-bounded, compile-untouched, write-untouched, match-untouched, match-zeroed, scratch-ignored, compile-accepted, compile-zero, compile-number, write-number, match-number, match-verdict, match-parts}
+use Rattle.pattern.proofs.FormAt.{stops}
+use Rattle.pattern.proofs.RoundTrip.{good-exactly}
+use Rattle.pattern.proofs.Calls.{put-fits, put-short, write-compile, budgets-agree, within-reports, beyond-reports, verdict-exactly, count-bounded, compile-untouched, write-untouched, match-untouched, match-zeroed, scratch-ignored, compile-accepted, compile-zero, compile-number, write-number, match-number, match-verdict, match-parts}
 
 -- ---- demand 1: any bytes, a verdict or a numbered refusal
 
 pub record Demand1 : Type 0 where
-  -- "every call ends with a verdict or a numbered refusal": 0 or 1 to 8; 0, 8 or 11; 0 or 11 to 15
+  -- "Any bytes may be handed over", "and every call ends with a verdict or a numbered refusal": 0 or 1 to 8; 0, 8 or 11; 0 or 11 to 15.
+  -- "Nobody has to check anything first": no field asks anything of the bytes
   pub compiling-ends : (source table : Bytes) → compileOf source table .answer .number ≤ ROOM
   pub writing-ends : (table source : Bytes) → let n : ℕ = writeOf table source .answer .number in (n ≡ 0) ⊎ (n ≡ ROOM) ⊎ (n ≡ TABLE)
   pub matching-ends : (table label scratch parts : Bytes) (budget : ℕ) → MatchNumber (matchOf table label scratch parts budget .answer .number)
@@ -37,9 +41,9 @@ pub record Demand1 : Type 0 where
   pub writing-refused : (table source : Bytes) → ¬ (writeOf table source .answer .number ≡ 0) → writeOf table source .bytes ≡ source
   pub matching-refused : (table label scratch parts : Bytes) (budget : ℕ) → Untouched scratch parts (matchOf table label scratch parts budget)
   -- "when the budget runs out, the scratch bytes used are zeroed, as they are after a verdict"
-  pub scratch-zeroed : (table label scratch parts : Bytes) (budget : ℕ) (t : Syntax pattern) → decode table ≡ some t
+  pub scratch-zeroed : (table label scratch parts : Bytes) (budget : ℕ)
       → (matchOf table label scratch parts budget .answer .number ≡ 0) ⊎ (matchOf table label scratch parts budget .answer .number ≡ BUDGET)
-      → matchOf table label scratch parts budget .scratch ≡ zeroed (scratch-needed t (length label)) scratch
+      → (t : Syntax pattern) × (decode table ≡ some t) × (matchOf table label scratch parts budget .scratch ≡ zeroed (scratch-needed t (length label)) scratch)
 
 pub demand-1 : Demand1
 demand-1 = record {
@@ -60,17 +64,25 @@ pub record Demand2 : Type 0 where
       → compileOf source table ≡ record { answer = result (length (encode t)) 0; bytes = overwrite (encode t) table }
   pub accepts-only : (source table : Bytes) → compileOf source table .answer .number ≡ 0
       → (t : Syntax pattern) × (length source ≤ source-limit) × Derives t source × Limited t × (length (encode t) ≤ length table)
-  -- "and otherwise names the fault and its position": LONG, else the least of the faults that are there
+  -- "and otherwise names the fault and its position": LONG, else the least of the faults that are there, else ROOM;
+  -- FORM stands where no pattern goes on
   pub names-long : (source table : Bytes) → source-limit < length source → compileOf source table .answer ≡ refusal LONG source-limit
   pub names : (source table : Bytes) (f p : ℕ) → length source ≤ source-limit → Least source (refused f p) → compileOf source table .answer ≡ refusal f p
   pub accepted-or-named : (source : Bytes) → length source ≤ source-limit → ((t : Syntax pattern) × Derives t source × Limited t) ⊎ ((f : ℕ) × (p : ℕ) × Least source (refused f p))
+  pub names-form : (source : Bytes) (p : ℕ) → p ≤ length source → Applies (rows-at source p) FORM ↔ FormAt source p
+  pub names-room : (source table : Bytes) (t : Syntax pattern) → length source ≤ source-limit → Derives t source → Limited t → length table < length (encode t)
+      → compileOf source table .answer ≡ refusal ROOM (length source)
+  -- a table is what some accepted source compiles to
+  pub tables-exactly : (table : Bytes) (t : Syntax pattern) → (decode table ≡ some t) ↔ ((source : Bytes) × (outcome source ≡ accepted t) × (encode t ≡ table))
   -- "A table written back as source compiles to that same table"
+  pub writes-back : (table source : Bytes) (t : Syntax pattern) → decode table ≡ some t → length (print t) ≤ length source
+      → writeOf table source ≡ record { answer = result (length (print t)) 0; bytes = overwrite (print t) source }
   pub written-compiles : (table source room : Bytes) → writeOf table source .answer .number ≡ 0 → length table ≤ length room
       → compileOf (result-bytes (writeOf table source)) room ≡ record { answer = result (length table) 0; bytes = overwrite table room }
   -- "The verdict is yes exactly when the standard's partition of the label exists"
   pub yes-exactly : (table label scratch parts : Bytes) (t : Syntax pattern) → decode table ≡ some t → lent-fault t label scratch parts ≡ none → (budget : ℕ) → trials label t ≤ budget
       → (matchOf table label scratch parts budget .answer .value ≡ 1) ↔ ((ends : List ℕ) × Partition label t 0 ends)
-  -- "and the parts shown are the longest-first one"
+  -- "and the parts shown are the longest-first one: the first atom takes as much as any partition gives it, then the second, and so on"
   pub longest-first : (table label scratch parts : Bytes) (t : Syntax pattern) → decode table ≡ some t → lent-fault t label scratch parts ≡ none → (budget : ℕ) → trials label t ≤ budget
       → matchOf table label scratch parts budget .answer .value ≡ 1
       → (ends : List ℕ) × IsVerdict label t (some ends) × (length (part-bytes ends) ≡ 2 * top-size t) × (matchOf table label scratch parts budget .parts ≡ overwrite (part-bytes ends) parts)
@@ -78,6 +90,17 @@ pub record Demand2 : Type 0 where
 named : (source table : Bytes) (f p : ℕ) → outcome source ≡ refused f p → compileOf source table .answer ≡ refusal f p
 unfolding compileOf compiled
 named source table f p e = ap (λ o. compiled o source table .answer) e
+
+room-named : (source table : Bytes) (t : Syntax pattern) → length source ≤ source-limit → Derives t source → Limited t → length table < length (encode t)
+    → compileOf source table .answer ≡ refusal ROOM (length source)
+unfolding compileOf compiled
+room-named source table t l h g r =
+    ap (λ o. compiled o source table .answer) (accepted-exactly source t .1 (l, h, g)) ∙ ap (λ (o : Output). o .answer) (put-short (length source) (encode t) table r)
+
+written-whole : (table source : Bytes) (t : Syntax pattern) → decode table ≡ some t → length (print t) ≤ length source
+    → writeOf table source ≡ record { answer = result (length (print t)) 0; bytes = overwrite (print t) source }
+unfolding writeOf written-back
+written-whole table source t d h = ap (λ o. written-back o source) d ∙ put-fits 0 (print t) source h
 
 accepted-or-least : (source : Bytes) → length source ≤ source-limit → (o : Outcome) → outcome source ≡ o → ((t : Syntax pattern) × Derives t source × Limited t) ⊎ ((f : ℕ) × (p : ℕ) × Least source (refused f p))
 accepted-or-least source l (accepted t) e = let (x, h, g) = accepted-exactly source t .0 e in inl (t, h, g)
@@ -98,6 +121,10 @@ demand-2 = record {
   names-long = λ source table h. named source table LONG source-limit (refused-exactly source LONG source-limit .1 (inl (h, refl, refl)));
   names = λ source table f p l h. named source table f p (refused-exactly source f p .1 (inr (l, h)));
   accepted-or-named = λ source l. accepted-or-least source l (outcome source) refl;
+  names-form = stops;
+  names-room = room-named;
+  tables-exactly = good-exactly;
+  writes-back = written-whole;
   written-compiles = write-compile;
   yes-exactly = partition-exists;
   longest-first = match-parts;
@@ -109,7 +136,7 @@ demand-2 = record {
 pub record Demand3 (table label scratch parts : Bytes) (t : Syntax pattern) (good : decode table ≡ some t) (lent : lent-fault t label scratch parts ≡ none) : Type 0 where
   -- "whatever bytes the scratch held before"
   pub any-scratch : (other : Bytes) (budget : ℕ) → length scratch ≡ length other → shown (matchOf table label scratch parts budget) ≡ shown (matchOf table label other parts budget)
-  -- "the match makes at most A x (n+1) x (n+1) x (n+2) x (n+3) / 6 trials"
+  -- "however groups nest, whatever the repeat numbers", "the match makes at most A x (n+1) x (n+1) x (n+2) x (n+3) / 6 trials"
   pub at-most : (budget : ℕ) → matchOf table label scratch parts budget .answer .trials ≤ trial-bound (size t) (length label)
   -- "The number reported with a verdict is the count that the paper defines for that table and label"
   pub reported : (budget : ℕ) → matchOf table label scratch parts budget .answer .number ≡ 0 → matchOf table label scratch parts budget .answer .trials ≡ trials label t

@@ -1,8 +1,6 @@
 // Where a table has what. That these are the numbers of the paper is part of the proofs of those who read and write it.
 ghost use mathlib.Core.Path.{_≡_};
-ghost use mathlib.Core.List.{[], _++_};
-ghost use Rattle.pattern.specs.Numbers.{mark, version};
-ghost use Rattle.pattern.specs.Bytes.{le16};
+ghost use Rattle.table.specs.Headers.{first-bytes};
 
 // The places of the number of atoms and of the pool's length in the header.
 pub const ATOMS_PLACE: usize = 5;
@@ -18,7 +16,7 @@ const MARK: [u8; ATOMS_PLACE] = *b"MPT\x01\x00";
 
 // The first bytes of every table.
 pub fn first_bytes() -> [u8; ATOMS_PLACE]
-    ensures { λ r. ⌜ r ≡ mark ++ le16 version [] ⌝ }
+    ensures { λ r. ⌜ r ≡ first-bytes ⌝ }
 {
     MARK
 }
