@@ -6,6 +6,7 @@ use Prim.Native.Nat.{ℕ, zero, suc, _+_, _-_, _≤_, _<_}
 use native.Mathlib.Omega.{arith}
 use lib.ListN.{length, getD, take, drop, length-append, length-drop}
 use lib.Seq.{getD-drop, take-append-seam}
+use Rattle.pattern.specs.Numbers.{codes-kind, group-kind, literal-kind}
 use Rattle.pattern.specs.Bytes.{Bytes}
 use Rattle.pattern.specs.Syntax.{pattern, atom, body, branches, Syntax, last, then, repeat, codes, literal, group, only, or, size, nodes}
 use Rattle.pattern.specs.Table.{pool, branch-count, kind-field, a-field, b-field, rec, records}
@@ -124,19 +125,19 @@ module _ (table : Bytes) (x : ℕ) (ok : AtomIn table x) where
 
 -- ---- what the fields say
 
-kinds-leaf : (b : Syntax body) → (kind-field b ≡ 3 → ⊥) → size b ≡ 0
+kinds-leaf : (b : Syntax body) → (kind-field b ≡ group-kind → ⊥) → size b ≡ 0
 unfolding kind-field size
 kinds-leaf (codes set) n = refl
 kinds-leaf (literal value) n = refl
 kinds-leaf (group bs) n = absurd (n refl)
 
-kinds-codes : (b : Syntax body) (p : ℕ) → kind-field b ≡ 1 → b ≡ codes (a-field b p)
+kinds-codes : (b : Syntax body) (p : ℕ) → kind-field b ≡ codes-kind → b ≡ codes (a-field b p)
 unfolding kind-field a-field
 kinds-codes (codes set) p e = refl
 kinds-codes (literal value) p e = absurd (omega arith)
 kinds-codes (group bs) p e = absurd (omega arith)
 
-kinds-literal : (b : Syntax body) → kind-field b ≡ 2 → b ≡ literal (pool b)
+kinds-literal : (b : Syntax body) → kind-field b ≡ literal-kind → b ≡ literal (pool b)
 unfolding kind-field pool
 kinds-literal (codes set) e = absurd (omega arith)
 kinds-literal (literal value) e = refl
@@ -147,7 +148,7 @@ literal-fields : (b : Syntax body) (v : Bytes) (i p : ℕ) → b ≡ literal v �
 unfolding a-field b-field pool
 literal-fields b v i p e = (ap pool e, ap (λ (y : Syntax body). a-field y p) e, ap (λ (y : Syntax body). b-field y i) e)
 
-kinds-group : (b : Syntax body) (i p : ℕ) → (kind-field b ≡ 1 → ⊥) → (kind-field b ≡ 2 → ⊥)
+kinds-group : (b : Syntax body) (i p : ℕ) → (kind-field b ≡ codes-kind → ⊥) → (kind-field b ≡ literal-kind → ⊥)
     → (bs : Syntax branches) × (b ≡ group bs) × (a-field b p ≡ branch-count bs) × (b-field b i ≡ suc i + size b) × (size b ≡ size bs)
 unfolding kind-field a-field b-field size
 kinds-group (codes set) i p n m = absurd (n refl)
@@ -202,7 +203,7 @@ module _ (table : Bytes) (x : ℕ) (ok : AtomIn table x) where
         let f = count-fits table x ok (v .low) (v .high) b (v .heads) in
         ap₂ (λ (k : ℕ) (h : Option ℕ). repeat k h b) (sym (ap (λ (z : Record). z .low) said)) (sym (ap (λ (z : Record). high-of (z .high)) said ∙ high-again (v .high) (f .1)))
 
-    group-is : (r .kind ≡ 1 → ⊥) → (r .kind ≡ 2 → ⊥) → GroupIn table x (r .a)
+    group-is : (r .kind ≡ codes-kind → ⊥) → (r .kind ≡ literal-kind → ⊥) → GroupIn table x (r .a)
     group-is n m =
         let (bs, e, a, c, z) = kinds-group b x (v .text) (λ k. n (kind-is ∙ k)) (λ k. m (kind-is ∙ k)) in
         let (some, q, l) = at-branches table bs (x + 1) (at-group bs e (v .inner)) (r .a) (a-is ∙ a) in
@@ -213,7 +214,7 @@ module _ (table : Bytes) (x : ℕ) (ok : AtomIn table x) where
           within = subst (λ (y : Syntax branches). x + 1 + size y ≤ atoms table) q l;
         }
 
-    next-group-is : r .kind ≡ 3 → r .b ≡ x + size (head (node table x))
+    next-group-is : r .kind ≡ group-kind → r .b ≡ x + size (head (node table x))
     next-group-is e =
         let (bs, q, a, c, z) = kinds-group b x (v .text) (λ k. omega (arith, kind-is)) (λ k. omega (arith, kind-is)) in
         omega (arith, b-is, c, size-is)

@@ -1,4 +1,4 @@
--- The atoms of a good table, by the index of their records. Private: a model for this crate's contracts.
+-- The atoms of a good table, by the index of their records. Private: a model for contracts inside the library.
 use mathlib.Core.Path.{_≡_}
 use mathlib.Core.Option.{some}
 use Prim.Native.Nat.{ℕ, zero, suc, _+_, _<_}

@@ -1,4 +1,4 @@
--- What the record of an atom says of it, in a good table. Private: a model for this crate's contracts.
+-- What the record of an atom says of it, in a good table. Private: a model for contracts inside the library.
 use mathlib.Core.Path.{_≡_}
 use Prim.Native.Nat.{ℕ, suc, _+_, _-_, _≤_, _<_}
 use lib.ListN.{length}

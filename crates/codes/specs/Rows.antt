@@ -1,4 +1,4 @@
--- The rows of the code's own table of codes. Private: a model for this crate's contracts.
+-- The rows of the code's own table of codes. Private: a model for contracts inside the library.
 use mathlib.Core.Bool.{Bool, _||_}
 use mathlib.Core.List.{List, [], map}
 use Prim.Native.Nat.{ℕ}

@@ -1,4 +1,4 @@
--- What the readers of atoms, patterns and groups promise: two scans are equal, and the buffers hold the records and the text of the tree between. Private: a model for this crate's contracts.
+-- What the readers of atoms, patterns and groups promise: two scans are equal, and the buffers hold the records and the text of the tree between. Private: a model for contracts inside the library.
 use mathlib.Core.Path.{_≡_}
 use mathlib.Core.List.{List, [], _∷_}
 use mathlib.Core.Option.{Option}

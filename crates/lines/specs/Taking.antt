@@ -1,4 +1,4 @@
--- What taking a line out of a chunk promises. Private: a model for this crate's contracts.
+-- What taking a line out of a chunk promises. Private: a model for contracts inside the library.
 use mathlib.Core.Path.{_≡_}
 use mathlib.Core.Bool.{Bool, true, false}
 use mathlib.Core.List.{[], _∷_}

@@ -190,8 +190,8 @@ module _ (table label s₀ : Bytes) (w temp budget : ℕ) (ok : StepPre table la
       one : suc (x - 1) ≡ x
       one = omega arith
 
-      pub all-bodying : FillBodyPre table label s w temp (x - 1)
-      all-bodying = record {
+      pub all-fill-body : FillBodyPre table label s w temp (x - 1)
+      all-fill-body = record {
         work = work-long (inv .long) ok;
         temp-is = temp-is;
         there = omega (arith, inv .there);

@@ -4,6 +4,7 @@ use mathlib.Core.Bool.{Bool, true, false, _||_}
 use Prim.Native.Nat.{ℕ, suc, _+_, _-_, _*_, _≤_, _<_}
 use native.Mathlib.Omega.{arith}
 use lib.ListN.{length}
+use Rattle.pattern.specs.Numbers.{codes-kind}
 use Rattle.pattern.specs.Bytes.{Bytes}
 use Rattle.pattern.specs.Syntax.{pattern, body, branches, Syntax, group, only, or, size}
 use Rattle.pattern.specs.Decision.{Rel, decide}
@@ -47,7 +48,7 @@ module _ (table label s : Bytes) (w temp x : ℕ) (ok : FillBodyPre table label 
   pub body-fill : (content : Content) → Fit table content → FillPre table label s w content temp
   body-fill content f = record { wide = ok .work .wide; fit = f; into = body-blank .1 }
 
-  pub body-codes : {s′ : Bytes} {r : Record} → RecordOf table x r → r .kind ≡ 1 → FillPost table label s s′ w (Codes (r .a)) temp → FillBodyPost table label s s′ w temp x
+  pub body-codes : {s′ : Bytes} {r : Record} → RecordOf table x r → r .kind ≡ codes-kind → FillPost table label s s′ w (Codes (r .a)) temp → FillBodyPost table label s s′ w temp x
   unfolding held-in decide
   body-codes got e f = let z = got .is-codes e in record { plane = plane-same (f .plane) (λ i j hi hj. rw z); kept = f .kept }
 

@@ -89,8 +89,8 @@ module _ (table label scratch lent : Bytes) (count : ℕ) (ok : RunPre table lab
           plane-on (got .whole e .rest 0 (omega arith) (omega (arith, some-pattern t))) 0 (length label) (omega arith) (omega arith)
           ∙ ap (λ (p : Syntax pattern). decide label p 0 (length label)) (node-first table)
 
-      pub run-parting : WritePartsPre table label s w lent
-      run-parting = record { work = work-long long run-work; settled = got .whole e; fits = ok .fits }
+      pub run-write-parts : WritePartsPre table label s w lent
+      run-write-parts = record { work = work-long long run-work; settled = got .whole e; fits = ok .fits }
 
       pub run-yes : on s w 1 0 (length label) ≡ true → (lent′ : Bytes) → WritePartsPost table label lent lent′ → (s′ : Bytes) → s′ ≡ zeroed len s
           → _≡_ {A = Outcome} record { answer = result 1 (r .trials); scratch = s′; parts = lent′ } (ended (unrefused table label budget) scratch lent)

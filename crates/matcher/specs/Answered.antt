@@ -21,6 +21,6 @@ answer-of budget (Yes trials) = result 1 trials
 abbrev pub match-output : (budget : ℕ) → Matched → (scratch parts : Bytes) → MatchOutput
 match-output budget r scratch parts = record { answer = answer-of budget r; scratch = scratch; parts = parts }
 
--- what `match_label` promises of its answer, and of scratch and parts afterwards
+-- what `match_good` and `match_label` promise of their answer, and of scratch and parts afterwards
 abbrev pub MatchPost : (table label scratch parts : Bytes) → (budget : ℕ) → Matched → (scratch′ parts′ : Bytes) → Type 0
 MatchPost table label scratch parts budget r scratch′ parts′ = match-output budget r scratch′ parts′ ≡ matchOf table label scratch parts budget

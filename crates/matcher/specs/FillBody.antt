@@ -1,4 +1,4 @@
--- What filling the plane of an atom's body asks and promises. Private: a model for this crate's contracts.
+-- What filling the plane of an atom's body asks and promises. Private: a model for contracts inside the library.
 use mathlib.Core.Path.{_≡_}
 use Prim.Native.Nat.{ℕ, suc, _+_, _*_, _<_}
 use Rattle.pattern.specs.Bytes.{Bytes}

@@ -1,4 +1,4 @@
--- A match that nothing but the budget can refuse: what it asks, and how it ends. Private: a model for this crate's contracts.
+-- A match that nothing but the budget can refuse: what it asks, and how it ends. Private: a model for contracts inside the library.
 use mathlib.Core.Path.{_≡_}
 use mathlib.Core.Option.{none}
 use Prim.Native.Nat.{ℕ, _*_, _≤_}

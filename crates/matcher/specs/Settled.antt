@@ -1,4 +1,4 @@
--- What every step of a match asks, and the planes that hold their relations. Private: a model for this crate's contracts.
+-- What every step of a match asks, and the planes that hold their relations. Private: a model for contracts inside the library.
 use mathlib.Core.Path.{_≡_}
 use Prim.Native.Nat.{ℕ, _+_, _*_, _≤_, _<_}
 use lib.ListN.{length}

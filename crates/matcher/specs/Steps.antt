@@ -1,4 +1,4 @@
--- What settling the planes of an atom, and of all atoms, asks and promises. Private: a model for this crate's contracts.
+-- What settling the planes of an atom, and of all atoms, asks and promises. Private: a model for contracts inside the library.
 use mathlib.Core.Path.{_≡_}
 use mathlib.Core.Bool.{false}
 use Prim.Native.Nat.{ℕ, suc, _+_, _*_, _<_}

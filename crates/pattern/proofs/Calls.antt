@@ -26,7 +26,7 @@ use Rattle.pattern.specs.Table.{encode}
 use Rattle.pattern.specs.Decode.{decode}
 use Rattle.pattern.specs.Answers.{Answer, refusal, result, put-if, put, compiled, compileOf, written-back, writeOf, MatchOutput, scratch-needed, part-bytes, lent-fault, Ending, untried, exhausted, decided, ended, ending, match-ending, matchOf, result-bytes, MatchNumber, Untouched, shown}
 use Rattle.pattern.proofs.Tests.{le-or-lt, if-true, if-false}
-use Rattle.pattern.proofs.Longest.{partition-satisfies, verdict-means, verdict-length, part-bytes-length}
+use Rattle.pattern.proofs.Longest.{partition-satisfies, verdict-is, verdict-length, part-bytes-length}
 use Rattle.pattern.proofs.Bound.{bound}
 use Rattle.pattern.proofs.Accepted.{accepted-exactly}
 use Rattle.pattern.proofs.TableRows.{refuse-applies, row-number}
@@ -68,7 +68,7 @@ module _ (table : Bytes) (t : Syntax pattern) (good : decode table ≡ some t) w
   pub verdict-right : (label : Bytes) → IsVerdict label t (verdict label t)
   verdict-right label =
       let (n, h, g) = accepted-exactly (print t) t .0 print-accepted in
-      verdict-means label t (good-ordered 0 t (g .tree))
+      verdict-is label t (good-ordered 0 t (g .tree))
 
 -- ---- writing back
 

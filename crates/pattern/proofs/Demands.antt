@@ -1,4 +1,4 @@
--- The owner's three demands: the fields of each record are its sentences, in order, and each is given by its theorem. Assumes nothing.
+-- The owner's three demands: the fields of each record say its sentences, in order, and each is given by its theorem. Assumes nothing.
 use mathlib.Core.Path.{_≡_, refl, ap, _∙_}
 use mathlib.Core.Logic.{_↔_, _⊎_, inl, inr, ⊎-elim}
 use mathlib.Core.List.{List}
@@ -137,6 +137,7 @@ pub record Demand3 (table label scratch parts : Bytes) (t : Syntax pattern) (goo
   -- "whatever bytes the scratch held before"
   pub any-scratch : (other : Bytes) (budget : ℕ) → length scratch ≡ length other → shown (matchOf table label scratch parts budget) ≡ shown (matchOf table label other parts budget)
   -- "however groups nest, whatever the repeat numbers", "the match makes at most A x (n+1) x (n+1) x (n+2) x (n+3) / 6 trials"
+  pub makes-at-most : trials label t ≤ trial-bound (size t) (length label)
   pub at-most : (budget : ℕ) → matchOf table label scratch parts budget .answer .trials ≤ trial-bound (size t) (length label)
   -- "The number reported with a verdict is the count that the paper defines for that table and label"
   pub reported : (budget : ℕ) → matchOf table label scratch parts budget .answer .number ≡ 0 → matchOf table label scratch parts budget .answer .trials ≡ trials label t
@@ -153,6 +154,7 @@ module _ (table label scratch parts : Bytes) (t : Syntax pattern) (good : decode
   pub demand-3 : Demand3 table label scratch parts t good lent
   demand-3 = record {
     any-scratch = λ other budget e. scratch-ignored table label scratch other parts budget e;
+    makes-at-most = bound label t;
     at-most = count-bounded table label scratch parts t good lent;
     reported = λ budget e. within-reports table label scratch parts t good lent budget (verdict-exactly table label scratch parts t good lent budget .0 e);
     exactly-within = verdict-exactly table label scratch parts t good lent;

@@ -79,9 +79,9 @@ module _ (l : Bytes) where
       rw e (⊎-elim (λ x. inr (x, rw x at (parts-longest p (o .1) m rest q))) inl (eq-or-lt-of-le f))
 
   -- the verdict is no just where the label does not satisfy the pattern, and else its greatest partition
-  pub verdict-means : (p : Syntax pattern) → Ordered p → IsVerdict l p (verdict l p)
+  pub verdict-is : (p : Syntax pattern) → Ordered p → IsVerdict l p (verdict l p)
   unfolding IsVerdict verdict
-  verdict-means p o = go (decide l p 0 (length l)) (rw take-length at (agree {l = l} p o .on 0 (length l) (omega arith) (omega arith)))
+  verdict-is p o = go (decide l p 0 (length l)) (rw take-length at (agree {l = l} p o .on 0 (length l) (omega arith) (omega arith)))
     where
       go : (b : Bool) → Decides b (Satisfies p l) → IsVerdict l p (elim b [ true ↦ some (parts l p 0) | false ↦ none ])
       go true e = (parts-fit p o 0 (omega arith) (rw take-length (e .sound tt)), parts-longest p o 0)
@@ -99,12 +99,12 @@ lex-antisym (x ∷ xs) (y ∷ ys) (inr h) (inl k) = absurd (omega arith)
 lex-antisym (x ∷ xs) (y ∷ ys) (inr (e, h)) (inr (f, k)) = cc (lex-antisym xs ys h k)
 
 -- only one verdict is right
-pub means-one : (l : Bytes) (p : Syntax pattern) (u v : Option (List ℕ)) → IsVerdict l p u → IsVerdict l p v → u ≡ v
+pub one-verdict : (l : Bytes) (p : Syntax pattern) (u v : Option (List ℕ)) → IsVerdict l p u → IsVerdict l p v → u ≡ v
 unfolding IsVerdict
-means-one l p none none h k = refl
-means-one l p none (some y) h k = absurd (h (rw take-length at (partition-satisfies l p 0 y (k .0))))
-means-one l p (some x) none h k = absurd (k (rw take-length at (partition-satisfies l p 0 x (h .0))))
-means-one l p (some x) (some y) h k = ap some (lex-antisym x y (k .1 x (h .0)) (h .1 y (k .0)))
+one-verdict l p none none h k = refl
+one-verdict l p none (some y) h k = absurd (h (rw take-length at (partition-satisfies l p 0 y (k .0))))
+one-verdict l p (some x) none h k = absurd (k (rw take-length at (partition-satisfies l p 0 x (h .0))))
+one-verdict l p (some x) (some y) h k = ap some (lex-antisym x y (k .1 x (h .0)) (h .1 y (k .0)))
 
 -- ---- the parts as they are written
 

@@ -32,10 +32,10 @@ unfolding size
 some-pattern (last a) = some-atom a
 some-pattern (then a q) = omega (arith, some-atom a)
 
-pub some-choice : (bs : Syntax branches) → 0 < branch-count bs
+pub some-branch : (bs : Syntax branches) → 0 < branch-count bs
 unfolding branch-count
-some-choice (only q) = omega arith
-some-choice (or q bs) = omega arith
+some-branch (only q) = omega arith
+some-branch (or q bs) = omega arith
 
 pub high-again : (h : Option ℕ) → Small h → high-of (high-field h) ≡ h
 unfolding high-of Small
@@ -99,7 +99,7 @@ module _ (s : Bytes) (l : Layout) where
   branches-or q bs e r u zero i p n h = absurd (omega (arith, some-pattern q))
   branches-or q bs e r u (suc f) i p n h =
       let (x, y) = or-there e q bs h in
-      if-false _ _ _ (ne-eqb (suc (branch-count bs)) 1 (λ k. omega (arith, some-choice bs))) ∙ ap (λ b. or b (branches-at s l f (branch-count bs) (i + size b))) (r f i p (omega arith) x) ∙ ap (or q) (u f (i + size q) (p + length (pool q)) (omega (arith, some-pattern q)) y)
+      if-false _ _ _ (ne-eqb (suc (branch-count bs)) 1 (λ k. omega (arith, some-branch bs))) ∙ ap (λ b. or b (branches-at s l f (branch-count bs) (i + size b))) (r f i p (omega arith) x) ∙ ap (or q) (u f (i + size q) (p + length (pool q)) (omega (arith, some-pattern q)) y)
 
   reads : {o : Sort} (d : ℕ) (t : Syntax o) (e : ℕ) → InLimits d t → Reads o t e
   unfolding InLimits

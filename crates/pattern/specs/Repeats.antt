@@ -1,4 +1,4 @@
--- The repeat count that two 16-bit numbers stand for. Private: a model for this crate's contracts.
+-- The repeat count that two 16-bit numbers stand for. Private: a model for contracts inside the library.
 use mathlib.Core.Option.{Option}
 use Prim.Native.Nat.{ℕ}
 use Rattle.pattern.specs.Table.{high-field}

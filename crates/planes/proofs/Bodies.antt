@@ -19,11 +19,11 @@ use Rattle.planes.proofs.Relations.{join-same, joins-same}
 use Rattle.planes.proofs.Counting.{Counting, count-start, count-step, count-stop, count-end}
 
 module _ (s : List ℕ) (w from out : ℕ) where
-  pub gather-taken : (low k : ℕ) → low ≤ k → (s′ : List ℕ) → AddPost s s′ w from out → AddFromPost s s′ w from out low k
-  gather-taken low k h s′ got = record { plane = plane-same (got .plane) (λ i j hi hj. rw (le-leb low k h)); kept = got .kept }
+  pub add-from-taken : (low k : ℕ) → low ≤ k → (s′ : List ℕ) → AddPost s s′ w from out → AddFromPost s s′ w from out low k
+  add-from-taken low k h s′ got = record { plane = plane-same (got .plane) (λ i j hi hj. rw (le-leb low k h)); kept = got .kept }
 
-  pub gather-left : AddPre s w from out → (low k : ℕ) → k < low → AddFromPost s s w from out low k
-  gather-left ok low k h = record { plane = plane-same (ok .into .flags) (λ i j hi hj. rw (lt-leb low k h)); kept = kept-all s w (out + 1) (Others out) }
+  pub add-from-left : AddPre s w from out → (low k : ℕ) → k < low → AddFromPost s s w from out low k
+  add-from-left ok low k h = record { plane = plane-same (ok .into .flags) (λ i j hi hj. rw (lt-leb low k h)); kept = kept-all s w (out + 1) (Others out) }
 
 -- where k bodies are made, and out has those of fewer than o
 pub record RepeatBodyAt (s₀ : List ℕ) (w temp out low times budget trials : ℕ) (s : List ℕ) (spent from to k o : ℕ) : Type 0 where

@@ -1,4 +1,4 @@
--- A count of trials that stops at the budget, and says so. Private: a model for this crate's contracts.
+-- A count of trials that stops at the budget, and says so. Private: a model for contracts inside the library.
 use mathlib.Core.Path.{_≡_}
 use mathlib.Core.Bool.{Bool}
 use Prim.Native.Nat.{ℕ, min}

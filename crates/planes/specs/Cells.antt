@@ -1,4 +1,4 @@
--- Planes of w x w bytes, one after another in a list: cell (p, i, j) is the byte at (p * w + i) * w + j. A plane says twice of each stretch i to j whether it is in its relation, in row i and in row j, so that a search over ends runs along two rows. Private: a model for this crate's contracts.
+-- Planes of w x w bytes, one after another in a list: cell (p, i, j) is the byte at (p * w + i) * w + j. A plane says twice of each stretch i to j whether it is in its relation, in row i and in row j, so that a search over ends runs along two rows. Private: a model for contracts inside the library.
 use mathlib.Core.Path.{_≡_}
 use mathlib.Core.Bool.{Bool, cond, not}
 use mathlib.Core.List.{List}

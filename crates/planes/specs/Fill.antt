@@ -1,4 +1,4 @@
--- Planes that need no trial: their relations, and what filling them asks and promises. Private: a model for this crate's contracts.
+-- Planes that need no trial: their relations, and what filling them asks and promises. Private: a model for contracts inside the library.
 use mathlib.Core.Path.{_≡_}
 use mathlib.Core.List.{List}
 use Prim.Native.Nat.{ℕ, _+_, _≤_}

@@ -1,4 +1,4 @@
--- What a join of two planes asks and promises. Private: a model for this crate's contracts.
+-- What a join of two planes asks and promises. Private: a model for contracts inside the library.
 use mathlib.Core.Path.{_≡_}
 use mathlib.Core.Bool.{false}
 use mathlib.Core.List.{List}

@@ -1,4 +1,4 @@
--- Powers of a body: what the loop over the number of bodies asks and promises. Private: a model for this crate's contracts.
+-- Powers of a body: what the loop over the number of bodies asks and promises. Private: a model for contracts inside the library.
 use mathlib.Core.Path.{_≡_}
 use mathlib.Core.Bool.{false, _&&_, _||_}
 use mathlib.Core.List.{List}

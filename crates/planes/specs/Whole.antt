@@ -1,4 +1,4 @@
--- Planes emptied and added to one another: what is asked and promised. Private: a model for this crate's contracts.
+-- Planes emptied and added to one another: what is asked and promised. Private: a model for contracts inside the library.
 use mathlib.Core.Bool.{false, _||_}
 use mathlib.Core.List.{List}
 use Prim.Native.Nat.{ℕ, _+_, _≤_}

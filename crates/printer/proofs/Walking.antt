@@ -4,7 +4,7 @@ use mathlib.Core.List.{[], _∷_, _++_, append-assoc, append-nil}
 use Prim.Native.Nat.{ℕ, zero, suc, _+_, _-_, _<_, _≤_}
 use native.Mathlib.Omega.{arith}
 use lib.ListN.{length, set, take, drop, length-append, length-set}
-use Rattle.pattern.specs.Numbers.{quote-byte, opening-byte, closing-byte, comma-byte}
+use Rattle.pattern.specs.Numbers.{quote-byte, opening-byte, closing-byte, comma-byte, codes-kind, group-kind, literal-kind}
 use Rattle.pattern.specs.Bytes.{Bytes}
 use Rattle.pattern.specs.Codes.{all-codes}
 use Rattle.pattern.specs.Syntax.{pattern, atom, body, branches, Syntax, last, then, repeat, codes, literal, group, only, or, size}
@@ -172,12 +172,12 @@ module _ {table out : Bytes} {x n : ℕ} {r : Record} {out₁ : Bytes} {m : ℕ}
   body-puts : {v out₂ : Bytes} {z : ℕ} → print b ≡ v → Puts out₁ m v out₂ z → Puts out n (print (head (node table x))) out₂ z
   body-puts e p = puts-as (puts-then (g .puts) p) (sym (print-atom r b (g .got .count) ∙ ap (λ (y : Bytes). count-of r ++ y) e))
 
-  leaf-post : {v out₂ : Bytes} {z : ℕ} → (r .kind ≡ 3 → ⊥) → print b ≡ v → Puts out₁ m v out₂ z
+  leaf-post : {v out₂ : Bytes} {z : ℕ} → (r .kind ≡ group-kind → ⊥) → print b ≡ v → Puts out₁ m v out₂ z
       → WritePost (print (head (node table x))) (x + size (head (node table x))) out n (record { atom = x + 1; at = z }) out₂
   leaf-post k e p = record { puts = body-puts e p; next = omega (arith, g .got .next-leaf k) }
 
   -- codes
-  module _ (k : r .kind ≡ 1) where
+  module _ (k : r .kind ≡ codes-kind) where
     pub letters-room : m + length (print-set all-codes (r .a)) ≤ length out₁
     letters-room = body-room _ (print-codes _ (g .got .is-codes k))
 
@@ -186,7 +186,7 @@ module _ {table out : Bytes} {x n : ℕ} {r : Record} {out₁ : Bytes} {m : ℕ}
     letters-post = leaf-post (λ e. omega arith) (print-codes _ (g .got .is-codes k))
 
   -- a literal, as the code cuts it out of the table
-  module _ (k : r .kind ≡ 2) {from len : ℕ} (v : LiteralAt table x from len) where
+  module _ (k : r .kind ≡ literal-kind) {from len : ℕ} (v : LiteralAt table x from len) where
     abbrev value : Bytes
     value = take (from + len - from) (drop from table)
 

@@ -1,4 +1,4 @@
--- What the walk that writes asks and promises. Private: a model for this crate's contracts.
+-- What the walk that writes asks and promises. Private: a model for contracts inside the library.
 use mathlib.Core.Path.{_≡_}
 use Prim.Native.Nat.{ℕ, _+_, _-_, _≤_, _<_}
 use lib.ListN.{length}

@@ -1,4 +1,4 @@
--- The bytes that each text of a reply needs at most. Private: a model for this crate's contracts.
+-- The bytes that each text of a reply needs at most. Private: a model for contracts inside the library.
 use Prim.Native.Nat.{ℕ, _+_}
 
 -- a 64-bit number in decimal

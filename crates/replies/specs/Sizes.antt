@@ -8,7 +8,7 @@ line-limit = 1024
 
 -- of a line no more is held: enough to see that it is too long
 abbrev pub held-limit : ℕ
-held-limit = 1025
+held-limit = line-limit + 1
 
 -- "it lends 65,536 scratch bytes, a budget of 10,000,000"
 abbrev pub scratch-size : ℕ

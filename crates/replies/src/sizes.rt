@@ -5,7 +5,7 @@ use pattern::limits;
 pub const LINE_LIMIT: usize = 1024;
 
 // Of a line no more is held: enough to see that it is too long.
-pub const HELD_LIMIT: usize = 1025;
+pub const HELD_LIMIT: usize = LINE_LIMIT + 1;
 
 pub const SCRATCH_SIZE: usize = 65536;
 

@@ -2,7 +2,7 @@
 use mathlib.Core.Path.{_≡_, refl, sym, _∙_, subst}
 use mathlib.Core.Logic.{_⊎_, inl, inr, ⊎-elim}
 use mathlib.Core.List.{[], _∷_}
-use Prim.Native.Nat.{ℕ, suc, _+_, _-_, _*_, _≤_, _<_}
+use Prim.Native.Nat.{ℕ, suc, _+_, _-_, _*_, _/_, _≤_, _<_}
 use native.Mathlib.Omega.{arith}
 use lib.ListN.{length, drop, getD, drop-of-length-le}
 use lib.Seq.{drop-cons}
@@ -148,8 +148,8 @@ module _ (s : Bytes) (i at v : ℕ) (g : Digits s i at v) (r : Digit) (read : Di
       }
 
 -- the next digit, held
-pub grown-small : (v d : ℕ) → v ≤ 999 → d ≤ 9 → 10 * v + d ≡ cap (10 * v + d)
-grown-small v d h g = sym (cap-small (10 * v + d) (omega arith))
+pub pushed-small : (v d : ℕ) → v ≤ number-limit / 10 → d ≤ 9 → 10 * v + d ≡ cap (10 * v + d)
+pushed-small v d h g = sym (cap-small (10 * v + d) (omega arith))
 
-pub grown-large : (v d : ℕ) → 999 < v → large-number ≡ cap (10 * v + d)
-grown-large v d h = sym (cap-large (10 * v + d) (omega arith))
+pub pushed-large : (v d : ℕ) → number-limit / 10 < v → large-number ≡ cap (10 * v + d)
+pushed-large v d h = sym (cap-large (10 * v + d) (omega arith))

@@ -10,7 +10,7 @@ use denote.Enum.Declared.{tagOf}
 use Rattle.pattern.specs.Bytes.{Bytes, between}
 use Rattle.pattern.specs.Grammar.{letter, quote, opening, digit, point, CharClass, count-char, body-start, branch-end, char-class, literal-class}
 use Rattle.pattern.proofs.Tests.{agree, agreed, all, all-at}
-use Rattle.pattern.proofs.Notation.{ByteIn as Spelt, class-byte}
+use Rattle.pattern.proofs.Notation.{ByteIn, class-byte}
 use Rattle.scanner.specs.declared.cursor.Cursor.{Cursor}
 use Rattle.scanner.specs.declared.cursor.Byte.{Byte}
 use Rattle.scanner.specs.declared.cursor.Byte.the-variants as byte
@@ -71,7 +71,7 @@ digit-range b h e = go (leb 48 b) refl (digit-test b h ∙ e)
     go false f g = let y : _≡_ {A = ℕ} 0 1 = cc in absurd (omega arith)
 
 -- what a class of one byte says of the byte
-only-at : (b c : ℕ) (x : CharClass) → (Spelt x b → b ≡ c) → ¬ (b ≡ c) → ¬ (char-class b ≡ x)
+only-at : (b c : ℕ) (x : CharClass) → (ByteIn x b → b ≡ c) → ¬ (b ≡ c) → ¬ (char-class b ≡ x)
 only-at b c x f d h = d (f (rw h at (class-byte b)))
 
 module _ (s : Bytes) (at : ℕ) where
@@ -106,7 +106,7 @@ module _ (s : Bytes) (at : ℕ) where
     no-letter t e f = not-class (body-start letter) (letter-not c (sym e ∙ f))
 
     -- it is not the one byte of a class
-    pub not-only : (b : ℕ) (x : CharClass) → (Spelt x c → c ≡ b) → ¬ (c ≡ b) → ClassNot s at x
+    pub not-only : (b : ℕ) (x : CharClass) → (ByteIn x c → c ≡ b) → ¬ (c ≡ b) → ClassNot s at x
     not-only b x f d = not-class x (only-at c b x f d)
 
     pub flag-is : ends-at s at ≡ ends-class (char-class c)

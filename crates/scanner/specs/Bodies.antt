@@ -1,4 +1,4 @@
--- Code letters and literals: what their readers promise, as equations on the scan. Private: a model for this crate's contracts.
+-- Code letters and literals: what their readers promise, as equations on the scan. Private: a model for contracts inside the library.
 use mathlib.Core.Path.{_≡_}
 use mathlib.Core.List.{[], _∷_, _++_}
 use mathlib.Core.Option.{Option}

@@ -1,4 +1,4 @@
--- Repeat counts: what their readers promise. Private: a model for this crate's contracts.
+-- Repeat counts: what their readers promise. Private: a model for contracts inside the library.
 use mathlib.Core.Path.{_≡_}
 use mathlib.Core.Bool.{cond}
 use mathlib.Core.List.{[], _∷_}
@@ -32,7 +32,7 @@ number v (c ∷ s) = elim (char-class c) [ count-char m ↦ elim m [ digit ↦ n
 
 -- the code's number for every number over the limit
 abbrev pub large-number : ℕ
-large-number = 10000
+large-number = number-limit + 1
 
 -- a number, or that one if it is over the limit
 unfoldable pub cap : ℕ → ℕ

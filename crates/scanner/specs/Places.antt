@@ -1,4 +1,4 @@
--- The byte at a place of a source: what the cursor's methods and `ends_at` promise. Private: a model for this crate's contracts.
+-- The byte at a place of a source: what the cursor's methods and `ends_at` promise. Private: a model for contracts inside the library.
 use mathlib.Core.Path.{_≡_}
 use mathlib.Core.Bool.{Bool, true, false, cond}
 use Prim.Native.Nat.{ℕ, suc, _-_, _≤_, _<_}

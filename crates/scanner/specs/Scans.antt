@@ -1,4 +1,4 @@
--- The scan of a source from a place on. Private: a model for this crate's contracts.
+-- The scan of a source from a place on. Private: a model for contracts inside the library.
 use Prim.Native.Nat.{ℕ}
 use lib.ListN.{drop}
 use Rattle.pattern.specs.Bytes.{Bytes}

@@ -2,7 +2,7 @@
 ghost use mathlib.Core.Path.{_≡_};
 ghost use Prim.Native.Nat.{_+_, _*_, _≤_};
 ghost use lib.ListN.{length};
-ghost use Rattle.scanner.specs.Counts.{cap, check-count, DigitsPost, CountPost};
+ghost use Rattle.scanner.specs.Counts.{large-number, cap, check-count, DigitsPost, CountPost};
 use crate::cursor::Cursor;
 use crate::cursor::Digit;
 use crate::cursor::Point;
@@ -11,7 +11,7 @@ use pattern::refusal;
 use pattern::repeat::Repeat;
 
 // Stands for every number over the limit.
-const LARGE: u16 = 10000;
+const LARGE: u16 = limits::NUMBER_LIMIT + 1;
 
 // A run of digits: its value, or LARGE, and where it ends.
 struct DigitsRead {
@@ -26,10 +26,14 @@ pub enum CountResult {
 
 // The number v and then the digit d.
 fn push_digit(v: u16, d: u16) -> u16
-    requires { ⌜ (v ≤ 10000) × (d ≤ 9) ⌝ }
-    ensures { λ r. ⌜ (r ≤ 10000) × (r ≡ cap (10 * v + d)) ⌝ }
+    requires { ⌜ (v ≤ large-number) × (d ≤ 9) ⌝ }
+    ensures { λ r. ⌜ (r ≤ large-number) × (r ≡ cap (10 * v + d)) ⌝ }
 {
-    if 999 < v { LARGE } else { 10 * v + d }
+    if limits::NUMBER_LIMIT / 10 < v {
+        LARGE
+    } else {
+        10 * v + d
+    }
 }
 
 fn digits(s: &[u8], c: Cursor) -> DigitsRead

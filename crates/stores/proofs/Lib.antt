@@ -1,3 +1,3 @@
 pub mod Little
-pub mod Same
+pub mod Compared
 pub mod Digits

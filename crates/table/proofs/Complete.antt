@@ -14,7 +14,7 @@ use Rattle.pattern.specs.Within.{InLimits}
 use Rattle.pattern.specs.Table.{pool, branch-count, kind-field, a-field, b-field, Rec, rec, records}
 use Rattle.pattern.specs.Decode.{layout, record-at, high-of}
 use Rattle.pattern.proofs.Records.{Placed, head-there, tail-there, then-there, or-there}
-use Rattle.pattern.proofs.RoundTrip.{some-atom, some-pattern, some-choice, high-again}
+use Rattle.pattern.proofs.RoundTrip.{some-atom, some-pattern, some-branch, high-again}
 use Rattle.table.specs.Fields.{record-of}
 use Rattle.table.specs.Checked.{all-plain, ordered, a-set, bind, only-if, choose, pool-slice, leaf, closed-group, read-pattern, read-atom, read-branches}
 use Rattle.table.proofs.Standing.{Clean, laid-out, Set}
@@ -130,7 +130,7 @@ module _ (s : Bytes) (A : ℕ) where
       let (b, c) = set-or e q bs i p d h in
       kept _ _ (lt-ltb 0 (suc (branch-count bs)) (omega arith))
       ∙ going-on _ _ (ih .patterns e q i p d b (omega (arith, n)))
-      ∙ second _ _ _ (ne-eqb (suc (branch-count bs)) 1 (λ x. omega (arith, x, some-choice bs)))
+      ∙ second _ _ _ (ne-eqb (suc (branch-count bs)) 1 (λ x. omega (arith, x, some-branch bs)))
       ∙ going-on _ _ (ih .branches e bs _ _ d c (omega (arith, n, some-pattern q)))
 
   complete : (f : ℕ) → Complete f

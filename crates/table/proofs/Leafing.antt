@@ -9,7 +9,7 @@ use native.Mathlib.Omega.{arith}
 use lib.Dec.{ltb}
 use lib.ListN.{length, take, drop, length-take, length-drop, length-append}
 use borrow.Author.Tests.{le-leb, lt-leb, eq-eqb, ne-eqb, ltb-true}
-use Rattle.pattern.specs.Numbers.{header-size, record-size, set-limit, quote-byte}
+use Rattle.pattern.specs.Numbers.{header-size, record-size, set-limit, quote-byte, codes-kind, literal-kind}
 use Rattle.pattern.specs.Bytes.{Bytes}
 use Rattle.pattern.specs.Codes.{all-codes}
 use Rattle.pattern.specs.Syntax.{body, Syntax, size}
@@ -84,15 +84,15 @@ module _ (s : Bytes) (A a b p : ℕ) where
 
 -- a leaf by its kind
 module _ (s : Bytes) (A kind a b p : ℕ) where
-  pub leaf-one : kind ≡ 1 → leaf-of (codes-leaf a b) ≡ leaf-of (leaf-read s A kind a b p)
+  pub leaf-one : kind ≡ codes-kind → leaf-of (codes-leaf a b) ≡ leaf-of (leaf-read s A kind a b p)
   unfolding leaf-read
   leaf-one e = sym (ap leaf-of (first _ _ _ (eq-eqb kind 1 e)))
 
-  pub leaf-two : (kind ≡ 1 → ⊥) → kind ≡ 2 → leaf-of (text-leaf s A a b p) ≡ leaf-of (leaf-read s A kind a b p)
+  pub leaf-two : (kind ≡ codes-kind → ⊥) → kind ≡ literal-kind → leaf-of (text-leaf s A a b p) ≡ leaf-of (leaf-read s A kind a b p)
   unfolding leaf-read
   leaf-two n e = sym (ap leaf-of (second _ _ _ (ne-eqb kind 1 n) ∙ kept _ _ (eq-eqb kind 2 e)))
 
-  pub leaf-other : (kind ≡ 1 → ⊥) → (kind ≡ 2 → ⊥) → leaf.Bad ≡ leaf-of (leaf-read s A kind a b p)
+  pub leaf-other : (kind ≡ codes-kind → ⊥) → (kind ≡ literal-kind → ⊥) → leaf.Bad ≡ leaf-of (leaf-read s A kind a b p)
   unfolding leaf-read leaf-of
   leaf-other n m = sym (ap leaf-of (second _ _ _ (ne-eqb kind 1 n) ∙ dropped _ _ (ne-eqb kind 2 m)))
 

@@ -9,7 +9,7 @@ use native.Mathlib.Omega.{arith}
 use lib.Dec.{ltb}
 use borrow.Author.Tests.{eqb-true, leb-true, ltb-true}
 use lib.ListN.{length, getD, drop, length-append, length-take, length-drop, take-append-drop}
-use Rattle.pattern.specs.Numbers.{depth-limit, set-limit, header-size, record-size}
+use Rattle.pattern.specs.Numbers.{depth-limit, set-limit, header-size, record-size, group-kind}
 use Rattle.pattern.specs.Bytes.{Bytes}
 use Rattle.pattern.specs.Syntax.{pattern, atom, body, branches, Syntax, then, repeat, codes, literal, or, size}
 use Rattle.pattern.specs.Within.{Fits, InLimits}
@@ -133,7 +133,7 @@ module _ (s : Bytes) (A : ℕ) (laid : Laid s A) where
       (same-rec (record-at s (layout s) i) _ _ _ (eqb-true _ _ y4) (eqb-true _ _ y5) (sym (length-text p _ q)), set-literal (suc i) p _ d z h q))
       (choose-some _ _ _ e)
 
-  group-body : (f i p d : ℕ) (b : Syntax body) → SoundTo f → header-size + record-size * A + p ≤ length s → record-at s (layout s) i .kind ≡ 3
+  group-body : (f i p d : ℕ) (b : Syntax body) → SoundTo f → header-size + record-size * A + p ≤ length s → record-at s (layout s) i .kind ≡ group-kind
       → only-if (ltb d depth-limit) (bind (read-branches s A f (record-at s (layout s) i .a) (suc i) p (suc d)) (closed-group s A (record-at s (layout s) i .b) i)) ≡ some b
       → Bodied b i p d
   unfolding closed-group kind-field a-field b-field records size pool InLimits Clean

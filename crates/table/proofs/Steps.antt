@@ -9,7 +9,7 @@ use native.Mathlib.Omega.{arith}
 use lib.Dec.{ltb, eqb}
 use lib.ListN.{length, length-append}
 use borrow.Author.Tests.{lt-ltb, le-ltb, eq-eqb, ne-eqb}
-use Rattle.pattern.specs.Numbers.{depth-limit, opening-byte, closing-byte, comma-byte}
+use Rattle.pattern.specs.Numbers.{depth-limit, opening-byte, closing-byte, comma-byte, group-kind}
 use Rattle.pattern.specs.Bytes.{Bytes}
 use Rattle.pattern.specs.Syntax.{Sort, pattern, atom, body, branches, Syntax, then, repeat, group, or, size, top-size}
 use Rattle.pattern.specs.Table.{pool}
@@ -164,11 +164,11 @@ module _ (s : Bytes) (A : ℕ) (at : Place) (d : ℕ) where
 
       -- ---- a leaf
 
-      pub atom-leafless : (r .kind ≡ 3 → ⊥) → leaf.Bad ≡ leaf-of (leaf-read s A (r .kind) (r .a) (r .b) (at .pool)) → AtomReads s A at d passed.Bad
+      pub atom-leafless : (r .kind ≡ group-kind → ⊥) → leaf.Bad ≡ leaf-of (leaf-read s A (r .kind) (r .a) (r .b) (at .pool)) → AtomReads s A at d passed.Bad
       atom-leafless k e zero n = absurd (omega arith)
       atom-leafless k e (suc f) n = no-body f (second _ _ _ (ne-eqb _ _ k) ∙ leaf-none _ e)
 
-      pub atom-leaf : (c v w : ℕ) → c ≡ length (print-count (r .low) (high-of (r .high))) → (r .kind ≡ 3 → ⊥) → leaf.Is v w ≡ leaf-of (leaf-read s A (r .kind) (r .a) (r .b) (at .pool))
+      pub atom-leaf : (c v w : ℕ) → c ≡ length (print-count (r .low) (high-of (r .high))) → (r .kind ≡ group-kind → ⊥) → leaf.Is v w ≡ leaf-of (leaf-read s A (r .kind) (r .a) (r .b) (at .pool))
           → AtomReads s A at d (passed.To (leaf-on at c v w))
       unfolding size pool print
       atom-leaf c v w g k e zero n = absurd (omega arith)
@@ -180,7 +180,7 @@ module _ (s : Bytes) (A : ℕ) (at : Place) (d : ℕ) where
 
       -- ---- a group
 
-      module _ (k : r .kind ≡ 3) where
+      module _ (k : r .kind ≡ group-kind) where
         pub atom-deep : depth-limit ≤ d → AtomReads s A at d passed.Bad
         atom-deep e zero n = absurd (omega arith)
         atom-deep e (suc f) n = no-body f (first _ _ _ (eq-eqb _ _ k) ∙ dropped _ _ (le-ltb _ _ e))

@@ -4,7 +4,7 @@ use mathlib.Core.Bool.{true}
 use Prim.Native.Nat.{ℕ, _+_, _-_, _<_, _≤_}
 use native.Mathlib.Omega.{arith}
 use lib.ListN.{length}
-use Rattle.pattern.specs.Numbers.{depth-limit}
+use Rattle.pattern.specs.Numbers.{depth-limit, group-kind}
 use Rattle.pattern.specs.Bytes.{Bytes}
 use Rattle.pattern.specs.Print.{print-count}
 use Rattle.pattern.specs.Decode.{layout, record-at, high-of}
@@ -35,7 +35,7 @@ pub record CountMeasured (s : Bytes) (A : ℕ) (at : Place) (d : ℕ) (r : Recor
   pub short : c ≤ 11
 
 module _ {s : Bytes} {A : ℕ} {at : Place} {d : ℕ} {r : Record} {c : ℕ} (h : CountMeasured s A at d r c) where
-  module _ (k : r .kind ≡ 3 → ⊥) {x : Leaf} (l : LeafPost s A (at .pool) (leaf-read s A (r .kind) (r .a) (r .b) (at .pool)) x) where
+  module _ (k : r .kind ≡ group-kind → ⊥) {x : Leaf} (l : LeafPost s A (at .pool) (leaf-read s A (r .kind) (r .a) (r .b) (at .pool)) x) where
     pub leaf-bad : x ≡ leaf.Bad → AtomPost s A at d passed.Bad
     leaf-bad e = record { past = tt; reads = atom-leafless s A at d r (h .same) (h .on) (h .fits) k (sym e ∙ l .reads) }
 
@@ -49,7 +49,7 @@ module _ {s : Bytes} {A : ℕ} {at : Place} {d : ℕ} {r : Record} {c : ℕ} (h 
         reads = atom-leaf s A at d r (h .same) (h .on) (h .fits) c v w (h .count) k (sym e ∙ l .reads);
       }
 
-  module _ (k : r .kind ≡ 3) where
+  module _ (k : r .kind ≡ group-kind) where
     pub too-deep : depth-limit ≤ d → AtomPost s A at d passed.Bad
     too-deep e = record { past = tt; reads = atom-deep s A at d r (h .same) (h .on) (h .fits) k e }
 

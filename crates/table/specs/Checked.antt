@@ -1,4 +1,4 @@
--- The reading of a table's records with every check: the tree that the test walks. Private: a model for this crate's contracts.
+-- The reading of a table's records with every check: the tree that the test walks. Private: a model for contracts inside the library.
 use mathlib.Core.Bool.{Bool, true, false, _&&_, _||_}
 use mathlib.Core.List.{[], _∷_}
 use mathlib.Core.Option.{Option, none, some}

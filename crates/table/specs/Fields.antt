@@ -1,4 +1,4 @@
--- A record's fields, as the code has them. Private: a model for this crate's contracts.
+-- A record's fields, as the code has them. Private: a model for contracts inside the library.
 use Prim.Native.Nat.{ℕ, _+_, _*_, _≤_}
 use lib.ListN.{length}
 use Rattle.pattern.specs.Numbers.{record-size}

@@ -1,4 +1,4 @@
--- The header of a table, as the code has it. Private: a model for this crate's contracts.
+-- The header of a table, as the code has it. Private: a model for contracts inside the library.
 use mathlib.Core.Bool.{Bool, true, false, _&&_}
 use mathlib.Core.List.{[], _++_}
 use Prim.Native.Nat.{ℕ, _+_, _*_}

@@ -1,4 +1,4 @@
--- What is said of a leaf: the bytes that it has in the pool and in the source. Private: a model for this crate's contracts.
+-- What is said of a leaf: the bytes that it has in the pool and in the source. Private: a model for contracts inside the library.
 use mathlib.Core.Path.{_≡_}
 use mathlib.Core.Option.{Option, none, some}
 use Prim.Native.Nat.{ℕ, _+_, _*_, _≤_, _<_}

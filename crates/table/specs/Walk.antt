@@ -1,4 +1,4 @@
--- What the walk over a table's records promises. Private: a model for this crate's contracts.
+-- What the walk over a table's records promises. Private: a model for contracts inside the library.
 use mathlib.Core.Path.{_≡_}
 use mathlib.Core.Option.{Option, none, some}
 use Prim.Native.Nat.{ℕ, _+_, _*_, _-_, _≤_, _<_}

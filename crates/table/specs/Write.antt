@@ -1,4 +1,4 @@
--- What writing a table asks and promises. Private: a model for this crate's contracts.
+-- What writing a table asks and promises. Private: a model for contracts inside the library.
 use mathlib.Core.Path.{_≡_}
 use mathlib.Core.List.{List, [], _++_}
 use Prim.Native.Nat.{ℕ, _*_, _≤_}

@@ -1,7 +1,7 @@
 -- `matcher::run` meets its contract. Assumes nothing.
 use mathlib.Core.Path.{sym, _∙_}
 use native.Mathlib.Omega.{arith}
-use Rattle.matcher.proofs.Runs.{run-room, run-rows, run-few, run-work, run-clear, run-cell, run-top, run-stop, run-parting, run-yes, run-no}
+use Rattle.matcher.proofs.Runs.{run-room, run-rows, run-few, run-work, run-clear, run-cell, run-top, run-stop, run-write-parts, run-yes, run-no}
 use Rattle.matcher.proofs.run.Statement.{statement}
 use Rattle.matcher.proofs.run.Tie as tie
 
@@ -50,7 +50,7 @@ write-parts-requires c κs =
     let after-if1 = c .before .before .before .before .before in
     let after-settle-all = after-if1 .before .before .before in
     let start = after-settle-all .before .before .before .before .before .before in
-    run-parting _ _ _ _ _ (start .pre) _ _ (after-settle-all .settle-all .kept .1 .1 .0) _ (after-settle-all .settle-all .ensures) (after-if1 .if1 .left)
+    run-write-parts _ _ _ _ _ (start .pre) _ _ (after-settle-all .settle-all .kept .1 .1 .0) _ (after-settle-all .settle-all .ensures) (after-if1 .if1 .left)
 
 clear-requires-2 : tie.Need-clear-requires-2
 clear-requires-2 c κs =

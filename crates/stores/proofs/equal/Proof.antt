@@ -5,7 +5,7 @@ use native.Mathlib.Omega.{arith}
 use lib.Seq.{slice}
 use denote.Ref.{now}
 use Rattle.pattern.specs.Bytes.{equal}
-use Rattle.stores.proofs.Same.{equal-end, equal-differ, equal-more}
+use Rattle.stores.proofs.Compared.{equal-end, equal-differ, equal-more}
 use Rattle.stores.proofs.equal.Statement.{statement}
 use Rattle.stores.proofs.equal.Tie as tie
 

@@ -25,8 +25,8 @@ use Rattle.scanner.proofs.count.count.Reads as count-reads
 use Rattle.scanner.proofs.cursor.Cursor.class.Reads as class-reads
 use Rattle.scanner.proofs.cursor.ends_at.Reads as last-reads
 use Rattle.scanner.proofs.cursor.Cursor.separator.Reads as separator-reads
-use Rattle.compiler.proofs.reader.read_codes.Reads as coded-reads
-use Rattle.compiler.proofs.reader.read_literal.Reads as worded-reads
+use Rattle.compiler.proofs.reader.read_codes.Reads as codes-reads
+use Rattle.compiler.proofs.reader.read_literal.Reads as literal-reads
 use Rattle.compiler.proofs.reader.+read_atom+read_group+read_pattern.{statement}
 use Rattle.compiler.proofs.reader.+read_atom+read_group+read_pattern.Tie.{close}
 
@@ -67,7 +67,7 @@ read-pattern-below t =
     read-pattern.Pre
 
 abbrev read-atom-claims : ℕ → read-atom-lts.Claims
-read-atom-claims t = (count-reads.Asked, count-reads.Learnt, class-reads.Asked, class-reads.Learnt, coded-reads.Asked, coded-reads.Learnt, worded-reads.Asked, worded-reads.Learnt, read-group-below t, read-group.Post, last-reads.Asked, last-reads.Learnt, put-record-reads.Asked, put-record-reads.Learnt)
+read-atom-claims t = (count-reads.Asked, count-reads.Learnt, class-reads.Asked, class-reads.Learnt, codes-reads.Asked, codes-reads.Learnt, literal-reads.Asked, literal-reads.Learnt, read-group-below t, read-group.Post, last-reads.Asked, last-reads.Learnt, put-record-reads.Asked, put-record-reads.Learnt)
 
 abbrev read-group-claims : ℕ → read-group-lts.Claims
 read-group-claims t = (read-pattern-below t, read-pattern.Post, separator-reads.Asked, separator-reads.Learnt)

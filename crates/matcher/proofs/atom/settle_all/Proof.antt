@@ -1,7 +1,7 @@
 -- `matcher::atom::settle_all` meets its contract: the invariant is `AllAt`. Assumes nothing.
 use mathlib.Core.Path.{_∙_}
 use native.Mathlib.Omega.{arith}
-use Rattle.matcher.proofs.Following.{AllAt, all-start, all-bodying, all-stop, all-step, all-end}
+use Rattle.matcher.proofs.Following.{AllAt, all-start, all-fill-body, all-stop, all-step, all-end}
 use Rattle.matcher.proofs.atom.settle_all.Statement.{statement}
 use Rattle.matcher.proofs.atom.settle_all.Tie as tie
 
@@ -17,7 +17,7 @@ loop-holds c = all-start _ _ _ _ _ _ (c .before .before .before .pre .0) (c .bef
 settle-requires : tie.Need-settle-requires Inv-loop μ-loop
 settle-requires c κs =
     let start = c .before .before .before .before .before .before in
-    (c .before .before .loop .inv .within, all-bodying _ _ _ _ _ _ (start .pre .0) (start .pre .1) _ _ _ (c .before .before .loop .inv) (c .before .loop-test .taken))
+    (c .before .before .loop .inv .within, all-fill-body _ _ _ _ _ _ (start .pre .0) (start .pre .1) _ _ _ (c .before .before .loop .inv) (c .before .loop-test .taken))
 
 same-length : tie.Need-same-length Inv-loop μ-loop
 same-length c = c .before .before .before .settle .kept .1 .1 .0 ∙ c .before .before .before .before .before .before .loop .inv .long
