@@ -5,36 +5,46 @@ use lib.Dec.{leb}
 use lib.ListN.{length}
 use Rattle.pattern.specs.Numbers.{ANSWER}
 use Rattle.pattern.specs.Bytes.{Bytes, overwrite}
-use Rattle.pattern.specs.Answers.{Output, compileOf, writeOf, MatchOutput, matchOf}
+use Rattle.pattern.specs.Answers.{Answer, refusal, Output, compileOf, writeOf, MatchOutput, matchOf}
+use Rattle.batch.specs.Batch.{BatchOutput, batchOf}
 use Rattle.mpt.specs.Area.{area-size, area}
 
--- the number returned, the lent output and the answer area afterwards
-pub record Called : Type 0 where
+-- the number returned, and the lent slices and the answer area afterwards
+pub record Called (Lent : Type 0) : Type 0 where
   pub number : ℕ
-  pub bytes : Bytes
+  pub lent : Lent
   pub answer : Bytes
 
 -- with an area that is long enough, and with a shorter one: ANSWER, "the area stays as it was"
-unfoldable pub called : Bool → Output → (lent answer : Bytes) → Called
-called true o lent answer = record { number = o .answer .number; bytes = o .bytes; answer = overwrite (area (o .answer)) answer }
-called false o lent answer = record { number = ANSWER; bytes = lent; answer = answer }
+unfoldable pub called-if : {Lent : Type 0} → Bool → Answer → (after before : Lent) → (answer : Bytes) → Called Lent
+called-if true a after before answer = record { number = a .number; lent = after; answer = overwrite (area a) answer }
+called-if false a after before answer = record { number = ANSWER; lent = before; answer = answer }
 
-unfoldable pub compile-call : (source table answer : Bytes) → Called
-compile-call source table answer = called (leb area-size (length answer)) (compileOf source table) table answer
+unfoldable pub called : {Lent : Type 0} → Answer → (after before : Lent) → (answer : Bytes) → Called Lent
+called a after before answer = called-if (leb area-size (length answer)) a after before answer
 
-unfoldable pub write-call : (table source answer : Bytes) → Called
-write-call table source answer = called (leb area-size (length answer)) (writeOf table source) source answer
+unfoldable pub compile-call : (source table answer : Bytes) → Called Bytes
+compile-call source table answer = let o : Output = compileOf source table in called (o .answer) (o .bytes) table answer
 
--- the number returned, scratch, parts and the answer area afterwards
-pub record MatchCalled : Type 0 where
-  pub number : ℕ
+unfoldable pub write-call : (table source answer : Bytes) → Called Bytes
+write-call table source answer = let o : Output = writeOf table source in called (o .answer) (o .bytes) source answer
+
+pub record MatchLent : Type 0 where
   pub scratch : Bytes
   pub parts : Bytes
-  pub answer : Bytes
 
-unfoldable pub match-called : Bool → MatchOutput → (scratch parts answer : Bytes) → MatchCalled
-match-called true m scratch parts answer = record { number = m .answer .number; scratch = m .scratch; parts = m .parts; answer = overwrite (area (m .answer)) answer }
-match-called false m scratch parts answer = record { number = ANSWER; scratch = scratch; parts = parts; answer = answer }
+unfoldable pub match-call : (table label scratch parts : Bytes) → (budget : ℕ) → (answer : Bytes) → Called MatchLent
+match-call table label scratch parts budget answer =
+    let o : MatchOutput = matchOf table label scratch parts budget in
+    called (o .answer) (record { scratch = o .scratch; parts = o .parts }) (record { scratch = scratch; parts = parts }) answer
 
-unfoldable pub match-call : (table label scratch parts : Bytes) → (budget : ℕ) → (answer : Bytes) → MatchCalled
-match-call table label scratch parts budget answer = match-called (leb area-size (length answer)) (matchOf table label scratch parts budget) scratch parts answer
+pub record BatchLent : Type 0 where
+  pub scratch : Bytes
+  pub verdicts : Bytes
+  pub parts : Bytes
+
+-- the area's numbers are all 0
+unfoldable pub batch-call : (table labels ends scratch verdicts parts : Bytes) → (budget : ℕ) → (answer : Bytes) → Called BatchLent
+batch-call table labels ends scratch verdicts parts budget answer =
+    let o : BatchOutput = batchOf table labels ends scratch verdicts parts budget in
+    called (refusal (o .number) 0) (record { scratch = o .scratch; verdicts = o .verdicts; parts = o .parts }) (record { scratch = scratch; verdicts = verdicts; parts = parts }) answer

@@ -3,6 +3,7 @@ mod area;
 
 use crate::area::AREA_SIZE;
 use crate::area::put_answer;
+use batch::match_batch;
 use compiler::Compiled;
 use compiler::compile;
 use matcher::match_label;
@@ -10,11 +11,11 @@ use pattern::refusal;
 use printer::Written;
 use printer::write_back;
 ghost use mathlib.Core.Path.{_≡_};
-ghost use Rattle.mpt.specs.Calls.{compile-call, write-call, match-call};
+ghost use Rattle.mpt.specs.Calls.{compile-call, write-call, match-call, batch-call};
 
 #[no_mangle]
 pub extern "C" fn mpt_compile(source: &[u8], table: &mut [u8], answer: &mut [u8]) -> u32
-    ensures { λ r. ⌜ record { number = r; bytes = now (table .exit); answer = now (answer .exit) } ≡ compile-call (now (source .entry)) (now (table .entry)) (now (answer .entry)) ⌝ }
+    ensures { λ r. ⌜ record { number = r; lent = now (table .exit); answer = now (answer .exit) } ≡ compile-call (now (source .entry)) (now (table .entry)) (now (answer .entry)) ⌝ }
 {
     if answer.len() < AREA_SIZE {
         return refusal::ANSWER;
@@ -33,7 +34,7 @@ pub extern "C" fn mpt_compile(source: &[u8], table: &mut [u8], answer: &mut [u8]
 
 #[no_mangle]
 pub extern "C" fn mpt_write_back(table: &[u8], source: &mut [u8], answer: &mut [u8]) -> u32
-    ensures { λ r. ⌜ record { number = r; bytes = now (source .exit); answer = now (answer .exit) } ≡ write-call (now (table .entry)) (now (source .entry)) (now (answer .entry)) ⌝ }
+    ensures { λ r. ⌜ record { number = r; lent = now (source .exit); answer = now (answer .exit) } ≡ write-call (now (table .entry)) (now (source .entry)) (now (answer .entry)) ⌝ }
 {
     if answer.len() < AREA_SIZE {
         return refusal::ANSWER;
@@ -63,7 +64,7 @@ pub extern "C" fn mpt_match(
     budget: u64,
     answer: &mut [u8],
 ) -> u32
-    ensures { λ r. ⌜ record { number = r; scratch = now (scratch .exit); parts = now (parts .exit); answer = now (answer .exit) } ≡ match-call (now (table .entry)) (now (label .entry)) (now (scratch .entry)) (now (parts .entry)) budget (now (answer .entry)) ⌝ }
+    ensures { λ r. ⌜ record { number = r; lent = record { scratch = now (scratch .exit); parts = now (parts .exit) }; answer = now (answer .exit) } ≡ match-call (now (table .entry)) (now (label .entry)) (now (scratch .entry)) (now (parts .entry)) budget (now (answer .entry)) ⌝ }
 {
     if answer.len() < AREA_SIZE {
         return refusal::ANSWER;
@@ -71,4 +72,25 @@ pub extern "C" fn mpt_match(
     let a = match_label(table, label, scratch, parts, budget).numbers(budget);
     put_answer(answer, 0, a.value, a.trials);
     a.number
+}
+
+#[no_mangle]
+pub extern "C" fn mpt_match_batch(
+    table: &[u8],
+    labels: &[u8],
+    ends: &[u8],
+    scratch: &mut [u8],
+    verdicts: &mut [u8],
+    parts: &mut [u8],
+    budget: u64,
+    answer: &mut [u8],
+) -> u32
+    ensures { λ r. ⌜ record { number = r; lent = record { scratch = now (scratch .exit); verdicts = now (verdicts .exit); parts = now (parts .exit) }; answer = now (answer .exit) } ≡ batch-call (now (table .entry)) (now (labels .entry)) (now (ends .entry)) (now (scratch .entry)) (now (verdicts .entry)) (now (parts .entry)) budget (now (answer .entry)) ⌝ }
+{
+    if answer.len() < AREA_SIZE {
+        return refusal::ANSWER;
+    }
+    let number = match_batch(table, labels, ends, scratch, verdicts, parts, budget);
+    put_answer(answer, 0, 0, 0);
+    number
 }

@@ -1,5 +1,6 @@
 pub mod Tests
 pub mod Stores
+pub mod Pairs
 pub mod Stretch
 pub mod FewBodies
 pub mod Agree

@@ -1,5 +1,5 @@
 -- Tests that compute, and the facts that they decide. Assumes nothing.
-use mathlib.Core.Path.{_≡_, refl}
+use mathlib.Core.Path.{_≡_, refl, subst}
 use mathlib.Core.Logic.{_↔_, _⊎_, inl, inr, ⊎-elim}
 use mathlib.Core.Bool.{Bool, true, false, not, cond, _&&_, _||_}
 use mathlib.Core.Option.{Option, none, some}
@@ -21,6 +21,10 @@ via a e = record { sound = λ h. e .0 (a .sound h); complete = λ h. a .complete
 pub and-both : (a b : Bool) → T (a && b) → T a × T b
 and-both true b t = (tt, t)
 and-both false b t = absurd t
+
+pub neither : (a b : Bool) → (a || b) ≡ false → (a ≡ false) × (b ≡ false)
+neither false b e = (refl, e)
+neither true b e = absurd (subst T e tt)
 
 -- a test that passes
 pub passed : (b : Bool) → T b → b ≡ true

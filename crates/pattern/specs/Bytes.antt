@@ -1,7 +1,7 @@
 -- Lists of bytes. To be believed.
 use mathlib.Core.Bool.{Bool, true, false, _&&_}
 use mathlib.Core.List.{List, [], _∷_, _++_}
-use Prim.Native.Nat.{ℕ, _/_, _%_}
+use Prim.Native.Nat.{ℕ, _+_, _*_, _/_, _%_}
 use Prim.Native.Char.{code}
 use Prim.Native.String.{String, [] as end, _∷_ as _then_}
 use lib.Dec.{leb, eqb}
@@ -24,6 +24,12 @@ equal (a ∷ v) (b ∷ s) = eqb a b && equal v s
 -- a number in two bytes, the lower first, before others
 abbrev pub le16 : ℕ → Bytes → Bytes
 le16 x s = x % 256 ∷ x / 256 ∷ s
+
+-- the numbers that bytes hold, two bytes each, the lower first
+unfoldable pub numbers-in : Bytes → List ℕ
+numbers-in [] = []
+numbers-in (a ∷ []) = []
+numbers-in (a ∷ b ∷ s) = (a + 256 * b) ∷ numbers-in s
 
 -- lent bytes with a result at their start; the bytes after it stay
 unfoldable pub overwrite : Bytes → Bytes → Bytes

@@ -88,6 +88,9 @@ PARTS = 14
 abbrev pub BUDGET : ℕ
 BUDGET = 15
 
+abbrev pub BATCH : ℕ
+BATCH = 16
+
 -- "the mark MPT"
 abbrev pub mark : List ℕ
 mark = 77 ∷ 80 ∷ 84 ∷ []

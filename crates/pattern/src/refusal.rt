@@ -26,3 +26,5 @@ pub const WORK: u32 = 13;
 pub const PARTS: u32 = 14;
 
 pub const BUDGET: u32 = 15;
+
+pub const BATCH: u32 = 16;

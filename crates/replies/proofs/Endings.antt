@@ -7,7 +7,7 @@ use native.Mathlib.Omega.{arith}
 use lib.ListN.{length, take, replicate}
 use lib.Seq.{length-take-le}
 use Rattle.pattern.specs.Numbers.{zero-byte, TABLE, parts-room}
-use Rattle.pattern.specs.Bytes.{Bytes, zeroed, bytes}
+use Rattle.pattern.specs.Bytes.{Bytes, numbers-in, zeroed, bytes}
 use Rattle.pattern.specs.Syntax.{pattern, Syntax, top-size}
 use Rattle.pattern.specs.Parts.{verdict}
 use Rattle.pattern.specs.Decode.{tree-of, decode}
@@ -19,7 +19,7 @@ use Rattle.table.specs.declared.Tested.the-variants.{Bad, Good}
 use Rattle.table.specs.Tested.{tested}
 use Rattle.atoms.proofs.Goods.{tested-good, tested-bad}
 use Rattle.replies.specs.Sizes.{reply-room, budget}
-use Rattle.replies.specs.Text.{unmatched-text, numbers-in, matched-text, ending-text}
+use Rattle.replies.specs.Text.{unmatched-text, matched-text, ending-text}
 use Rattle.replies.specs.Reply.{Reply, ending-reply, label-reply}
 use Rattle.matcher.specs.declared.Matched as call
 use Rattle.matcher.specs.declared.Answer as called

@@ -5,10 +5,9 @@ use Prim.Native.Nat.{ℕ, _+_, _*_, _/_, _%_}
 use native.Mathlib.Omega.{arith}
 use lib.ListN.{length, take}
 use lib.Seq.{take-append-seam}
-use Rattle.pattern.specs.Bytes.{Bytes, overwrite}
+use Rattle.pattern.specs.Bytes.{Bytes, numbers-in, overwrite}
 use Rattle.pattern.specs.Answers.{part-bytes}
 use Rattle.pattern.proofs.Longest.{part-bytes-length}
-use Rattle.replies.specs.Text.{numbers-in}
 
 -- ends are read as they were written
 numbers-read : (es : List ℕ) → numbers-in (part-bytes es) ≡ es

@@ -1,18 +1,13 @@
 -- Laws of the first place of a byte. Assumes nothing.
 use mathlib.Core.Path.{_≡_, sym, ap, _∙_}
-use mathlib.Core.List.{_∷_}
 use Prim.Native.Nat.{ℕ, _+_, _≤_, _<_}
 use native.Mathlib.Numerals.{add-one}
 use lib.ListN.{length, getD, drop, drop-of-length-le}
-use lib.Seq.{drop-cons}
 use borrow.Author.Tests.{eq-eqb, ne-eqb}
 use Rattle.pattern.specs.Bytes.{Bytes}
 use Rattle.pattern.proofs.Tests.{if-true, if-false}
+use Rattle.pattern.proofs.Pairs.{drop-one}
 use Rattle.replies.specs.Reply.{index-of}
-
--- a list from a place on: a byte and then others, or nothing
-pub drop-one : (s : Bytes) (i : ℕ) → i < length s → drop i s ≡ getD s i 0 ∷ drop (i + 1) s
-drop-one s i h = rw (add-one, drop-cons s i 0)
 
 module _ (b : ℕ) (s : Bytes) (i : ℕ) where
   pub first-here : i < length s → getD s i 0 ≡ b → index-of b (drop i s) ≡ 0

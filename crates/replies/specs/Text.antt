@@ -1,7 +1,7 @@
 -- The texts of an answer. To be believed.
 use mathlib.Core.List.{List, [], _∷_, _++_}
 use mathlib.Core.Option.{none, some}
-use Prim.Native.Nat.{ℕ, _+_, _*_}
+use Prim.Native.Nat.{ℕ}
 use Rattle.pattern.specs.Numbers.{comma-byte, BUDGET}
 use Rattle.pattern.specs.Bytes.{Bytes, bytes}
 use Rattle.pattern.specs.Print.{decimal}
@@ -19,12 +19,6 @@ refused-text number position = coded-text refused-letter number ++ space-byte �
 -- "M number"
 unfoldable pub unmatched-text : (number : ℕ) → Bytes
 unmatched-text number = coded-text unmatched-letter number
-
--- the numbers that bytes hold, two bytes each, the lower first
-unfoldable pub numbers-in : Bytes → List ℕ
-numbers-in [] = []
-numbers-in (a ∷ []) = []
-numbers-in (a ∷ b ∷ s) = (a + 256 * b) ∷ numbers-in s
 
 -- numbers with this byte before the first and a comma before each other one
 unfoldable pub listed : ℕ → List ℕ → Bytes

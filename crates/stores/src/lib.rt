@@ -1,10 +1,11 @@
-// Bytes and numbers of a fixed width in lent bytes: stored, copied, compared and zeroed. What stores answers the place after.
+// Bytes and numbers of a fixed width in lent bytes: read, stored, copied, compared and zeroed. What stores answers the place after.
 ghost use mathlib.Core.Path.{_≡_};
 ghost use mathlib.Core.List.{[], _∷_};
-ghost use Prim.Native.Nat.{_+_, _≤_};
+ghost use Prim.Native.Nat.{_+_, _≤_, _<_};
 ghost use lib.ListN.{length, take};
 ghost use lib.Seq.{slice};
 ghost use Rattle.pattern.specs.Bytes.{equal, le16, zeroed};
+ghost use Rattle.pattern.specs.Decode.{field};
 ghost use Rattle.pattern.specs.Stores.{Puts};
 ghost use Rattle.stores.specs.Little.{little};
 
@@ -17,6 +18,21 @@ pub fn put_byte(to: &mut [u8], at: usize, b: u8) -> usize
 {
     to[at] = b;
     at + 1
+}
+
+// A byte as 16 bits.
+pub fn wide(x: u8) -> u16
+    ensures { λ r. ⌜ (r ≡ x) × (r < 256) ⌝ }
+{
+    x as u16
+}
+
+// The 16 bits at a place, the lower byte first.
+pub fn read16(from: &[u8], at: usize) -> u16
+    requires { ⌜ at + 2 ≤ length (now from) ⌝ }
+    ensures { λ r. ⌜ r ≡ field (now (from .entry)) at ⌝ }
+{
+    wide(from[at]) + 256 * wide(from[at + 1])
 }
 
 // A number in two bytes, the lower first.

@@ -4,8 +4,9 @@ use crate::layout::ATOMS_PLACE;
 use crate::layout::HEADER_SIZE;
 use crate::layout::LENGTH_PLACE;
 use crate::layout::RECORD_SIZE;
-use crate::record;
 use stores::equal;
+use stores::read16;
+use stores::wide;
 ghost use mathlib.Core.Path.{_≡_};
 ghost use Prim.Native.Nat.{_≤_};
 ghost use lib.ListN.{length, take};
@@ -40,8 +41,8 @@ pub fn header_at(table: &[u8]) -> Header
     requires { ⌜ header-size ≤ length (now table) ⌝ }
     ensures { λ r. ⌜ r ≡ header-of (now (table .entry)) ⌝ }
 {
-    let atoms = record::wide(table[ATOMS_PLACE]) as usize;
-    let length = record::read16(table, LENGTH_PLACE) as usize;
+    let atoms = wide(table[ATOMS_PLACE]) as usize;
+    let length = read16(table, LENGTH_PLACE) as usize;
     Header {
         atoms,
         length,

@@ -3,9 +3,9 @@ use mathlib.Core.Path.{_≡_, refl, sym}
 use Prim.Native.Nat.{ℕ, _≤_, _-_, _+_, _*_}
 use native.Mathlib.Omega.{arith}
 use lib.ListN.{length, getD, drop}
-use Rattle.pattern.specs.Bytes.{Bytes, bytes}
+use Rattle.pattern.specs.Bytes.{Bytes, numbers-in, bytes}
 use Rattle.replies.specs.Sizes.{space-byte}
-use Rattle.replies.specs.Text.{numbers-in, listed, matched-text}
+use Rattle.replies.specs.Text.{listed, matched-text}
 use Rattle.pattern.specs.Stores.{Puts}
 use Rattle.pattern.proofs.Stores.{puts-then, puts-length, puts-none, puts-as}
 use Rattle.pattern.proofs.Decimal.{decimal-short}

@@ -1,0 +1,45 @@
+-- `match_batch` meets its contract: the table is tested, then what is lent, then each label matched. Assumes nothing.
+use mathlib.Core.Path.{sym, _∙_}
+use native.Mathlib.Omega.{arith}
+use borrow.Author.Needs.{needs}
+use Rattle.matcher.proofs.Refusals.{few-tops}
+use Rattle.batch.proofs.Cases.{table-refused, unfit-refused, matched-in-turn}
+use Rattle.batch.proofs.match_batch.Statement.{statement}
+use Rattle.batch.proofs.match_batch.Tie as tie
+
+mul-is-unfit : tie.Need-mul-is-unfit
+mul-is-unfit c = omega (arith, few-tops _ _ (sym (c .before .before .before .before .sizes .given .1) ∙ c .before .before .before .before .before .before .test .ensures))
+
+is-unfit-requires : tie.Need-is-unfit-requires
+is-unfit-requires c κs = omega (arith, few-tops _ _ (sym (c .before .before .before .before .sizes .given .1) ∙ c .before .before .before .before .before .before .test .ensures))
+
+returns : tie.Need-returns
+returns c = unfit-refused _ _ _ _ _ _ _ _ (sym (c .before .before .before .before .before .before .sizes .given .1) ∙ c .before .before .before .before .before .before .before .before .test .ensures) (sym (c .before .is-unfit .ensures) ∙ c .if1 .taken)
+
+match-each-requires : tie.Need-match-each-requires
+match-each-requires c κs = record { good = sym (c .before .before .before .before .before .before .before .before .before .sizes .given .1) ∙ c .before .before .before .before .before .before .before .before .before .before .before .test .ensures; fits = sym (c .before .before .before .before .is-unfit .ensures) ∙ c .before .before .before .if1 .left }
+
+returns-2 : tie.Need-returns-2
+returns-2 c = table-refused _ _ _ _ _ _ _ (sym (c .enum-told .given .1) ∙ c .before .before .test .ensures)
+
+returns-3 : tie.Need-returns-3
+returns-3 c = c .before .before .before .before .before .before .match-each .ensures ∙ matched-in-turn _ _ _ _ _ _ _ _ (sym (c .before .before .before .before .before .before .before .before .before .before .before .before .before .before .before .before .sizes .given .1) ∙ c .before .before .before .before .before .before .before .before .before .before .before .before .before .before .before .before .before .before .test .ensures) (sym (c .before .before .before .before .before .before .before .before .before .before .before .is-unfit .ensures) ∙ c .before .before .before .before .before .before .before .before .before .before .if1 .left)
+
+pub match-batch-spec : {M : Type 1} → statement M
+match-batch-spec =
+    tie.close
+    (tie.spec
+    (λ c κs. tt)
+    (search needs)
+    (search needs)
+    mul-is-unfit
+    is-unfit-requires
+    (search needs)
+    (search needs)
+    returns
+    match-each-requires
+    returns-2
+    (search needs)
+    (search needs)
+    (search needs)
+    returns-3)
