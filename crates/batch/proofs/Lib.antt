@@ -1,3 +1,5 @@
 pub mod Placing
 pub mod Turns
 pub mod Cases
+pub mod Alone
+pub mod Batches

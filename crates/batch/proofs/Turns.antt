@@ -16,8 +16,8 @@ use Rattle.pattern.proofs.Pairs.{numbers-more, numbers-none}
 use Rattle.pattern.proofs.Stretch.{slice-take}
 use Rattle.matcher.specs.declared.Matched.{Matched}
 use Rattle.matcher.specs.Answered.{answer-of, match-output, MatchPost}
-use Rattle.batch.specs.Batch.{labels-from, misplaced, answer-byte, BatchOutput, batch-output, before, in-turn}
-use Rattle.batch.proofs.Placing.{not-fallen, not-past, later-placed, Fits}
+use Rattle.batch.specs.Batch.{labels-from, misplaced, answer-byte, BatchOutput, batch-output, before, in-turn, Fits}
+use Rattle.batch.proofs.Placing.{not-fallen, not-past, later-placed, placed-exactly}
 
 -- what later labels give, behind bytes that are written
 abbrev after : (verdicts parts : Bytes) → BatchOutput → BatchOutput
@@ -57,7 +57,7 @@ module _ (table buffer ends : Bytes) (width budget : ℕ) (scratch₀ verdicts�
 
   -- all are left
   pub first-turn : Fits width buffer ends verdicts₀ parts₀ → Turns 0 0 0 scratch₀ verdicts₀ parts₀
-  first-turn f = record { fits = f; counted = omega arith; placed = f .placed; place = sym (zero-mul width); same-scratch = refl; same-verdicts = refl; same-parts = refl; completes = refl }
+  first-turn f = record { fits = f; counted = omega arith; placed = placed-exactly ends (length buffer) .1 (f .placed); place = sym (zero-mul width); same-scratch = refl; same-verdicts = refl; same-parts = refl; completes = refl }
 
   module _ (k at from : ℕ) (scratch verdicts parts : Bytes) (t : Turns k at from scratch verdicts parts) where
     -- none is left

@@ -1,16 +1,18 @@
 -- A batch: one pattern and up to 96 labels in one call, what it answers and every lent byte afterwards. To be believed.
+use mathlib.Core.Path.{_≡_}
+use mathlib.Core.Logic.{_⊎_}
 use mathlib.Core.Bool.{Bool, true, false, _||_}
 use mathlib.Core.List.{List, [], _∷_, _++_}
 use mathlib.Core.Option.{Option, none, some}
-use Prim.Native.Nat.{ℕ, _*_, _/_, _%_}
+use Prim.Native.Nat.{ℕ, zero, suc, _*_, _/_, _%_, max, _≤_, _<_}
 use lib.Dec.{eqb, ltb}
 use lib.ListN.{length, take, drop}
 use lib.Seq.{slice}
-use Rattle.pattern.specs.Numbers.{TABLE, BATCH}
+use Rattle.pattern.specs.Numbers.{label-limit, TABLE, LABEL, WORK, BUDGET, BATCH}
 use Rattle.pattern.specs.Bytes.{Bytes, numbers-in}
 use Rattle.pattern.specs.Syntax.{pattern, Syntax, top-size}
-use Rattle.pattern.specs.Decode.{decode}
-use Rattle.pattern.specs.Answers.{Answer, MatchOutput, matchOf}
+use Rattle.pattern.specs.Decode.{field, decode}
+use Rattle.pattern.specs.Answers.{Answer, MatchOutput, scratch-needed, matchOf}
 
 -- "up to 96 labels"
 abbrev pub batch-limit : ℕ
@@ -71,3 +73,37 @@ batched (some t) table buffer ends scratch verdicts parts budget =
 
 unfoldable pub batchOf : (table buffer ends scratch verdicts parts : Bytes) → (budget : ℕ) → BatchOutput
 batchOf table buffer ends scratch verdicts parts budget = batched (decode table) table buffer ends scratch verdicts parts budget
+
+-- ---- what the theorems say of a label
+
+-- where label k begins: at the end before it, at 0 the first
+unfoldable pub start : (ends : Bytes) → (k : ℕ) → ℕ
+start ends zero = 0
+start ends (suc k) = field ends (2 * k)
+
+abbrev pub label-at : (buffer ends : Bytes) → (k : ℕ) → Bytes
+label-at buffer ends k = slice (start ends k) (field ends (2 * k)) buffer
+
+-- what is lent fits: whole ends, not too many, none that falls or runs past the buffer, and outputs long enough
+pub record Fits (width : ℕ) (buffer ends verdicts parts : Bytes) : Type 0 where
+  pub whole : length ends % 2 ≡ 0
+  pub few : length ends / 2 ≤ batch-limit
+  pub placed : (k : ℕ) → k < length ends / 2 → (start ends k ≤ field ends (2 * k)) × (field ends (2 * k) ≤ length buffer)
+  pub verdicts-fit : length ends / 2 ≤ length verdicts
+  pub parts-fit : length ends / 2 * width ≤ length parts
+
+-- the part bytes of label k
+abbrev pub part-at : (width : ℕ) → Bytes → (k : ℕ) → Bytes
+part-at width parts k = take width (drop (k * width) parts)
+
+-- the bytes of an answer: no, yes, LABEL, WORK and BUDGET
+abbrev pub LabelByte : ℕ → Type 0
+LabelByte b = (b ≡ 0) ⊎ (b ≡ 1) ⊎ (b ≡ LABEL) ⊎ (b ≡ WORK) ⊎ (b ≡ BUDGET)
+
+-- the scratch bytes that a match uses: none with LABEL or WORK
+unfoldable pub used-by : Syntax pattern → (room : ℕ) → (label : Bytes) → ℕ
+used-by t room label = elim (ltb label-limit (length label) || ltb room (scratch-needed t (length label))) [ true ↦ 0 | false ↦ scratch-needed t (length label) ]
+
+unfoldable pub most-used : Syntax pattern → (room : ℕ) → (labels : List Bytes) → ℕ
+most-used t room [] = 0
+most-used t room (label ∷ labels) = max (used-by t room label) (most-used t room labels)

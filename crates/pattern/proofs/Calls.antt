@@ -1,35 +1,36 @@
 -- What the owner's demands say of the three calls. Assumes nothing.
 use mathlib.Core.Path.{_≡_, refl, sym, ap, subst, _∙_}
 use mathlib.Core.Logic.{_↔_, _⊎_, inl, inr, ⊎-elim}
-use mathlib.Core.Bool.{Bool, true, false}
+use mathlib.Core.Bool.{Bool, true, false, _||_}
 use mathlib.Core.List.{List}
 use mathlib.Core.Option.{Option, none, some}
 use Prim.Native.Nat.{ℕ, suc, _+_, _*_, _^_, _≤_, _<_}
 use native.Mathlib.Nat.{mul-le-mul}
 use native.Mathlib.Omega.{arith}
-use lib.Dec.{T, leb, leb→le}
+use lib.Dec.{T, leb, ltb, leb→le}
 use lib.ListN.{length}
 use lib.Seq.{take-append-seam, take-length}
-use borrow.Author.Tests.{le-leb, lt-leb, leb-true, leb-false}
-use Rattle.pattern.specs.Numbers.{source-limit, atom-limit, label-limit, LONG, DEPTH, ROOM, TABLE, LABEL, PARTS, BUDGET}
+use borrow.Author.Tests.{le-leb, lt-leb, leb-true, leb-false, ltb-true, le-ltb}
+use Rattle.pattern.specs.Numbers.{source-limit, atom-limit, label-limit, LONG, DEPTH, ROOM, TABLE, LABEL, WORK, PARTS, BUDGET}
 use Rattle.pattern.specs.Bytes.{Bytes, overwrite, zeroed}
 use Rattle.pattern.specs.Syntax.{Sort, pattern, Syntax, last, then, repeat, codes, literal, group, only, or, size, top-size}
 use Rattle.pattern.specs.Meaning.{Satisfies}
 use Rattle.pattern.specs.Parts.{IsVerdict, verdict}
 use Rattle.pattern.specs.Trials.{trials, trial-bound}
 use Rattle.pattern.specs.Grammar.{Derives}
-use Rattle.pattern.specs.Scan.{Outcome, refused, accepted, outcome}
+use Rattle.pattern.specs.Scan.{refuse, Outcome, refused, accepted, outcome}
 use Rattle.pattern.specs.Within.{Ordered, InLimits, Limited}
 use Rattle.pattern.specs.Faults.{rows-at, Applies, Least}
 use Rattle.pattern.specs.Print.{print}
 use Rattle.pattern.specs.Table.{encode}
 use Rattle.pattern.specs.Decode.{decode}
 use Rattle.pattern.specs.Answers.{Answer, refusal, result, put-if, put, compiled, compileOf, written-back, writeOf, MatchOutput, scratch-needed, part-bytes, lent-fault, Ending, untried, exhausted, decided, ended, ending, match-ending, matchOf, result-bytes, MatchNumber, Untouched, shown}
-use Rattle.pattern.proofs.Tests.{le-or-lt, if-true, if-false}
+use Rattle.pattern.proofs.Tests.{passed, le-or-lt, not-less, if-true, if-false}
+use Rattle.pattern.proofs.Stores.{length-overwrite, length-zeroed}
 use Rattle.pattern.proofs.Longest.{partition-satisfies, verdict-is, verdict-length, part-bytes-length}
 use Rattle.pattern.proofs.Bound.{bound}
 use Rattle.pattern.proofs.Accepted.{accepted-exactly}
-use Rattle.pattern.proofs.TableRows.{refuse-applies, row-number}
+use Rattle.pattern.proofs.TableRows.{refuse-applies, refuse-none, row-number}
 use Rattle.pattern.proofs.Least.{refused-exactly}
 use Rattle.pattern.proofs.Shortest.{shortest, good-tree}
 use Rattle.pattern.proofs.RoundTrip.{good-exactly}
@@ -109,6 +110,20 @@ lent-number : (t : Syntax pattern) (label scratch parts : Bytes) (f : ℕ) → l
 unfolding lent-fault Applies
 lent-number t label scratch parts f e =
     ⊎-elim (λ (x, y). (omega arith, omega arith)) (⊎-elim (λ (x, y). (omega arith, omega arith)) (⊎-elim (λ (x, y). (omega arith, omega arith)) (λ b. absurd b))) (refuse-applies _ f e)
+
+-- what is lent where none of them applies
+pub record LentFits (t : Syntax pattern) (label scratch parts : Bytes) : Type 0 where
+  pub label-fits : length label ≤ label-limit
+  pub scratch-fits : scratch-needed t (length label) ≤ length scratch
+  pub parts-fit : 2 * top-size t ≤ length parts
+
+pub lent-fits : (t : Syntax pattern) (label scratch parts : Bytes) → lent-fault t label scratch parts ≡ none → LentFits t label scratch parts
+unfolding lent-fault Applies
+lent-fits t label scratch parts e = record {
+  label-fits = not-less _ _ (λ h. refuse-none _ LABEL e (inl (h, refl)));
+  scratch-fits = not-less _ _ (λ h. refuse-none _ WORK e (inr (inl (h, refl))));
+  parts-fit = not-less _ _ (λ h. refuse-none _ PARTS e (inr (inr (inl (h, refl)))));
+}
 
 -- by the budget, where nothing is refused before
 pub ending-within : (used count budget : ℕ) (v : Option (List ℕ)) → count ≤ budget → ending none used count budget v ≡ decided used count v
@@ -242,7 +257,68 @@ scratch-ignored table label scratch other parts budget e = rw (same-ending (deco
     same-ending none = unfold match-ending in refl
     same-ending (some t) = unfold match-ending lent-fault in rw e
 
+-- ---- what a match leaves
+
+-- lengths as lent; and yes, or parts as lent
+pub record Leaves (scratch parts : Bytes) (m : MatchOutput) : Type 0 where
+  pub scratch-length : length (m .scratch) ≡ length scratch
+  pub parts-length : length (m .parts) ≡ length parts
+  pub yes-or-kept : ((m .answer .number ≡ 0) × (m .answer .value ≡ 1)) ⊎ ((m .answer .value ≡ 0) × (m .parts ≡ parts))
+
+pub match-leaves : (table label scratch parts : Bytes) (budget : ℕ) → Leaves scratch parts (matchOf table label scratch parts budget)
+unfolding matchOf ended
+match-leaves table label scratch parts budget =
+    match-cases (λ e. Leaves scratch parts (ended e scratch parts)) (decode table) label scratch parts budget
+    (λ number l h. record { scratch-length = refl; parts-length = refl; yes-or-kept = inr (refl, refl) })
+    (λ t d f h. record { scratch-length = length-zeroed _ scratch (lent-fits t label scratch parts f .scratch-fits); parts-length = refl; yes-or-kept = inr (refl, refl) })
+    (λ t d f h. decides t (lent-fits t label scratch parts f) (verdict label t) refl)
+  where
+    decides : (t : Syntax pattern) → LentFits t label scratch parts → (v : Option (List ℕ)) → verdict label t ≡ v → Leaves scratch parts (ended (decided (scratch-needed t (length label)) (trials label t) v) scratch parts)
+    decides t f none e = unfold ended in record { scratch-length = length-zeroed _ scratch (f .scratch-fits); parts-length = refl; yes-or-kept = inr (refl, refl) }
+    decides t f (some ends) e =
+        let n = part-bytes-length ends in
+        unfold ended in
+        record { scratch-length = length-zeroed _ scratch (f .scratch-fits); parts-length = length-overwrite (part-bytes ends) parts (omega (arith, verdict-length label t ends e, f .parts-fit)); yes-or-kept = inl (refl, refl) }
+
 -- ---- a verdict or a numbered refusal
+
+-- with a good table and parts enough: 0, 12, 13 or 15
+abbrev pub FitNumber : ℕ → Type 0
+FitNumber n = (n ≡ 0) ⊎ (n ≡ LABEL) ⊎ (n ≡ WORK) ⊎ (n ≡ BUDGET)
+
+pub fit-number : (table label scratch parts : Bytes) (budget : ℕ) (t : Syntax pattern) → decode table ≡ some t → 2 * top-size t ≤ length parts → FitNumber (matchOf table label scratch parts budget .answer .number)
+unfolding matchOf match-ending
+fit-number table label scratch parts budget t d r = rw d (by-fault (lent-fault t label scratch parts) refl)
+  where
+    by-budget : (b : Bool) → FitNumber (ended (elim b [ true ↦ decided (scratch-needed t (length label)) (trials label t) (verdict label t) | false ↦ exhausted (scratch-needed t (length label)) budget ]) scratch parts .answer .number)
+    by-budget true = inl (decided-reports (scratch-needed t (length label)) _ (verdict label t) scratch parts .number-zero)
+    by-budget false = unfold ended in inr (inr (inr refl))
+
+    by-fault : (o : Option ℕ) → lent-fault t label scratch parts ≡ o → FitNumber (ended (ending o (scratch-needed t (length label)) (trials label t) budget (verdict label t)) scratch parts .answer .number)
+    by-fault none e = unfold ending in by-budget (leb (trials label t) budget)
+    by-fault (some f) e =
+        unfold lent-fault Applies ending ended in
+        ⊎-elim (λ (x, y). inr (inl (sym y))) (⊎-elim (λ (x, y). inr (inr (inl (sym y)))) (⊎-elim (λ (x, y). absurd (let z = ltb-true (length parts) (2 * top-size t) (passed _ x) in omega arith)) (λ b. absurd b))) (refuse-applies _ f e)
+
+-- and its scratch: as lent with 12 or 13, else zeroed as far as it is used
+pub fit-scratch : (table label scratch parts : Bytes) (budget : ℕ) (t : Syntax pattern) → decode table ≡ some t → 2 * top-size t ≤ length parts
+    → matchOf table label scratch parts budget .scratch
+    ≡ elim (ltb label-limit (length label) || ltb (length scratch) (scratch-needed t (length label))) [ true ↦ scratch | false ↦ zeroed (scratch-needed t (length label)) scratch ]
+unfolding matchOf match-ending lent-fault refuse
+fit-scratch table label scratch parts budget t d r = rw (d, le-ltb _ _ r) (by-tests (ltb label-limit (length label)) (ltb (length scratch) (scratch-needed t (length label))))
+  where
+    used : ℕ
+    used = scratch-needed t (length label)
+
+    by-budget : (b : Bool) → ended (elim b [ true ↦ decided used (trials label t) (verdict label t) | false ↦ exhausted used budget ]) scratch parts .scratch ≡ zeroed used scratch
+    by-budget true = decided-reports used _ (verdict label t) scratch parts .used-zeroed
+    by-budget false = unfold ended in refl
+
+    by-tests : (a b : Bool) → ended (ending (elim a [ true ↦ some LABEL | false ↦ elim b [ true ↦ some WORK | false ↦ none ] ]) used (trials label t) budget (verdict label t)) scratch parts .scratch
+        ≡ elim (a || b) [ true ↦ scratch | false ↦ zeroed used scratch ]
+    by-tests true b = unfold ending ended in refl
+    by-tests false true = unfold ending ended in refl
+    by-tests false false = unfold ending in by-budget (leb (trials label t) budget)
 
 -- the number of a source's refusal
 outcome-number : (source : Bytes) (f p : ℕ) → outcome source ≡ refused f p → (LONG ≤ f) × (f ≤ DEPTH)

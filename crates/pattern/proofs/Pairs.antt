@@ -1,7 +1,7 @@
 -- Numbers of two bytes each, from a place in bytes on. Assumes nothing.
-use mathlib.Core.Path.{_≡_, refl, ap, _∙_}
+use mathlib.Core.Path.{_≡_, refl, sym, ap, _∙_}
 use mathlib.Core.List.{[], _∷_}
-use Prim.Native.Nat.{ℕ, _+_, _≤_, _<_}
+use Prim.Native.Nat.{ℕ, zero, suc, _+_, _*_, _/_, _≤_, _<_}
 use native.Mathlib.Omega.{arith}
 use native.Mathlib.Numerals.{add-one}
 use lib.ListN.{length, getD, drop, length-drop}
@@ -32,3 +32,20 @@ module _ (s : Bytes) (i : ℕ) where
 
   pub numbers-none : length s ≤ i + 1 → numbers-in (drop i s) ≡ []
   numbers-none h = numbers-few (drop i s) (omega (arith, length-drop i s))
+
+-- how many they are, and each
+pub numbers-length : (s : Bytes) → length (numbers-in s) ≡ length s / 2
+unfolding numbers-in
+numbers-length [] = refl
+numbers-length (a ∷ []) = refl
+numbers-length (a ∷ b ∷ s) = omega (arith, numbers-length s)
+
+field-later : (a b : ℕ) (s : Bytes) (i : ℕ) → field (a ∷ b ∷ s) (suc (suc i)) ≡ field s i
+field-later a b s i = let e : suc (suc i) + 1 ≡ suc (suc (i + 1)) = omega arith in ap (λ k. getD s i 0 + 256 * getD (a ∷ b ∷ s) k 0) e
+
+pub numbers-at : (s : Bytes) (k : ℕ) → k < length s / 2 → getD (numbers-in s) k 0 ≡ field s (2 * k)
+unfolding numbers-in
+numbers-at [] k h = absurd (omega arith)
+numbers-at (a ∷ []) k h = absurd (omega arith)
+numbers-at (a ∷ b ∷ s) zero h = refl
+numbers-at (a ∷ b ∷ s) (suc k) h = let e : 2 * suc k ≡ suc (suc (2 * k)) = omega arith in numbers-at s k (omega arith) ∙ sym (field-later a b s (2 * k)) ∙ ap (field (a ∷ b ∷ s)) (sym e)

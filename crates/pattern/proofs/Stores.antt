@@ -1,12 +1,13 @@
 -- Stores one after the other, and what they come to. Assumes nothing.
 use mathlib.Core.Path.{_≡_, refl, sym, ap, _∙_}
 use mathlib.Core.List.{[], _∷_, _++_}
-use Prim.Native.Nat.{ℕ, suc, _+_, _-_, _≤_, _<_}
+use Prim.Native.Nat.{ℕ, zero, suc, _+_, _-_, max, _≤_, _<_}
+use native.Mathlib.Nat.{zero-max, max-zero, suc-max-suc}
 use native.Mathlib.Omega.{arith}
 use native.Mathlib.Numerals.{add-one}
-use lib.ListN.{length, set, getD, take, drop, length-append, take-append-drop}
+use lib.ListN.{length, set, getD, take, drop, replicate, length-append, length-drop, length-replicate, take-append-drop}
 use lib.Seq.{sets, length-sets, sets-eq, set-comm, take-suc, take-at, drop-at, drop-drop, length-take-le}
-use Rattle.pattern.specs.Bytes.{Bytes, overwrite}
+use Rattle.pattern.specs.Bytes.{Bytes, overwrite, zeroed}
 use Rattle.pattern.specs.Stores.{store-at, Puts}
 
 pub length-store-at : (l : Bytes) (i : ℕ) (v : Bytes) → length (store-at l i v) ≡ length l
@@ -75,6 +76,20 @@ same-after s t i j h e = sym (on s) ∙ ap (drop (j - i)) e ∙ on t
 pub overwrite-same : (n : ℕ) (s t : Bytes) → n ≤ length s → drop n s ≡ drop n t → s ≡ overwrite (take n s) t
 unfolding overwrite
 overwrite-same n s t h e = sym (take-append-drop n s) ∙ ap (λ (v : Bytes). take n s ++ v) e ∙ ap (λ k. take n s ++ drop k t) (sym (length-take-le n s h))
+
+pub length-overwrite : (v l : Bytes) → length v ≤ length l → length (overwrite v l) ≡ length l
+unfolding overwrite
+length-overwrite v l h = omega (arith, length-append v (drop (length v) l), length-drop (length v) l)
+
+pub length-zeroed : (n : ℕ) (l : Bytes) → n ≤ length l → length (zeroed n l) ≡ length l
+length-zeroed n l h = omega (arith, length-append (replicate n 0) (drop n l), length-replicate {A = ℕ} n 0, length-drop n l)
+
+-- zeros twice over
+pub zeroed-twice : (n k : ℕ) (l : Bytes) → k ≤ length l → zeroed n (zeroed k l) ≡ zeroed (max n k) l
+zeroed-twice zero k l h = ap (λ m. zeroed m l) (sym (zero-max k))
+zeroed-twice (suc n) zero l h = ap (λ m. zeroed m l) (sym (max-zero (suc n)))
+zeroed-twice (suc n) (suc k) [] h = absurd (omega arith)
+zeroed-twice (suc n) (suc k) (x ∷ l) h = ap (λ (v : Bytes). 0 ∷ v) (zeroed-twice n k l (omega arith)) ∙ ap (λ m. zeroed m (x ∷ l)) (sym (suc-max-suc n k))
 
 pub take-overwrite : (v s : Bytes) → take (length v) (overwrite v s) ≡ v
 unfolding overwrite

@@ -1,5 +1,5 @@
 -- Tests that compute, and the facts that they decide. Assumes nothing.
-use mathlib.Core.Path.{_≡_, refl, subst}
+use mathlib.Core.Path.{_≡_, refl, sym, subst}
 use mathlib.Core.Logic.{_↔_, _⊎_, inl, inr, ⊎-elim}
 use mathlib.Core.Bool.{Bool, true, false, not, cond, _&&_, _||_}
 use mathlib.Core.Option.{Option, none, some}
@@ -7,7 +7,8 @@ use Prim.Native.Nat.{ℕ, zero, suc, _<_, _≤_}
 use native.Mathlib.Nat.{eq-or-lt-of-le}
 use native.Mathlib.Decide.{decLe}
 use native.Mathlib.Omega.{arith}
-use lib.Dec.{T, leb, leb→le, le→leb, eqb, eqb→eq, eqb-refl}
+use lib.Dec.{T, leb, ltb, leb→le, le→leb, eqb, eqb→eq, eqb-refl}
+use borrow.Author.Tests.{lt-ltb}
 use Rattle.pattern.specs.Decision.{any}
 
 -- the test passes just when the fact holds
@@ -79,6 +80,9 @@ On (some a) P = P a
 
 pub le-or-lt : (a b : ℕ) → (a ≤ b) ⊎ (b < a)
 le-or-lt a b = elim (decLe a b) [ yes h ↦ inl h | no h ↦ inr (omega arith) ]
+
+pub not-less : (a b : ℕ) → ¬ T (ltb a b) → b ≤ a
+not-less a b h = ⊎-elim (λ k. k) (λ k. absurd (h (subst T (sym (lt-ltb a b k)) tt))) (le-or-lt b a)
 
 -- a number below c + 1 is c or below c
 pub below-suc : {d c : ℕ} → d < suc c → (d ≡ c) ⊎ (d < c)

@@ -14,7 +14,7 @@ use Rattle.pattern.specs.Syntax.{pattern, Syntax, top-size}
 use Rattle.pattern.specs.Scan.{refuse}
 use Rattle.pattern.specs.Decode.{decode}
 use Rattle.pattern.specs.Answers.{compileOf, scratch-needed, lent-fault, Ending, untried, exhausted, decided, ended}
-use Rattle.pattern.proofs.Calls.{match-cases}
+use Rattle.pattern.proofs.Calls.{match-cases, lent-fits}
 use Rattle.replies.specs.Sizes.{line-limit, budget}
 use Rattle.replies.specs.Reply.{cut, Reply, ending-reply, label-reply, table-reply, source-reply, cut-reply, reply}
 use Rattle.replies.specs.Stores.{Zero}
@@ -54,18 +54,6 @@ zeroed-zero k s h z = ap (λ v. v ++ drop k s) (sym (take-blank k (length s) h) 
 
 -- ---- scratch of zeros stays so: after a match and after a line
 
--- the planes of a match that isn't refused lie in scratch
-lent-work : (t : Syntax pattern) (label scratch parts : Bytes) → lent-fault t label scratch parts ≡ none → scratch-needed t (length label) ≤ length scratch
-unfolding lent-fault refuse
-lent-work t label scratch parts e =
-    ltb-false (length scratch) (scratch-needed t (length label))
-    (go (ltb label-limit (length label)) (ltb (length scratch) (scratch-needed t (length label))) (refuse ((ltb (length parts) (2 * top-size t), PARTS) ∷ [])) e)
-  where
-    go : (a b : Bool) (r : Option ℕ) → _≡_ {A = Option ℕ} (elim a [ true ↦ some LABEL | false ↦ elim b [ true ↦ some WORK | false ↦ r ] ]) none → b ≡ false
-    go true b r e = absurd (let z : _≡_ {A = ℕ} 0 1 = cc in omega arith)
-    go false true r e = absurd (let z : _≡_ {A = ℕ} 0 1 = cc in omega arith)
-    go false false r e = refl
-
 -- the scratch bytes that a match used are not more than these
 Used : Ending → ℕ → Type 0
 Used (untried number) n = Unit {0}
@@ -84,7 +72,7 @@ module _ (scratch : Bytes) (z : Zero scratch) where
   unfolding label-reply ending-reply Used
   label-same table label =
       let parts : Bytes = replicate parts-room 0 in
-      ended-same parts _ (match-cases (λ e. Used e (length scratch)) (decode table) label scratch parts budget (λ n l h. tt) (λ t d f h. lent-work t label scratch parts f) (λ t d f h. lent-work t label scratch parts f))
+      ended-same parts _ (match-cases (λ e. Used e (length scratch)) (decode table) label scratch parts budget (λ n l h. tt) (λ t d f h. lent-fits t label scratch parts f .scratch-fits) (λ t d f h. lent-fits t label scratch parts f .scratch-fits))
 
   source-same : (source label : Bytes) → source-reply source label scratch .scratch ≡ scratch
   unfolding source-reply table-reply

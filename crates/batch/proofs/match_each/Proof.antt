@@ -3,7 +3,7 @@ use Prim.Native.Nat.{_-_}
 use native.Mathlib.Omega.{arith}
 use borrow.Author.Needs.{needs}
 use Rattle.matcher.proofs.Refusals.{few-tops}
-use Rattle.batch.proofs.Placing.{fit}
+use Rattle.batch.proofs.Placing.{fits-exactly}
 use Rattle.batch.proofs.Turns.{Turns, first-turn, end-there, part-room, verdict-room, label-rises, label-within, next-turn, all-turns}
 use Rattle.batch.proofs.match_each.Statement.{statement}
 use Rattle.batch.proofs.match_each.Tie as tie
@@ -19,7 +19,7 @@ mul-width : tie.Need-mul-width Inv-loop μ-loop
 mul-width c = omega (arith, few-tops _ _ (c .before .before .before .before .before .before .before .pre .good))
 
 loop-holds : tie.Need-loop-holds Inv-loop μ-loop
-loop-holds c = first-turn _ _ _ _ _ _ _ _ (fit _ _ _ _ _ (c .before .before .before .before .before .before .before .pre .fits))
+loop-holds c = first-turn _ _ _ _ _ _ _ _ (fits-exactly _ _ _ _ _ .0 (c .before .before .before .before .before .before .before .pre .fits))
 
 read16-requires : tie.Need-read16-requires Inv-loop μ-loop
 read16-requires c κs = end-there _ _ _ _ _ _ _ _ _ _ _ _ _ _ (c .before .loop .inv) (c .loop-test .taken)

@@ -1,0 +1,184 @@
+-- What a batch answers and leaves, sentence by sentence of the request. Assumes nothing.
+use mathlib.Core.Path.{_≡_, refl, sym, ap, subst, _∙_}
+use mathlib.Core.Logic.{_↔_, _⊎_, inl, inr, ⊎-elim}
+use mathlib.Core.Bool.{Bool, true, false, _||_}
+use mathlib.Core.List.{List, [], _∷_, _++_}
+use mathlib.Core.Option.{Option, none, some}
+use Prim.Native.Nat.{ℕ, zero, suc, _+_, _*_, _/_, max, _≤_, _<_}
+use native.Mathlib.Nat.{mul-le-mul-right, suc-mul, zero-mul, max-comm}
+use native.Mathlib.Omega.{arith}
+use lib.Dec.{eqb, ltb}
+use lib.ListN.{length, getD, take, drop, length-drop}
+use lib.Seq.{drop-at, drop-drop, length-take-le}
+use borrow.Author.Tests.{ltb-false, eq-eqb, ne-eqb}
+use Rattle.pattern.specs.Numbers.{label-limit, TABLE, LABEL, WORK, BUDGET, BATCH}
+use Rattle.pattern.specs.Bytes.{Bytes, numbers-in, zeroed}
+use Rattle.pattern.specs.Syntax.{pattern, Syntax, top-size}
+use Rattle.pattern.specs.Decode.{decode}
+use Rattle.pattern.specs.Answers.{Answer, MatchOutput, scratch-needed, matchOf}
+use Rattle.pattern.proofs.Tests.{neither, if-true, if-false}
+use Rattle.pattern.proofs.Stores.{zeroed-twice}
+use Rattle.pattern.proofs.Pairs.{numbers-length}
+use Rattle.pattern.proofs.Calls.{Leaves, match-leaves, fit-number, fit-scratch}
+use Rattle.batch.specs.Batch.{labels-from, unfit, answer-byte, BatchOutput, batch-output, in-turn, batched, batchOf, label-at, part-at, LabelByte, used-by, most-used, Fits}
+use Rattle.batch.proofs.Placing.{fits-exactly}
+use Rattle.batch.proofs.Cases.{unfit-refused, fit-in-turn}
+use Rattle.batch.proofs.Alone.{labels-length, label-is, Alone, each-alone}
+
+-- ---- the labels in turn
+
+module _ (table : Bytes) (width budget : ℕ) where
+  turns-number : (labels : List Bytes) (scratch verdicts parts : Bytes) → in-turn table width budget labels scratch verdicts parts .number ≡ 0
+  unfolding in-turn
+  turns-number [] scratch verdicts parts = refl
+  turns-number (label ∷ labels) scratch verdicts parts = turns-number labels _ _ _
+
+  -- the bytes past those of the last label
+  turns-past : (labels : List Bytes) (scratch verdicts parts : Bytes) → length labels * width ≤ length parts
+      → let o : BatchOutput = in-turn table width budget labels scratch verdicts parts in
+      (drop (length labels) (o .verdicts) ≡ drop (length labels) verdicts) × (drop (length labels * width) (o .parts) ≡ drop (length labels * width) parts)
+  unfolding in-turn
+  turns-past [] scratch verdicts parts r = (refl, refl)
+  turns-past (label ∷ labels) scratch verdicts parts r =
+      let m : MatchOutput = matchOf table label scratch (take width parts) budget in
+      let k : ℕ = length labels in
+      let e : suc k * width ≡ width + k * width = omega (arith, suc-mul k width) in
+      let n : length (m .parts) ≡ width = match-leaves table label scratch (take width parts) budget .parts-length ∙ length-take-le width parts (omega arith) in
+      let (v, p) = turns-past labels (m .scratch) (drop 1 verdicts) (drop width parts) (omega (arith, length-drop width parts)) in
+      let s : 1 + k ≡ suc k = omega arith in
+      let later : BatchOutput = in-turn table width budget labels (m .scratch) (drop 1 verdicts) (drop width parts) in (
+        v ∙ drop-drop k 1 verdicts ∙ ap (λ i. drop i verdicts) s,
+        ap (λ i. drop i (m .parts ++ later .parts)) e ∙ sym (drop-drop (k * width) width _) ∙ ap (drop (k * width)) (drop-at (m .parts) (later .parts) width n) ∙ p ∙ drop-drop (k * width) width parts ∙ ap (λ i. drop i parts) (sym e),
+      )
+
+-- ---- scratch
+
+module _ (t : Syntax pattern) (room : ℕ) (label : Bytes) where
+  used-le : used-by t room label ≤ room
+  unfolding used-by
+  used-le = go (ltb label-limit (length label)) (ltb room (scratch-needed t (length label))) refl
+    where
+      go : (a b : Bool) → ltb room (scratch-needed t (length label)) ≡ b → (elim (a || b) [ true ↦ 0 | false ↦ scratch-needed t (length label) ]) ≤ room
+      go true b e = omega arith
+      go false true e = omega arith
+      go false false e = ltb-false _ _ e
+
+module _ (table : Bytes) (t : Syntax pattern) (good : decode table ≡ some t) (budget : ℕ) where
+  match-used : (label scratch parts : Bytes) → 2 * top-size t ≤ length parts → matchOf table label scratch parts budget .scratch ≡ zeroed (used-by t (length scratch) label) scratch
+  unfolding used-by
+  match-used label scratch parts r = fit-scratch table label scratch parts budget t good r ∙ go (ltb label-limit (length label) || ltb (length scratch) (scratch-needed t (length label)))
+    where
+      go : (b : Bool) → (elim b [ true ↦ scratch | false ↦ zeroed (scratch-needed t (length label)) scratch ]) ≡ zeroed (elim b [ true ↦ 0 | false ↦ scratch-needed t (length label) ]) scratch
+      go true = refl
+      go false = refl
+
+  turns-scratch : (labels : List Bytes) (scratch verdicts parts : Bytes) → length labels * (2 * top-size t) ≤ length parts
+      → in-turn table (2 * top-size t) budget labels scratch verdicts parts .scratch ≡ zeroed (most-used t (length scratch) labels) scratch
+  unfolding in-turn most-used
+  turns-scratch [] scratch verdicts parts r = refl
+  turns-scratch (label ∷ labels) scratch verdicts parts r =
+      let width : ℕ = 2 * top-size t in
+      let mine : Bytes = take width parts in
+      let s : Bytes = matchOf table label scratch mine budget .scratch in
+      let u : ℕ = used-by t (length scratch) label in
+      let w : ℕ = most-used t (length scratch) labels in
+      let e = suc-mul (length labels) width in
+      let i = turns-scratch labels s (drop 1 verdicts) (drop width parts) (omega (arith, length-drop width parts)) in
+      i
+      ∙ ap (λ n. zeroed (most-used t n labels) s) (match-leaves table label scratch mine budget .scratch-length)
+      ∙ ap (zeroed w) (match-used label scratch mine (omega (arith, length-take-le width parts (omega arith))))
+      ∙ zeroed-twice w u scratch (used-le t (length scratch) label)
+      ∙ ap (λ n. zeroed n scratch) (max-comm w u)
+
+-- ---- a label's answer byte
+
+-- the byte of a match with a good table and parts enough: which it may be, and parts as lent unless it is 1
+module _ (table label scratch parts : Bytes) (budget : ℕ) (t : Syntax pattern) (good : decode table ≡ some t) (r : 2 * top-size t ≤ length parts) where
+  abbrev m : MatchOutput
+  m = matchOf table label scratch parts budget
+
+  byte-kept : ¬ (answer-byte (m .answer) ≡ 1) → m .parts ≡ parts
+  unfolding answer-byte
+  byte-kept h =
+      ⊎-elim (λ (n, v). absurd (h (if-true _ _ _ (eq-eqb _ _ n) ∙ v))) (λ (v, p). p) (match-leaves table label scratch parts budget .yes-or-kept)
+
+  byte-is : LabelByte (answer-byte (m .answer))
+  unfolding answer-byte
+  byte-is =
+      ⊎-elim (λ z. ⊎-elim (λ (n, v). inr (inl (if-true _ _ _ (eq-eqb _ _ z) ∙ v))) (λ (v, p). inl (if-true _ _ _ (eq-eqb _ _ z) ∙ v)) (match-leaves table label scratch parts budget .yes-or-kept))
+      (⊎-elim (λ e. inr (inr (inl (refused LABEL e (omega arith))))) (⊎-elim (λ e. inr (inr (inr (inl (refused WORK e (omega arith)))))) (λ e. inr (inr (inr (inr (refused BUDGET e (omega arith))))))))
+      (fit-number table label scratch parts budget t good r)
+    where
+      refused : (number : ℕ) → m .answer .number ≡ number → 0 < number → (elim (eqb (m .answer .number) 0) [ true ↦ m .answer .value | false ↦ m .answer .number ]) ≡ number
+      refused number e p = if-false _ _ _ (ne-eqb _ _ (λ z. let x : m .answer .number ≡ 0 = z in omega arith)) ∙ e
+
+-- ---- the whole batch, under a good table
+
+module _ (table buffer ends scratch verdicts parts : Bytes) (budget : ℕ) (t : Syntax pattern) (good : decode table ≡ some t) where
+  abbrev width : ℕ
+  width = 2 * top-size t
+
+  abbrev labels : List Bytes
+  labels = labels-from 0 (numbers-in ends) buffer
+
+  abbrev output : BatchOutput
+  output = batchOf table buffer ends scratch verdicts parts budget
+
+  -- "refuse the whole call with new number 16", which writes nothing, exactly where what is lent does not fit
+  pub unfit-refuses : ¬ Fits width buffer ends verdicts parts → output ≡ batch-output BATCH scratch verdicts parts
+  unfit-refuses n = go (unfit width buffer ends verdicts parts) refl
+    where
+      go : (b : Bool) → unfit width buffer ends verdicts parts ≡ b → output ≡ batch-output BATCH scratch verdicts parts
+      go true e = unfit-refused table buffer ends scratch verdicts parts budget t good (top-size t) refl e
+      go false e = absurd (n (fits-exactly width buffer ends verdicts parts .0 e))
+
+  -- where it fits
+  module _ (fits : Fits width buffer ends verdicts parts) where
+    in-turns : output ≡ in-turn table width budget labels scratch verdicts parts
+    in-turns = fit-in-turn table buffer ends scratch verdicts parts budget t good (top-size t) refl (fits-exactly width buffer ends verdicts parts .1 fits)
+
+    count : length labels ≡ length ends / 2
+    count = labels-length 0 (numbers-in ends) buffer ∙ numbers-length ends
+
+    room : length labels * width ≤ length parts
+    room = subst (λ n. n * width ≤ length parts) (sym count) (fits .parts-fit)
+
+    pub fit-answers : output .number ≡ 0
+    fit-answers = ap (λ (o : BatchOutput). o .number) in-turns ∙ turns-number table width budget labels scratch verdicts parts
+
+    -- "the result, scratch included": as far as the label that used most of it, zeros, and then as lent
+    pub scratch-zeroed : output .scratch ≡ zeroed (most-used t (length scratch) labels) scratch
+    scratch-zeroed = ap (λ (o : BatchOutput). o .scratch) in-turns ∙ turns-scratch table t good budget labels scratch verdicts parts room
+
+    -- the bytes past those of the last label stay
+    pub past-kept : (drop (length ends / 2) (output .verdicts) ≡ drop (length ends / 2) verdicts) × (drop (length ends / 2 * width) (output .parts) ≡ drop (length ends / 2 * width) parts)
+    past-kept =
+        let (v, p) = turns-past table width budget labels scratch verdicts parts room in
+        rw (in-turns, sym count) (v, p)
+
+    -- "one answer byte each (0 no, 1 yes, else the refusal number)", of label k, which is those of a single call made alone with any scratch of that length; its part bytes too; "a label with no or a refusal keeps its part bytes"
+    pub record LabelAnswered (other : Bytes) (k : ℕ) : Type 0 where
+      pub alone : Alone table width budget other (label-at buffer ends k) (part-at width parts k) k output
+      pub byte : LabelByte (getD (output .verdicts) k 0)
+      pub kept : ¬ (getD (output .verdicts) k 0 ≡ 1) → part-at width (output .parts) k ≡ part-at width parts k
+
+    pub label-answered : (other : Bytes) → length scratch ≡ length other → (k : ℕ) → k < length ends / 2 → LabelAnswered other k
+    label-answered other e k h =
+        let a : Alone table width budget other (label-at buffer ends k) (part-at width parts k) k output =
+        subst (λ l. Alone table width budget other l (part-at width parts k) k output) (label-is buffer ends k h)
+        (subst (Alone table width budget other (getD labels k []) (part-at width parts k) k) (sym in-turns) (each-alone table width budget other labels scratch verdicts parts e room k (omega (arith, count)))) in
+        let n : k * width + width ≤ length parts = omega (arith, suc-mul k width, mul-le-mul-right width h, fits .parts-fit) in
+        let r : width ≤ length (part-at width parts k) = omega (arith, length-take-le width (drop (k * width) parts) (omega (arith, length-drop (k * width) parts))) in
+        record {
+          alone = a;
+          byte = subst LabelByte (sym (a .byte)) (byte-is table (label-at buffer ends k) other (part-at width parts k) budget t good r);
+          kept = λ n. a .own ∙ byte-kept table (label-at buffer ends k) other (part-at width parts k) budget t good r (λ x. n (a .byte ∙ x));
+        }
+
+-- no label: the call is not refused and touches nothing
+pub no-labels : (table buffer scratch verdicts parts : Bytes) (budget : ℕ) (t : Syntax pattern) → decode table ≡ some t → batchOf table buffer [] scratch verdicts parts budget ≡ batch-output 0 scratch verdicts parts
+unfolding in-turn labels-from numbers-in
+no-labels table buffer scratch verdicts parts budget t good = in-turns table buffer [] scratch verdicts parts budget t good fits
+  where
+    fits : Fits (2 * top-size t) buffer [] verdicts parts
+    fits = record { whole = refl; few = omega arith; placed = λ k h. absurd (omega arith); verdicts-fit = omega arith; parts-fit = omega (arith, zero-mul (2 * top-size t)) }
