@@ -1,5 +1,6 @@
 //! Fixed lists of calls.
 
+use crate::batches::{areas, batches};
 use crate::call::{Call, Case};
 use crate::long::{each_set, long_labels, wide_counts, wrapped_inputs, wrapped_rooms};
 use crate::tables::table_of;
@@ -63,7 +64,7 @@ fn each_count() -> Vec<Call> {
 }
 
 /// The examples of the papers and what is made of every byte, set, count, short source and changed
-/// table, and the long calls; a quick run has fewer short sources and no count past 32 bits.
+/// table, the long calls and the batches; a quick run has fewer short sources and no count past 32 bits.
 pub fn fixed(quick: bool) -> Vec<Case> {
     let short = short_sources(if quick { 4 } else { 5 })
         .into_iter()
@@ -97,6 +98,7 @@ pub fn fixed(quick: bool) -> Vec<Case> {
         .chain(changed)
         .chain(long_labels())
         .chain(wrapped_inputs())
+        .chain(batches())
         .chain(if quick { Vec::new() } else { wide_counts() });
     calls
         .map(|call| Case {
@@ -105,6 +107,7 @@ pub fn fixed(quick: bool) -> Vec<Case> {
             dirt: 1,
         })
         .chain(wrapped_rooms())
+        .chain(areas())
         .collect()
 }
 
@@ -167,7 +170,7 @@ fn short_sources(most: usize) -> Vec<Vec<u8>> {
 }
 
 /// A table with one byte changed to each other value, at each place; every cut; a byte more.
-fn changed_tables() -> Vec<Vec<u8>> {
+pub fn changed_tables() -> Vec<Vec<u8>> {
     let table =
         second::compile(b"2.(1\"a\"\"\",3.5AN.(.E,1\"\"))1\"bc\".9999L", usize::MAX).unwrap();
     let mut all = Vec::new();
