@@ -226,10 +226,10 @@ fn for_some(random: &mut Random, table: &[u8], atoms: usize, all: &[Vec<u8>]) ->
 
 /// One case of everything; no match of more than `dearest` trials.
 pub fn case(random: &mut Random, dearest: u64) -> Case {
-    let call = match random.below(50) {
-        0..=18 => compile_call(random),
-        19..=28 => write_back_call(random),
-        29 => batch_call(random),
+    let call = match random.below(30) {
+        0..=11 => compile_call(random),
+        12..=17 => write_back_call(random),
+        18 => batch_call(random),
         _ => match_call(random, dearest),
     };
     let answer_len = if random.once_in(10) {

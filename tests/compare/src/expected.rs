@@ -69,13 +69,17 @@ fn zeros(len: usize) -> Writes {
 }
 
 pub fn expected(case: &Case) -> Expected {
-    if case.answer_len < 32 {
-        return Expected {
-            number: second::ANSWER,
-            ..Expected::default()
-        };
+    if case.answer_len >= 32 {
+        return answered(&case.call);
     }
-    match &case.call {
+    Expected {
+        number: second::ANSWER,
+        ..Expected::default()
+    }
+}
+
+fn answered(call: &Call) -> Expected {
+    match call {
         Call::Compile { source, table_len } => {
             Expected::of_bytes(second::compile(source, *table_len))
         }

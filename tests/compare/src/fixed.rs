@@ -72,30 +72,13 @@ pub fn fixed(quick: bool) -> Vec<Case> {
             source,
             table_len: 60,
         });
-    let changed = changed_tables().into_iter().flat_map(|table| {
-        let label = b"a\"5bc".to_vec();
-        let matched = Call::Match {
-            table: table.clone(),
-            label,
-            scratch_len: 720,
-            parts_len: 6,
-            budget: 9_999,
-        };
-        [
-            Call::WriteBack {
-                table,
-                source_len: 60,
-            },
-            matched,
-        ]
-    });
     let calls = examples()
         .into_iter()
         .chain(each_byte())
         .chain(each_count())
         .chain(each_set())
         .chain(short)
-        .chain(changed)
+        .chain(changed_tables().into_iter().flat_map(of_changed))
         .chain(long_labels())
         .chain(wrapped_inputs())
         .chain(batches())
@@ -109,6 +92,22 @@ pub fn fixed(quick: bool) -> Vec<Case> {
         .chain(wrapped_rooms())
         .chain(areas())
         .collect()
+}
+
+/// A changed table written back and matched.
+fn of_changed(table: Vec<u8>) -> [Call; 2] {
+    let written = Call::WriteBack {
+        table: table.clone(),
+        source_len: 60,
+    };
+    let matched = Call::Match {
+        table,
+        label: b"a\"5bc".to_vec(),
+        scratch_len: 720,
+        parts_len: 6,
+        budget: 9_999,
+    };
+    [written, matched]
 }
 
 /// The matches that the papers name, under an ample budget and under each one up to 4.
