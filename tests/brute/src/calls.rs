@@ -159,7 +159,7 @@ fn ends_in(bytes: &[u8], labels_len: usize) -> Option<Vec<usize>> {
     let number = |pair: &[u8]| usize::from(pair[0]) + 256 * usize::from(pair[1]);
     let ends: Vec<usize> = bytes.chunks_exact(2).map(number).collect();
     let inside = ends.is_sorted() && ends.iter().all(|&end| end <= labels_len);
-    (bytes.len() % 2 == 0 && ends.len() <= 96 && inside).then_some(ends)
+    (bytes.len().is_multiple_of(2) && ends.len() <= 96 && inside).then_some(ends)
 }
 
 /// # Safety

@@ -1,7 +1,7 @@
 //! Fixed batches: each count of labels, each fault of the ends, outputs of every length about the
 //! one needed, labels that are refused among others that aren't.
 
-use crate::call::{Call, Case};
+use crate::call::{Batch, Call, Case};
 use crate::fixed::changed_tables;
 use crate::tables::work;
 
@@ -20,18 +20,6 @@ pub fn joined(labels: &[Vec<u8>]) -> (Vec<u8>, Vec<u8>) {
         })
         .collect();
     (labels.concat(), ends_of(&ends))
-}
-
-/// Labels for one pattern, and what is lent to them.
-#[derive(Clone)]
-struct Batch {
-    table: Vec<u8>,
-    labels: Vec<u8>,
-    ends: Vec<u8>,
-    scratch_len: usize,
-    verdicts_len: usize,
-    parts_len: usize,
-    budget: u64,
 }
 
 impl Batch {
@@ -55,15 +43,7 @@ impl Batch {
     fn with(&self, change: impl FnOnce(&mut Batch)) -> Call {
         let mut batch = self.clone();
         change(&mut batch);
-        Call::Batch {
-            table: batch.table,
-            labels: batch.labels,
-            ends: batch.ends,
-            scratch_len: batch.scratch_len,
-            verdicts_len: batch.verdicts_len,
-            parts_len: batch.parts_len,
-            budget: batch.budget,
-        }
+        Call::Batch(batch)
     }
 
     fn call(&self) -> Call {

@@ -3,6 +3,18 @@
 use std::fmt;
 use std::str::{FromStr, SplitWhitespace};
 
+/// A batch, with its outputs by their lengths.
+#[derive(Clone, Debug, PartialEq)]
+pub struct Batch {
+    pub table: Vec<u8>,
+    pub labels: Vec<u8>,
+    pub ends: Vec<u8>,
+    pub scratch_len: usize,
+    pub verdicts_len: usize,
+    pub parts_len: usize,
+    pub budget: u64,
+}
+
 #[derive(Clone, Debug, PartialEq)]
 pub enum Call {
     Compile {
@@ -20,15 +32,7 @@ pub enum Call {
         parts_len: usize,
         budget: u64,
     },
-    Batch {
-        table: Vec<u8>,
-        labels: Vec<u8>,
-        ends: Vec<u8>,
-        scratch_len: usize,
-        verdicts_len: usize,
-        parts_len: usize,
-        budget: u64,
-    },
+    Batch(Batch),
 }
 
 impl Call {
@@ -37,7 +41,7 @@ impl Call {
             Call::Compile { .. } => "compile",
             Call::WriteBack { .. } => "write_back",
             Call::Match { .. } => "match",
-            Call::Batch { .. } => "batch",
+            Call::Batch(_) => "batch",
         }
     }
 
@@ -47,41 +51,31 @@ impl Call {
             Call::Compile { source, .. } => vec![source],
             Call::WriteBack { table, .. } => vec![table],
             Call::Match { table, label, .. } => vec![table, label],
-            Call::Batch {
-                table,
-                labels,
-                ends,
-                ..
-            } => vec![table, labels, ends],
+            Call::Batch(batch) => vec![&batch.table, &batch.labels, &batch.ends],
         }
     }
 
     /// The names and lengths of the slices that are written, in the order of the C call.
     pub fn outputs(&self) -> Vec<(&'static str, usize)> {
-        match *self {
-            Call::Compile { table_len, .. } => vec![("table", table_len)],
-            Call::WriteBack { source_len, .. } => vec![("source", source_len)],
+        match self {
+            Call::Compile { table_len, .. } => vec![("table", *table_len)],
+            Call::WriteBack { source_len, .. } => vec![("source", *source_len)],
             Call::Match {
                 scratch_len,
                 parts_len,
                 ..
-            } => vec![("scratch", scratch_len), ("parts", parts_len)],
-            Call::Batch {
-                scratch_len,
-                verdicts_len,
-                parts_len,
-                ..
-            } => vec![
-                ("scratch", scratch_len),
-                ("verdicts", verdicts_len),
-                ("parts", parts_len),
+            } => vec![("scratch", *scratch_len), ("parts", *parts_len)],
+            Call::Batch(batch) => vec![
+                ("scratch", batch.scratch_len),
+                ("verdicts", batch.verdicts_len),
+                ("parts", batch.parts_len),
             ],
         }
     }
 
     fn budget(&self) -> Option<u64> {
         match *self {
-            Call::Match { budget, .. } | Call::Batch { budget, .. } => Some(budget),
+            Call::Match { budget, .. } | Call::Batch(Batch { budget, .. }) => Some(budget),
             _ => None,
         }
     }
@@ -90,7 +84,7 @@ impl Call {
     pub fn labels(&self) -> Vec<&[u8]> {
         match self {
             Call::Match { label, .. } => vec![label],
-            Call::Batch { labels, ends, .. } => second::cut(labels, ends).unwrap_or_default(),
+            Call::Batch(batch) => second::cut(&batch.labels, &batch.ends).unwrap_or_default(),
             _ => Vec::new(),
         }
     }
@@ -166,7 +160,7 @@ impl Words<'_> {
                 parts_len: self.number()?,
                 budget: self.number()?,
             },
-            "batch" => Call::Batch {
+            "batch" => Call::Batch(Batch {
                 table: self.bytes()?,
                 labels: self.bytes()?,
                 ends: self.bytes()?,
@@ -174,7 +168,7 @@ impl Words<'_> {
                 verdicts_len: self.number()?,
                 parts_len: self.number()?,
                 budget: self.number()?,
-            },
+            }),
             _ => return None,
         })
     }

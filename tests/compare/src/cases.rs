@@ -1,7 +1,7 @@
 //! Generated calls.
 
 use crate::batches::{ends_of, joined};
-use crate::call::{Call, Case};
+use crate::call::{Batch, Call, Case};
 use crate::tables::{damage, table, table_of, work};
 use generate::labels::{bound, cheap_pattern, flatten, long_match, most_trials, sample};
 use generate::patterns::pattern;
@@ -200,7 +200,7 @@ fn batch_call(random: &mut Random) -> Call {
         let at = random.below(2);
         lens[at] = about(random, lens[at]);
     }
-    Call::Batch {
+    Call::Batch(Batch {
         table,
         labels,
         ends,
@@ -208,7 +208,7 @@ fn batch_call(random: &mut Random) -> Call {
         verdicts_len: lens[0],
         parts_len: lens[1],
         budget,
-    }
+    })
 }
 
 /// Scratch for all labels or about that of one, and a budget about that of the one.

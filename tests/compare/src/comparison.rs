@@ -1,6 +1,6 @@
 //! Makes a call of the library and looks at its answer and at every lent byte.
 
-use crate::call::{Call, Case};
+use crate::call::{Batch, Call, Case};
 use crate::expected::{expected, Expected};
 use crate::lent::Lent;
 use std::fmt;
@@ -29,17 +29,17 @@ fn make(call: &Call, inputs: &mut [Lent], outputs: &mut [Lent], answer: &mut [u8
             *budget,
             answer,
         ),
-        (Call::Batch { budget, .. }, [table, labels, ends], [scratch, verdicts, parts]) => {
-            let batch = library::Batch {
+        (Call::Batch(batch), [table, labels, ends], [scratch, verdicts, parts]) => {
+            let lent = library::Batch {
                 table: table.bytes(),
                 labels: labels.bytes(),
                 ends: ends.bytes(),
                 scratch: scratch.bytes(),
                 verdicts: verdicts.bytes(),
                 parts: parts.bytes(),
-                budget: *budget,
+                budget: batch.budget,
             };
-            library::match_batch(batch, answer)
+            library::match_batch(lent, answer)
         }
         _ => unreachable!("other slices than the call's"),
     }
@@ -73,7 +73,7 @@ fn outputs_of(case: &Case, margin: usize) -> Vec<Lent> {
 /// Makes single calls of the library in turn, each with 2T part bytes, and compares what they
 /// leave with what a batch left.
 fn check_in_turn(case: &Case, number: u32, left: &[Lent], margin: usize) -> Result<(), String> {
-    let Call::Batch { table, budget, .. } = &case.call else {
+    let Call::Batch(Batch { table, budget, .. }) = &case.call else {
         return Ok(());
     };
     let mut area = [0; 32];

@@ -99,21 +99,13 @@ fn answered(call: &Call) -> Expected {
             *parts_len,
             *budget,
         )),
-        Call::Batch {
-            table,
-            labels,
-            ends,
-            scratch_len,
-            verdicts_len,
-            parts_len,
-            budget,
-        } => Expected::of_batch(second::match_batch(
-            table,
-            (labels, ends),
-            *scratch_len,
-            *verdicts_len,
-            *parts_len,
-            *budget,
+        Call::Batch(batch) => Expected::of_batch(second::match_batch(
+            &batch.table,
+            (&batch.labels, &batch.ends),
+            batch.scratch_len,
+            batch.verdicts_len,
+            batch.parts_len,
+            batch.budget,
         )),
     }
 }

@@ -13,7 +13,7 @@ mod lent;
 mod long;
 mod tables;
 
-use call::{Call, Case};
+use call::{Batch, Call, Case};
 use comparison::compare;
 use expected::Expected;
 use generate::Random;
@@ -110,7 +110,7 @@ impl Tally {
                     Call::Match { .. } if number > 0 => "match refused",
                     Call::Match { .. } if answered.result == 1 => "match yes",
                     Call::Match { .. } => "match no",
-                    Call::Batch { .. } => "batch",
+                    Call::Batch(_) => "batch",
                 };
                 *self.calls.entry((kind, number)).or_default() += 1;
                 for verdict in answered.verdicts {
@@ -154,7 +154,7 @@ fn print_counts(name: &str, counts: impl Iterator<Item = (u32, u64)>) {
 
 /// Whether a call matches a label in more trials than `most`.
 fn exceeds(case: &Case, most: u64) -> bool {
-    let (Call::Match { table, .. } | Call::Batch { table, .. }) = &case.call else {
+    let (Call::Match { table, .. } | Call::Batch(Batch { table, .. })) = &case.call else {
         return false;
     };
     let over = |label: &&[u8]| {
