@@ -1,5 +1,6 @@
-//! Links four more copies of the library's object, for section (c): their matching functions,
-//! mpt_match_0 and so on, lie 0, 16, 32 and 48 bytes after a multiple of 64.
+//! Links four more copies of the library's object, for sections (c) and (f): their matching
+//! functions, mpt_match_0 and so on, lie 0, 16, 32 and 48 bytes after a multiple of 64, and those
+//! of a batch, mpt_match_batch_0 and so on, with them.
 
 use std::path::{Path, PathBuf};
 use std::process::Command;
@@ -24,10 +25,13 @@ fn place(object: &Path, offset: usize, out: &Path) -> PathBuf {
         .args([&script, object])
         .arg("-o")
         .arg(&copy));
-    run(Command::new("objcopy")
-        .arg(format!("--redefine-sym=mpt_match={name}"))
-        .arg(format!("--keep-global-symbol={name}"))
-        .arg(&copy));
+    let mut rename = Command::new("objcopy");
+    for function in ["mpt_match", "mpt_match_batch"] {
+        rename
+            .arg(format!("--redefine-sym={function}={function}_{offset}"))
+            .arg(format!("--keep-global-symbol={function}_{offset}"));
+    }
+    run(rename.arg(&copy));
     copy
 }
 

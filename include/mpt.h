@@ -1,16 +1,18 @@
-/* M patterns: compile a pattern to a table, match a label against it within a budget, write a table back as source.
+/* M patterns: compile a pattern to a table, match a label or a batch of them against it within a budget, write a table
+ * back as source.
  *
  * Each call returns its refusal number, 0 for none (enum mpt_refusal). No input needs checking first: any bytes may be
  * handed over, and every call ends. A refused call writes nothing but its answer, save MPT_BUDGET, which clears the scratch
  * bytes used as a verdict does.
  *
  * Each slice is lent with its true length; a length of 0 may come with a null pointer. Nothing that a call writes (table,
- * source, scratch, parts, answer) may share bytes with anything else lent to that call. Nothing is allocated and the
- * library has no data that is written: calls may run in any number of threads at once, each with its own slices to write.
+ * source, scratch, verdicts, parts, answer) may share bytes with anything else lent to that call. Nothing is allocated and
+ * the library has no data that is written: calls may run in any number of threads at once, each with its own slices to
+ * write.
  *
  * The answer area is MPT_ANSWER_SIZE bytes: four little-endian 64-bit numbers, position; table or source length, or verdict
- * (1 yes, 0 no); trials (with MPT_BUDGET the budget); 0. A shorter area gives MPT_ANSWER, looked at before all else, and
- * nothing is written; the bytes after the 32 stay as they were.
+ * (1 yes, 0 no); trials (with MPT_BUDGET the budget); 0. A batch answers 0 in all four. A shorter area gives MPT_ANSWER,
+ * looked at before all else, and nothing is written; the bytes after the 32 stay as they were.
  *
  * docs/C.md has the order of refusals, what to do about each, and what is left in the lent slices.
  */
@@ -38,7 +40,8 @@ enum mpt_refusal {
     MPT_LABEL = 12,  /* label over 255 bytes */
     MPT_WORK = 13,   /* scratch too short: see MPT_SCRATCH_SIZE */
     MPT_PARTS = 14,  /* parts too short: 2 bytes for each top-level atom */
-    MPT_BUDGET = 15  /* more trials than the budget */
+    MPT_BUDGET = 15, /* more trials than the budget */
+    MPT_BATCH = 16   /* a batch of over 96 labels, with ends at fault, or with verdicts or parts too short */
 };
 
 enum {
@@ -46,7 +49,8 @@ enum {
     MPT_SOURCE_MAX = 512,  /* a source, also one written back */
     MPT_TABLE_MAX = 1160,  /* a table: 8 + 64 * 10 + 512 */
     MPT_PARTS_MAX = 128,   /* the parts of 64 atoms */
-    MPT_LABEL_MAX = 255    /* a label */
+    MPT_LABEL_MAX = 255,   /* a label */
+    MPT_BATCH_MAX = 96     /* labels in a batch */
 };
 
 /* Scratch for a table of A atoms (its byte 5) and a label of n bytes, n at most MPT_LABEL_MAX: a longer label is refused
@@ -70,6 +74,16 @@ uint32_t mpt_write_back(const uint8_t *table, size_t table_len, uint8_t *source,
 uint32_t mpt_match(const uint8_t *table, size_t table_len, const uint8_t *label, size_t label_len, uint8_t *scratch,
                    size_t scratch_len, uint8_t *parts, size_t parts_len, uint64_t budget, uint8_t *answer,
                    size_t answer_len);
+
+/* Up to MPT_BATCH_MAX labels in one buffer, answered as mpt_match answers them in turn with the same scratch and budget.
+ * Label k is the bytes from end k-1 (0 for the first) up to, not including, end k; ends are 16 bits each, little-endian,
+ * never fall and are at most labels_len. verdicts gets a byte for each label: 1 yes, 0 no, else the label's refusal number
+ * (MPT_LABEL, MPT_WORK or MPT_BUDGET), which doesn't refuse the call. With T top-level atoms the parts of label k are the
+ * 2 * T bytes from parts + 2 * T * k on, written on yes only. */
+uint32_t mpt_match_batch(const uint8_t *table, size_t table_len, const uint8_t *labels, size_t labels_len,
+                         const uint8_t *ends, size_t ends_len, uint8_t *scratch, size_t scratch_len, uint8_t *verdicts,
+                         size_t verdicts_len, uint8_t *parts, size_t parts_len, uint64_t budget, uint8_t *answer,
+                         size_t answer_len);
 
 /* Number k of the answer area, k from 0 to 3. After MPT_ANSWER the area has no answer. */
 static inline uint64_t mpt_answer_number(const uint8_t *answer, size_t k)
@@ -116,6 +130,7 @@ static inline const char *mpt_refusal_name(uint32_t number)
     case MPT_WORK: return "WORK";
     case MPT_PARTS: return "PARTS";
     case MPT_BUDGET: return "BUDGET";
+    case MPT_BATCH: return "BATCH";
     default: return "UNKNOWN";
     }
 }

@@ -1,13 +1,15 @@
 //! Compares the proved library, through its C functions, and the line tool with plain Rust.
 //! Times are processor time. A ratio is the library's time by that of plain Rust in the same
 //! round, the median over the rounds. A trial loop is slower where it crosses a line of the cache,
-//! so in (c) both are timed at 0, 16, 32 and 48 bytes after a multiple of 64: build.rs links
+//! so in (c) and (f) both are timed at 0, 16, 32 and 48 bytes after a multiple of 64: build.rs links
 //! four copies of the library, and plain::place moves the code of plain Rust. In the other
 //! sections each lies at one place.
 //!
 //! bench [--quick]
+//! bench [--quick] --batches    (f) alone
 //! bench --lines    the line tool in plain Rust, for the comparison
 
+mod batches;
 mod clock;
 mod lines;
 mod matches;
@@ -25,6 +27,9 @@ fn main() {
     proved::assert_placed();
     let quick = given("--quick");
     let rounds = if quick { 3 } else { 9 };
+    if given("--batches") {
+        return batches::batches(rounds);
+    }
     tables::compiling(rounds);
     tables::writing_back(rounds);
     if quick {
@@ -36,4 +41,5 @@ fn main() {
         matches::groups_of_groups(&every_fifth);
     }
     lines::lines(rounds);
+    batches::batches(rounds);
 }

@@ -1,7 +1,7 @@
 //! (c) and (d): matching. In (c) the times of the library and of plain Rust are medians over four
 //! placements of each, and the ratios are the least, median and greatest of the 16 pairs.
 
-use crate::rounds::{median, Rounds};
+use crate::rounds::{median, placements, Rounds};
 use crate::tables::table_of;
 use crate::{clock, naive, plain, proved};
 use std::hint::black_box;
@@ -76,17 +76,11 @@ fn matching_row(source: &str, label: &[u8], rounds: usize) {
     let (trials, timed) = time_match(&table_of(source.as_bytes()), label, ways, rounds);
     let times = timed.times().map(|time| time / trials as f64);
     let (library, plain) = (median(times[..4].to_vec()), median(times[4..8].to_vec()));
-    let mut ratios: Vec<f64> = (0..16)
-        .map(|pair| timed.ratio(pair / 4, 4 + pair % 4))
-        .collect();
-    ratios.sort_by(f64::total_cmp);
+    let [least, middle, greatest] = timed.ratios(placements(0, 4));
     println!(
-        "{source:<16}{:>5}{trials:>12}{library:>10.3}{plain:>10.3}{:>10.3}{:>10.2}{:>10.2}{:>10.2}",
+        "{source:<16}{:>5}{trials:>12}{library:>10.3}{plain:>10.3}{:>10.3}{least:>10.2}{middle:>10.2}{greatest:>10.2}",
         label.len(),
         times[8],
-        ratios[0],
-        median(ratios.clone()),
-        ratios[15]
     );
 }
 

@@ -244,6 +244,17 @@ impl Table<'_> {
             r + 1
         }
     }
+
+    /// The number of top-level atoms.
+    fn tops(&self) -> usize {
+        let mut tops = 1;
+        let mut top = 0;
+        while !self.record(top).last {
+            top = self.after(top);
+            tops += 1;
+        }
+        tops
+    }
 }
 
 fn digits(number: u16) -> usize {
@@ -565,6 +576,18 @@ fn match_with<T: Trials, const PLACE: usize>(
     budget: u64,
 ) -> Result<Verdict, Refusal> {
     let (table, _) = test(table).ok_or((11, 0))?;
+    match_tested::<T, PLACE>(&table, 2 * table.tops(), label, scratch, parts, budget)
+}
+
+/// The same with a good table and the bytes of its parts.
+fn match_tested<T: Trials, const PLACE: usize>(
+    table: &Table,
+    part_bytes: usize,
+    label: &[u8],
+    scratch: &mut [u8],
+    parts: &mut [u8],
+    budget: u64,
+) -> Result<Verdict, Refusal> {
     if label.len() > 255 {
         return Err((12, 0));
     }
@@ -573,27 +596,66 @@ fn match_with<T: Trials, const PLACE: usize>(
     if scratch.len() < work {
         return Err((13, 0));
     }
-    let mut tops = 1;
-    let mut top = 0;
-    while !table.record(top).last {
-        top = table.after(top);
-        tops += 1;
-    }
-    if parts.len() < 2 * tops {
+    if parts.len() < part_bytes {
         return Err((14, 0));
     }
     let scratch = &mut scratch[..work];
-    let trials = fill_planes::<T, PLACE>(&table, label, scratch, budget);
+    let trials = fill_planes::<T, PLACE>(table, label, scratch, budget);
     let verdict = trials.map(|trials| {
         let atoms = &scratch[4 * w * w..];
         let yes = atoms[w * w + (w - 1) * w] != 0;
         if yes {
-            put_parts(&table, atoms, w, parts);
+            put_parts(table, atoms, w, parts);
         }
         (yes, trials)
     });
     scratch.fill(0);
     verdict.ok_or((15, 0))
+}
+
+/// The ends of a batch's labels, or its refusal.
+fn ends_of(batch: &library::Batch, part_bytes: usize) -> Result<Vec<usize>, Refusal> {
+    let count = batch.ends.len() / 2;
+    let short = batch.verdicts.len() < count || batch.parts.len() < count * part_bytes;
+    let (pairs, half) = batch.ends.as_chunks();
+    let ends: Vec<usize> = pairs
+        .iter()
+        .map(|pair| usize::from(u16::from_le_bytes(*pair)))
+        .collect();
+    let inside = ends.is_sorted() && ends.last().is_none_or(|&end| end <= batch.labels.len());
+    if short || count > 96 || !half.is_empty() || !inside {
+        return Err((16, 0));
+    }
+    Ok(ends)
+}
+
+/// Matches the labels of a batch at a placement; the table is tested once.
+pub fn match_batch_at<const PLACE: usize>(batch: library::Batch) -> Result<(), Refusal> {
+    let (table, _) = test(batch.table).ok_or((11, 0))?;
+    let part_bytes = 2 * table.tops();
+    let mut begin = 0;
+    for (k, end) in ends_of(&batch, part_bytes)?.into_iter().enumerate() {
+        let label = &batch.labels[begin..end];
+        let parts = &mut batch.parts[k * part_bytes..][..part_bytes];
+        batch.verdicts[k] = verdict_byte(match_tested::<Safe, PLACE>(
+            &table,
+            part_bytes,
+            label,
+            batch.scratch,
+            parts,
+            batch.budget,
+        ));
+        begin = end;
+    }
+    Ok(())
+}
+
+/// What a batch says of a label.
+pub fn verdict_byte(found: Result<Verdict, Refusal>) -> u8 {
+    match found {
+        Ok((yes, _)) => u8::from(yes),
+        Err((number, _)) => number as u8,
+    }
 }
 
 /// The code after it starts 16 times `PLACE` bytes after a multiple of 64.

@@ -1,4 +1,4 @@
-//! The library's calls, answered as plain Rust answers, and its matching function at four placements.
+//! The library's calls, answered as plain Rust answers, and its matching functions at four placements.
 
 use crate::plain;
 
@@ -50,9 +50,17 @@ pub fn match_label_at<const PLACE: usize>(
     answered(number, &answer).map(|(verdict, trials)| (verdict == 1, trials))
 }
 
-/// Declares the copies of mpt_match that build.rs links, by their placements.
+/// A batch by the copy of the library at a placement.
+pub fn match_batch_at<const PLACE: usize>(batch: library::Batch) -> Result<(), plain::Refusal> {
+    let mut answer = [0; 32];
+    let copy = BATCH_COPIES[PLACE];
+    let number = unsafe { library::match_batch_by(copy, batch, &mut answer) };
+    answered(number, &answer).map(|_| ())
+}
+
+/// Declares the copies of mpt_match and mpt_match_batch that build.rs links, by their placements.
 macro_rules! copies {
-    ($($name:ident),*) => {
+    ($($name:ident $batch:ident),*) => {
         extern "C" {
             $(fn $name(
                 table: *const u8,
@@ -66,17 +74,43 @@ macro_rules! copies {
                 budget: u64,
                 answer: *mut u8,
                 answer_len: usize,
+            ) -> u32;
+            fn $batch(
+                table: *const u8,
+                table_len: usize,
+                labels: *const u8,
+                labels_len: usize,
+                ends: *const u8,
+                ends_len: usize,
+                scratch: *mut u8,
+                scratch_len: usize,
+                verdicts: *mut u8,
+                verdicts_len: usize,
+                parts: *mut u8,
+                parts_len: usize,
+                budget: u64,
+                answer: *mut u8,
+                answer_len: usize,
             ) -> u32;)*
         }
         const COPIES: [library::Match; 4] = [$($name),*];
+        const BATCH_COPIES: [library::MatchBatch; 4] = [$($batch),*];
     };
 }
 
-copies!(mpt_match_0, mpt_match_16, mpt_match_32, mpt_match_48);
+copies!(
+    mpt_match_0 mpt_match_batch_0,
+    mpt_match_16 mpt_match_batch_16,
+    mpt_match_32 mpt_match_batch_32,
+    mpt_match_48 mpt_match_batch_48
+);
 
-/// Copy k lies 16 k bytes after a multiple of 64.
+/// Copy k lies 16 k bytes after a multiple of 64, and its batch as far from that of copy 0.
 pub fn assert_placed() {
+    let first = BATCH_COPIES[0] as usize;
     for (place, copy) in COPIES.iter().enumerate() {
+        let batch = BATCH_COPIES[place] as usize;
         assert_eq!(*copy as usize % 64, 16 * place);
+        assert_eq!((batch - first) % 64, 16 * place);
     }
 }

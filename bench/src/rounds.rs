@@ -39,6 +39,18 @@ impl<const CALLS: usize> Rounds<CALLS> {
         let pairs = self.0[call].iter().zip(&self.0[other]);
         median(pairs.map(|(call, other)| call / other).collect())
     }
+
+    /// The least, median and greatest ratio of some pairs of calls.
+    pub fn ratios(&self, pairs: impl Iterator<Item = (usize, usize)>) -> [f64; 3] {
+        let mut ratios: Vec<f64> = pairs.map(|(call, other)| self.ratio(call, other)).collect();
+        ratios.sort_by(f64::total_cmp);
+        [ratios[0], median(ratios.clone()), ratios[ratios.len() - 1]]
+    }
+}
+
+/// Each of the calls from `call` on with each from `other` on, by their four placements.
+pub fn placements(call: usize, other: usize) -> impl Iterator<Item = (usize, usize)> {
+    (0..16).map(move |pair| (call + pair / 4, other + pair % 4))
 }
 
 /// The middle number, or the mean of the middle two.

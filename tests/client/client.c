@@ -1,4 +1,4 @@
-/* A C client of libmpt.a: compiles, matches and writes back, and exits 1 on any surprise.
+/* A C client of libmpt.a: compiles, matches labels one by one and in batches, writes back, and exits 1 on any surprise.
  * cc -std=c99 -pedantic -Wall -Wextra -Wconversion -Werror -I../../include client.c \
  *    ../../target/staticlib/libmpt.a -o client
  * A C++11 compiler takes it too. */
@@ -13,7 +13,7 @@
 enum { DIRT = 0xA5 };
 
 static uint8_t table[MPT_TABLE_MAX], source[MPT_SOURCE_MAX], scratch[MPT_SCRATCH_MAX], parts[MPT_PARTS_MAX];
-static uint8_t answer[MPT_ANSWER_SIZE];
+static uint8_t verdicts[MPT_BATCH_MAX], all_parts[MPT_BATCH_MAX * MPT_PARTS_MAX], answer[MPT_ANSWER_SIZE];
 
 static void expect(int holds, const char *what)
 {
@@ -66,6 +66,35 @@ static uint32_t match(size_t table_len, const char *label, size_t scratch_len, s
     return found;
 }
 
+/* What a batch is lent besides its table; the buffer is a text. */
+struct batch {
+    const char *labels;
+    const uint8_t *ends;
+    size_t ends_len, scratch_len, verdicts_len, parts_len;
+    uint64_t budget;
+};
+
+static uint32_t match_batch(size_t table_len, struct batch lent)
+{
+    memset(scratch, DIRT, sizeof scratch);
+    memset(verdicts, DIRT, sizeof verdicts);
+    memset(all_parts, DIRT, sizeof all_parts);
+    uint32_t found = mpt_match_batch(table, table_len, (const uint8_t *)lent.labels, strlen(lent.labels), lent.ends,
+                                     lent.ends_len, scratch, lent.scratch_len, verdicts, lent.verdicts_len, all_parts,
+                                     lent.parts_len, lent.budget, answer, sizeof answer);
+    printf("batch %.60s: %s\n", lent.labels, mpt_refusal_name(found));
+    answered(0, 0, 0, "answer of a batch");
+    return found;
+}
+
+/* A batch that returns a number and leaves what it was lent as it was. */
+static void idle_batch(size_t table_len, struct batch lent, uint32_t number, const char *what)
+{
+    expect(match_batch(table_len, lent) == number, what);
+    expect(all_are(scratch, sizeof scratch, DIRT) && all_are(verdicts, sizeof verdicts, DIRT), what);
+    expect(all_are(all_parts, sizeof all_parts, DIRT), what);
+}
+
 /* The header's readers, names and sizes on bytes that no call made. */
 static void reading(void)
 {
@@ -80,10 +109,10 @@ static void reading(void)
     expect(mpt_part_begin(three, 1) == 6 && mpt_part_end(three, 1) == 255, "the second part");
     expect(mpt_part_begin(three, 2) == 255 && mpt_part_end(three, 2) == 0xABCD, "a part of two bytes");
 
-    static const char *const names[17] = {"NONE",  "LONG",  "FORM",  "CODE",   "NUMBER",  "RANGE",
+    static const char *const names[18] = {"NONE",  "LONG",  "FORM",  "CODE",   "NUMBER",  "RANGE",
                                           "ATOMS", "DEPTH", "ROOM",  "ANSWER", "UNKNOWN", "TABLE",
-                                          "LABEL", "WORK",  "PARTS", "BUDGET", "UNKNOWN"};
-    for (uint32_t number = 0; number < 17; number++)
+                                          "LABEL", "WORK",  "PARTS", "BUDGET", "BATCH",   "UNKNOWN"};
+    for (uint32_t number = 0; number < 18; number++)
         expect(strcmp(mpt_refusal_name(number), names[number]) == 0, "the name of a refusal");
     expect(strcmp(mpt_refusal_name(UINT32_MAX), "UNKNOWN") == 0, "the name of no refusal");
 
@@ -160,6 +189,79 @@ static void matching(void)
     label[MPT_LABEL_MAX + 1] = 0;
     expect(match(len, label, work, 4, trials) == MPT_LABEL, "a label of 256 bytes");
     expect(match(len, label, 0, 0, 0) == MPT_LABEL, "a label of 256 bytes without scratch and parts");
+    static const uint8_t end[2] = {0, 1};
+    struct batch lent = {label, end, sizeof end, 0, 1, 4, 0};
+    expect(match_batch(len, lent) == 0 && verdicts[0] == MPT_LABEL, "a label of 256 bytes in a batch");
+}
+
+/* Four labels, 1234567, 12345x, none and 12, and bytes after them. */
+static const uint8_t four_ends[8] = {7, 0, 13, 0, 13, 0, 15, 0};
+
+static struct batch four_labels(void)
+{
+    struct batch four = {"123456712345x12 left", four_ends, sizeof four_ends, MPT_SCRATCH_SIZE(2, 7), 4, 4 * 4,
+                         MPT_BUDGET_ENOUGH(2, 7)};
+    return four;
+}
+
+static void batches(void)
+{
+    size_t len = compile("1.6N1.2N", 0, 0);
+    struct batch lent = four_labels();
+    expect(match_batch(len, lent) == 0, "number of a batch");
+    expect(memcmp(verdicts, "\1\0\0\1", 4) == 0, "verdicts");
+    for (size_t k = 0; k < 4; k += 3)
+        printf("label %zu cut at %zu and %zu\n", k, mpt_part_end(all_parts + 4 * k, 0), mpt_part_end(all_parts + 4 * k, 1));
+    expect(memcmp(all_parts, "\6\0\7\0", 4) == 0 && memcmp(all_parts + 12, "\1\0\2\0", 4) == 0, "the cuts");
+    expect(all_are(all_parts + 4, 8, DIRT), "parts of no");
+    expect(all_are(verdicts + 4, sizeof verdicts - 4, DIRT), "bytes after the verdicts");
+    expect(all_are(all_parts + 16, sizeof all_parts - 16, DIRT), "bytes after the parts of a batch");
+    expect(all_are(scratch, lent.scratch_len, 0), "scratch of a batch not zero");
+    expect(all_are(scratch + lent.scratch_len, sizeof scratch - lent.scratch_len, DIRT), "scratch after a batch's");
+
+    expect(match(len, "12", lent.scratch_len, 4, lent.budget) == 0, "a label of the batch by itself");
+    lent.budget = mpt_answer_trials(answer);
+    expect(match_batch(len, lent) == 0 && memcmp(verdicts, "\17\17\0\1", 4) == 0, "a budget for two labels");
+    lent.scratch_len = MPT_SCRATCH_SIZE(2, 2);
+    expect(match_batch(len, lent) == 0 && memcmp(verdicts, "\15\15\0\1", 4) == 0, "scratch for two labels");
+    expect(all_are(all_parts, 12, DIRT) && memcmp(all_parts + 12, "\1\0\2\0", 4) == 0, "parts of two labels");
+    lent.ends_len = 0;
+    idle_batch(len, lent, 0, "no labels");
+}
+
+static void refused_batches(void)
+{
+    size_t len = compile("1.6N1.2N", 0, 0);
+    uint8_t ends[2 * MPT_BATCH_MAX + 2];
+    struct batch lent = four_labels();
+    lent.ends_len--;
+    idle_batch(len, lent, MPT_BATCH, "half an end");
+    idle_batch(len - 1, lent, MPT_TABLE, "half an end and a table cut short");
+    lent = four_labels();
+    lent.verdicts_len--;
+    idle_batch(len, lent, MPT_BATCH, "verdicts one short");
+    lent = four_labels();
+    lent.parts_len--;
+    idle_batch(len, lent, MPT_BATCH, "parts of a batch one short");
+
+    lent = four_labels();
+    memcpy(ends, four_ends, sizeof four_ends);
+    lent.ends = ends;
+    ends[4] = 12;
+    idle_batch(len, lent, MPT_BATCH, "an end that falls");
+    ends[4] = 13;
+    ends[6] = (uint8_t)(strlen(lent.labels) + 1);
+    idle_batch(len, lent, MPT_BATCH, "an end past the buffer");
+    ends[6]--;
+    expect(match_batch(len, lent) == 0, "an end at that of the buffer");
+
+    memset(ends, 0, sizeof ends);
+    lent.verdicts_len = sizeof verdicts;
+    lent.parts_len = sizeof all_parts;
+    lent.ends_len = sizeof ends;
+    idle_batch(len, lent, MPT_BATCH, "97 labels");
+    lent.ends_len -= 2;
+    expect(match_batch(len, lent) == 0 && all_are(verdicts, sizeof verdicts, 0), "96 labels");
 }
 
 /* 64 atoms in 512 bytes, a label of 255: the header's sizes suffice; source, scratch or parts a byte less don't. */
@@ -218,6 +320,8 @@ static void short_answers(void)
         expect(mpt_write_back(table, 18, source, 2, answer, len) == MPT_ANSWER, "a short answer area");
         expect(mpt_match(table, 18, NULL, 0, scratch, 6, parts, 2, 0, answer, len) == MPT_ANSWER,
                "a short answer area");
+        expect(mpt_match_batch(table, 18, NULL, 0, NULL, 0, scratch, 6, verdicts, 1, parts, 2, 0, answer, len) == MPT_ANSWER,
+               "a short answer area");
         expect(all_are(answer, sizeof answer, DIRT), "a short answer area written");
         expect(all_are(table, sizeof table, DIRT), "a table written by refusal 9");
     }
@@ -247,9 +351,15 @@ static void null_pointers(void)
     expect(mpt_match(table, len, NULL, 0, scratch, 6, NULL, 0, 0, answer, sizeof answer) == MPT_PARTS, "no parts");
     expect(mpt_match(table, len, NULL, 0, scratch, 6, parts, 2, 0, answer, sizeof answer) == 0, "an empty label");
     answered(0, 1, 0, "answer of an empty label");
+    expect(mpt_match_batch(NULL, 0, NULL, 0, NULL, 0, NULL, 0, NULL, 0, NULL, 0, 0, answer, sizeof answer) == MPT_TABLE,
+           "no table for a batch");
+    expect(mpt_match_batch(table, len, NULL, 0, NULL, 0, NULL, 0, NULL, 0, NULL, 0, 0, answer, sizeof answer) == 0,
+           "a batch of nothing");
     expect(mpt_compile(NULL, 0, NULL, 0, NULL, 0) == MPT_ANSWER, "no answer area");
     expect(mpt_write_back(NULL, 0, NULL, 0, NULL, 0) == MPT_ANSWER, "no answer area");
     expect(mpt_match(NULL, 0, NULL, 0, NULL, 0, NULL, 0, 0, NULL, 0) == MPT_ANSWER, "no answer area");
+    expect(mpt_match_batch(NULL, 0, NULL, 0, NULL, 0, NULL, 0, NULL, 0, NULL, 0, 0, NULL, 0) == MPT_ANSWER,
+           "no answer area");
 }
 
 int main(void)
@@ -257,6 +367,8 @@ int main(void)
     reading();
     compiling();
     matching();
+    batches();
+    refused_batches();
     largest();
     writing_back();
     short_answers();

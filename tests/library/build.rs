@@ -1,11 +1,16 @@
 //! Links libmpt.a. Its path is MPT_LIB, absolute or seen from this folder, or the main build's place.
-//! The library is first joined into one object with its three functions as the only global names,
+//! The library is first joined into one object with its functions as the only global names,
 //! so that a Rust runtime inside it doesn't clash with that of the program.
 
 use std::path::PathBuf;
 use std::process::Command;
 
-const FUNCTIONS: [&str; 3] = ["mpt_compile", "mpt_write_back", "mpt_match"];
+const FUNCTIONS: [&str; 4] = [
+    "mpt_compile",
+    "mpt_write_back",
+    "mpt_match",
+    "mpt_match_batch",
+];
 
 fn run(command: &mut Command) {
     let status = command

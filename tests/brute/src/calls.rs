@@ -1,6 +1,6 @@
-//! The three C functions.
+//! The C functions.
 
-use crate::pattern::{from_table, read, size, to_source, to_table, Matcher, Refusal};
+use crate::pattern::{from_table, read, size, to_source, to_table, Atom, Matcher, Refusal};
 use std::slice::{from_raw_parts, from_raw_parts_mut};
 
 /// A lent input; null stands for no bytes.
@@ -115,29 +115,93 @@ pub unsafe extern "C" fn mpt_match(
     let Some(pattern) = from_table(input(table, table_len)) else {
         return answer(area, 11, [0; 3]);
     };
-    if label_len > 255 {
-        return answer(area, 12, [0; 3]);
+    let (label, scratch) = (input(label, label_len), output(scratch, scratch_len));
+    let (number, values) = match_one(&pattern, label, scratch, output(parts, parts_len), budget);
+    answer(area, number, values)
+}
+
+/// Answers one label by its number and the values of its answer.
+fn match_one(
+    pattern: &[Atom],
+    label: &[u8],
+    scratch: &mut [u8],
+    parts: &mut [u8],
+    budget: u64,
+) -> (u32, [u64; 3]) {
+    if label.len() > 255 {
+        return (12, [0; 3]);
     }
-    let work =
-        (2 * pattern.iter().map(size).sum::<usize>() + 4) * (label_len + 1) * (label_len + 1);
-    if scratch_len < work {
-        return answer(area, 13, [0; 3]);
+    let places = label.len() + 1;
+    let work = (2 * pattern.iter().map(size).sum::<usize>() + 4) * places * places;
+    if scratch.len() < work {
+        return (13, [0; 3]);
     }
-    if parts_len < 2 * pattern.len() {
-        return answer(area, 14, [0; 3]);
+    if parts.len() < 2 * pattern.len() {
+        return (14, [0; 3]);
     }
-    output(scratch, scratch_len)[..work].fill(0);
-    let mut matcher = Matcher::new(input(label, label_len));
+    scratch[..work].fill(0);
+    let mut matcher = Matcher::new(label);
     let mut trials = 0;
-    if !matcher.trials(&pattern, &mut trials, budget) {
-        return answer(area, 15, [0, 0, budget]);
+    if !matcher.trials(pattern, &mut trials, budget) {
+        return (15, [0, 0, budget]);
     }
-    let Some(ends) = matcher.parts(&pattern, 0) else {
-        return answer(area, 0, [0, 0, trials]);
+    let Some(ends) = matcher.parts(pattern, 0) else {
+        return (0, [0, 0, trials]);
     };
-    let parts = output(parts, parts_len);
     for (at, end) in ends.iter().enumerate() {
         parts[2 * at..2 * at + 2].copy_from_slice(&(*end as u16).to_le_bytes());
     }
-    answer(area, 0, [0, 1, trials])
+    (0, [0, 1, trials])
+}
+
+/// The ends of at most 96 labels of a buffer, if they are whole, never fall and lie in it.
+fn ends_in(bytes: &[u8], labels_len: usize) -> Option<Vec<usize>> {
+    let number = |pair: &[u8]| usize::from(pair[0]) + 256 * usize::from(pair[1]);
+    let ends: Vec<usize> = bytes.chunks_exact(2).map(number).collect();
+    let inside = ends.is_sorted() && ends.iter().all(|&end| end <= labels_len);
+    (bytes.len().is_multiple_of(2) && ends.len() <= 96 && inside).then_some(ends)
+}
+
+/// # Safety
+/// Each pointer is the start of as many bytes as its length says.
+#[no_mangle]
+pub unsafe extern "C" fn mpt_match_batch(
+    table: *const u8,
+    table_len: usize,
+    labels: *const u8,
+    labels_len: usize,
+    ends: *const u8,
+    ends_len: usize,
+    scratch: *mut u8,
+    scratch_len: usize,
+    verdicts: *mut u8,
+    verdicts_len: usize,
+    parts: *mut u8,
+    parts_len: usize,
+    budget: u64,
+    area: *mut u8,
+    area_len: usize,
+) -> u32 {
+    if area_len < 32 {
+        return 9;
+    }
+    let area = output(area, area_len);
+    let Some(pattern) = from_table(input(table, table_len)) else {
+        return answer(area, 11, [0; 3]);
+    };
+    let width = 2 * pattern.len();
+    let fits = |ends: &Vec<usize>| ends.len() <= verdicts_len && ends.len() * width <= parts_len;
+    let Some(ends) = ends_in(input(ends, ends_len), labels_len).filter(fits) else {
+        return answer(area, 16, [0; 3]);
+    };
+    let (labels, scratch) = (input(labels, labels_len), output(scratch, scratch_len));
+    let (verdicts, parts) = (output(verdicts, verdicts_len), output(parts, parts_len));
+    let mut begin = 0;
+    for (k, &end) in ends.iter().enumerate() {
+        let parts = &mut parts[k * width..][..width];
+        let (number, values) = match_one(&pattern, &labels[begin..end], scratch, parts, budget);
+        verdicts[k] = number as u8 + values[1] as u8;
+        begin = end;
+    }
+    answer(area, 0, [0; 3])
 }

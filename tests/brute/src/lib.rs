@@ -4,4 +4,4 @@
 mod calls;
 mod pattern;
 
-pub use calls::{mpt_compile, mpt_match, mpt_write_back};
+pub use calls::{mpt_compile, mpt_match, mpt_match_batch, mpt_write_back};

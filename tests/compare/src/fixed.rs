@@ -1,5 +1,6 @@
 //! Fixed lists of calls.
 
+use crate::batches::{areas, batches};
 use crate::call::{Call, Case};
 use crate::long::{each_set, long_labels, wide_counts, wrapped_inputs, wrapped_rooms};
 use crate::tables::table_of;
@@ -63,7 +64,7 @@ fn each_count() -> Vec<Call> {
 }
 
 /// The examples of the papers and what is made of every byte, set, count, short source and changed
-/// table, and the long calls; a quick run has fewer short sources and no count past 32 bits.
+/// table, the long calls and the batches; a quick run has fewer short sources and no count past 32 bits.
 pub fn fixed(quick: bool) -> Vec<Case> {
     let short = short_sources(if quick { 4 } else { 5 })
         .into_iter()
@@ -71,32 +72,16 @@ pub fn fixed(quick: bool) -> Vec<Case> {
             source,
             table_len: 60,
         });
-    let changed = changed_tables().into_iter().flat_map(|table| {
-        let label = b"a\"5bc".to_vec();
-        let matched = Call::Match {
-            table: table.clone(),
-            label,
-            scratch_len: 720,
-            parts_len: 6,
-            budget: 9_999,
-        };
-        [
-            Call::WriteBack {
-                table,
-                source_len: 60,
-            },
-            matched,
-        ]
-    });
     let calls = examples()
         .into_iter()
         .chain(each_byte())
         .chain(each_count())
         .chain(each_set())
         .chain(short)
-        .chain(changed)
+        .chain(changed_tables().into_iter().flat_map(of_changed))
         .chain(long_labels())
         .chain(wrapped_inputs())
+        .chain(batches())
         .chain(if quick { Vec::new() } else { wide_counts() });
     calls
         .map(|call| Case {
@@ -105,7 +90,24 @@ pub fn fixed(quick: bool) -> Vec<Case> {
             dirt: 1,
         })
         .chain(wrapped_rooms())
+        .chain(areas())
         .collect()
+}
+
+/// A changed table written back and matched.
+fn of_changed(table: Vec<u8>) -> [Call; 2] {
+    let written = Call::WriteBack {
+        table: table.clone(),
+        source_len: 60,
+    };
+    let matched = Call::Match {
+        table,
+        label: b"a\"5bc".to_vec(),
+        scratch_len: 720,
+        parts_len: 6,
+        budget: 9_999,
+    };
+    [written, matched]
 }
 
 /// The matches that the papers name, under an ample budget and under each one up to 4.
@@ -167,7 +169,7 @@ fn short_sources(most: usize) -> Vec<Vec<u8>> {
 }
 
 /// A table with one byte changed to each other value, at each place; every cut; a byte more.
-fn changed_tables() -> Vec<Vec<u8>> {
+pub fn changed_tables() -> Vec<Vec<u8>> {
     let table =
         second::compile(b"2.(1\"a\"\"\",3.5AN.(.E,1\"\"))1\"bc\".9999L", usize::MAX).unwrap();
     let mut all = Vec::new();

@@ -2,14 +2,13 @@
 //! past 16 bits, counts past 32 bits.
 
 use crate::call::{Call, Case};
-use crate::tables::table_of;
+use crate::tables::{table_of, work};
 use generate::{Atom, Body};
 
 /// A match with the scratch that it needs and parts for 64 atoms.
 fn matching(table: Vec<u8>, label: Vec<u8>, budget: u64) -> Call {
-    let places = label.len() + 1;
     Call::Match {
-        scratch_len: (2 * usize::from(table[5]) + 4) * places * places,
+        scratch_len: work(usize::from(table[5]), label.len()),
         parts_len: 128,
         table,
         label,

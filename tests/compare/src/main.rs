@@ -3,13 +3,19 @@
 //! compare [COUNT] [--quick] [--seed N] [--dearest TRIALS] [--margin BYTES] [--lines] [--generated]
 //! compare --replay LINE
 
+mod batches;
 mod call;
 mod cases;
+mod comparison;
+mod expected;
 mod fixed;
+mod lent;
 mod long;
 mod tables;
 
-use call::{compare, Call, Case};
+use call::{Batch, Call, Case};
+use comparison::compare;
+use expected::Expected;
 use generate::Random;
 use std::collections::BTreeMap;
 use std::process::exit;
@@ -73,7 +79,7 @@ fn fail(message: &str) -> ! {
 fn replay(line: &str) -> ! {
     let case = Case::parse(line).unwrap_or_else(|| fail("not a line of a call"));
     match compare(&case, MARGIN) {
-        Ok((number, result)) => println!("same: number {number}, result {result}"),
+        Ok(Expected { number, result, .. }) => println!("same: number {number}, result {result}"),
         Err(difference) => {
             println!("{difference}");
             exit(1)
@@ -84,7 +90,11 @@ fn replay(line: &str) -> ! {
 
 /// How often each kind of call gave each number; a match without refusal counts by its verdict.
 #[derive(Default)]
-struct Tally(BTreeMap<(&'static str, u32), u64>);
+struct Tally {
+    calls: BTreeMap<(&'static str, u32), u64>,
+    /// How often a label of a batch got each byte.
+    verdicts: BTreeMap<u8, u64>,
+}
 
 impl Tally {
     fn make(&mut self, case: &Case, options: &Options) {
@@ -92,15 +102,20 @@ impl Tally {
             println!("{case}");
         }
         match compare(case, options.margin) {
-            Ok((number, result)) => {
+            Ok(answered) => {
+                let number = answered.number;
                 let kind = match case.call {
                     Call::Compile { .. } => "compile",
                     Call::WriteBack { .. } => "write back",
                     Call::Match { .. } if number > 0 => "match refused",
-                    Call::Match { .. } if result == 1 => "match yes",
+                    Call::Match { .. } if answered.result == 1 => "match yes",
                     Call::Match { .. } => "match no",
+                    Call::Batch(_) => "batch",
                 };
-                *self.0.entry((kind, number)).or_default() += 1;
+                *self.calls.entry((kind, number)).or_default() += 1;
+                for verdict in answered.verdicts {
+                    *self.verdicts.entry(verdict).or_default() += 1;
+                }
             }
             Err(difference) => {
                 println!("difference: {difference}\n{case}");
@@ -116,23 +131,36 @@ impl Tally {
             "match yes",
             "match no",
             "match refused",
+            "batch",
         ] {
-            let counts = self.0.iter().filter(|((of, _), _)| *of == kind);
-            let text: Vec<String> = counts
-                .map(|((_, number), count)| format!("{number}: {count}"))
-                .collect();
-            println!("{kind}: {}", text.join(", "));
+            let counts = self.calls.iter().filter(|((of, _), _)| *of == kind);
+            print_counts(kind, counts.map(|((_, number), count)| (*number, *count)));
         }
-        println!("{} calls, no difference", self.0.values().sum::<u64>());
+        let verdicts = self.verdicts.iter();
+        print_counts(
+            "labels of batches",
+            verdicts.map(|(verdict, count)| (u32::from(*verdict), *count)),
+        );
+        println!("{} calls, no difference", self.calls.values().sum::<u64>());
     }
 }
 
-/// Whether a call is a match of more trials than `most`.
+fn print_counts(name: &str, counts: impl Iterator<Item = (u32, u64)>) {
+    let text: Vec<String> = counts
+        .map(|(number, count)| format!("{number}: {count}"))
+        .collect();
+    println!("{name}: {}", text.join(", "));
+}
+
+/// Whether a call matches a label in more trials than `most`.
 fn exceeds(case: &Case, most: u64) -> bool {
-    let Call::Match { table, label, .. } = &case.call else {
+    let (Call::Match { table, .. } | Call::Batch(Batch { table, .. })) = &case.call else {
         return false;
     };
-    second::match_label(table, label, usize::MAX, usize::MAX, most).number == second::BUDGET
+    let over = |label: &&[u8]| {
+        second::match_label(table, label, usize::MAX, usize::MAX, most).number == second::BUDGET
+    };
+    case.call.labels().iter().any(over)
 }
 
 fn main() {

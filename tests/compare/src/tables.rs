@@ -49,6 +49,11 @@ pub fn table_of(pattern: &[Atom]) -> Vec<u8> {
     [table, records, pool].concat()
 }
 
+/// The scratch for a table of some atoms and a label of `len` bytes.
+pub fn work(atoms: usize, len: usize) -> usize {
+    (2 * atoms + 4) * (len + 1) * (len + 1)
+}
+
 /// A table of the right form that may pass a limit.
 fn table_past_limits(random: &mut Random) -> Vec<u8> {
     let mut tree = match random.below(3) {

@@ -30,6 +30,23 @@ extern "C" {
         answer: *mut u8,
         answer_len: usize,
     ) -> u32;
+    fn mpt_match_batch(
+        table: *const u8,
+        table_len: usize,
+        labels: *const u8,
+        labels_len: usize,
+        ends: *const u8,
+        ends_len: usize,
+        scratch: *mut u8,
+        scratch_len: usize,
+        verdicts: *mut u8,
+        verdicts_len: usize,
+        parts: *mut u8,
+        parts_len: usize,
+        budget: u64,
+        answer: *mut u8,
+        answer_len: usize,
+    ) -> u32;
 }
 
 /// The type of mpt_match.
@@ -46,6 +63,36 @@ pub type Match = unsafe extern "C" fn(
     *mut u8,
     usize,
 ) -> u32;
+
+/// The type of mpt_match_batch.
+pub type MatchBatch = unsafe extern "C" fn(
+    *const u8,
+    usize,
+    *const u8,
+    usize,
+    *const u8,
+    usize,
+    *mut u8,
+    usize,
+    *mut u8,
+    usize,
+    *mut u8,
+    usize,
+    u64,
+    *mut u8,
+    usize,
+) -> u32;
+
+/// What a batch is lent besides its answer area.
+pub struct Batch<'a> {
+    pub table: &'a [u8],
+    pub labels: &'a [u8],
+    pub ends: &'a [u8],
+    pub scratch: &'a mut [u8],
+    pub verdicts: &'a mut [u8],
+    pub parts: &'a mut [u8],
+    pub budget: u64,
+}
 
 /// An empty slice is lent as null, as C callers do.
 fn start(bytes: &[u8]) -> *const u8 {
@@ -130,6 +177,37 @@ pub unsafe fn match_by(
         start_mut(parts),
         parts_len,
         budget,
+        start_mut(answer),
+        answer_len,
+    )
+}
+
+/// Matches a batch through C; gives the refusal number.
+pub fn match_batch(batch: Batch, answer: &mut [u8]) -> u32 {
+    unsafe { match_batch_by(mpt_match_batch, batch, answer) }
+}
+
+/// The same by a given copy of mpt_match_batch.
+///
+/// # Safety
+/// The function keeps to what include/mpt.h says of mpt_match_batch.
+pub unsafe fn match_batch_by(function: MatchBatch, batch: Batch, answer: &mut [u8]) -> u32 {
+    let (scratch_len, verdicts_len) = (batch.scratch.len(), batch.verdicts.len());
+    let (parts_len, answer_len) = (batch.parts.len(), answer.len());
+    function(
+        start(batch.table),
+        batch.table.len(),
+        start(batch.labels),
+        batch.labels.len(),
+        start(batch.ends),
+        batch.ends.len(),
+        start_mut(batch.scratch),
+        scratch_len,
+        start_mut(batch.verdicts),
+        verdicts_len,
+        start_mut(batch.parts),
+        parts_len,
+        batch.budget,
         start_mut(answer),
         answer_len,
     )

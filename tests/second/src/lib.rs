@@ -1,12 +1,14 @@
 //! The second program: M patterns compiled, written back and matched,
 //! written from the papers alone to be compared with the main one.
 
+mod batch;
 pub mod line;
 mod matching;
 mod source;
 mod table;
 
-pub use matching::{match_label, Matched};
+pub use batch::{cut, match_batch, Batch};
+pub use matching::{match_label, part_bytes, Matched};
 pub use source::compile;
 pub use table::{good, write_back};
 
@@ -31,12 +33,14 @@ pub const LABEL: u32 = 12;
 pub const WORK: u32 = 13;
 pub const PARTS: u32 = 14;
 pub const BUDGET: u32 = 15;
+pub const BATCH: u32 = 16;
 
 pub const SOURCE_MOST: usize = 512;
 pub const ATOMS_MOST: usize = 64;
 pub const DEPTH_MOST: usize = 8;
 pub const NUMBER_MOST: u32 = 9_999;
 pub const LABEL_MOST: usize = 255;
+pub const BATCH_MOST: usize = 96;
 
 /// The code letters in the order of their bits.
 const CODES: &[u8; 7] = b"ACELNPU";

@@ -231,6 +231,12 @@ fn top_level(records: &[Record]) -> Vec<usize> {
     tops
 }
 
+/// The bytes of the parts of a good table, two for each top-level atom.
+pub fn part_bytes(table: &[u8]) -> Option<usize> {
+    let (records, _) = decode(table).filter(|_| good(table))?;
+    Some(2 * top_level(&records).len())
+}
+
 /// The ends of the longest-first partition of a label that satisfies the pattern.
 fn longest_first(tops: &[usize], atoms: &[Atom], n: usize) -> Vec<usize> {
     let mut ends = Vec::new();

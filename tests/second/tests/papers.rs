@@ -216,6 +216,67 @@ fn refusals_of_matching() {
     assert_eq!(number(&table, b"12", 72, 4, 999), 0);
 }
 
+/// Two bytes for each end.
+fn ends_of(ends: &[u16]) -> Vec<u8> {
+    ends.iter().flat_map(|end| end.to_le_bytes()).collect()
+}
+
+#[test]
+fn batches() {
+    // Labels 12, none, 1x, 123 and four bytes after the last end.
+    let (labels, ends) = (b"121x123rest", ends_of(&[2, 2, 4, 7]));
+    let at = |scratch_len, budget| {
+        let table = table(b".2N.N");
+        match_batch(&table, (labels, &ends), scratch_len, 4, 16, budget)
+    };
+    let wanted = Batch {
+        number: 0,
+        verdicts: vec![1, 1, 0, 1],
+        parts: vec![
+            (0, vec![2, 0, 2, 0]),
+            (4, vec![0; 4]),
+            (12, vec![2, 0, 3, 0]),
+        ],
+        clears: 128,
+    };
+    assert_eq!(at(128, u64::MAX), wanted);
+    let some = |verdicts: [u8; 4], yes: &[usize], clears| Batch {
+        number: 0,
+        verdicts: verdicts.to_vec(),
+        parts: yes.iter().map(|&at| wanted.parts[at].clone()).collect(),
+        clears,
+    };
+    assert_eq!(at(127, u64::MAX), some([1, 1, 0, 13], &[0, 1], 72));
+    assert_eq!(at(7, u64::MAX), some([13; 4], &[], 0));
+    let least = trials(b".2N.N", b"12");
+    assert_eq!(at(999, least), some([1, 1, 15, 15], &[0, 1], 128));
+    assert_eq!(at(999, 0), some([15; 4], &[], 128));
+}
+
+#[test]
+fn refusals_of_batches() {
+    let two = table(b"1N1N");
+    let number = |table: &[u8], labels: &[u8], ends: &[u8], verdicts_len, parts_len| {
+        let batch = match_batch(table, (labels, ends), 0, verdicts_len, parts_len, 0);
+        let written = (batch.verdicts, batch.parts, batch.clears);
+        assert!(batch.number == 0 || written == (vec![], vec![], 0));
+        batch.number
+    };
+    let ends = |ends: &[u16]| ends_of(ends);
+    assert_eq!(number(b"MPT", b"", &[0], 0, 0), TABLE);
+    assert_eq!(number(&two, b"", &[], 0, 0), 0);
+    assert_eq!(number(&two, b"", &[0], 9, 9), BATCH);
+    assert_eq!(number(&two, b"12", &ends(&[1, 2]), 2, 8), 0);
+    assert_eq!(number(&two, b"12", &ends(&[1, 2]), 1, 8), BATCH);
+    assert_eq!(number(&two, b"12", &ends(&[1, 2]), 2, 7), BATCH);
+    assert_eq!(number(&two, b"12", &ends(&[2, 1]), 2, 8), BATCH);
+    assert_eq!(number(&two, b"12", &ends(&[1, 3]), 2, 8), BATCH);
+    assert_eq!(number(&two, b"", &ends(&[0; 96]), 96, 384), 0);
+    assert_eq!(number(&two, b"", &ends(&[0; 97]), 97, 388), BATCH);
+    let long = match_batch(&two, (&[b'1'; 256], &ends(&[256])), 0, 1, 4, 0);
+    assert_eq!((long.number, long.verdicts), (0, vec![12]));
+}
+
 #[test]
 fn easy_errors() {
     assert_eq!(parts(b".N1N", b"12"), Some(vec![1, 2]));

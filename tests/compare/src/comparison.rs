@@ -1,0 +1,128 @@
+//! Makes a call of the library and looks at its answer and at every lent byte.
+
+use crate::call::{Batch, Call, Case};
+use crate::expected::{expected, Expected};
+use crate::lent::Lent;
+use std::fmt;
+
+fn same<T: PartialEq + fmt::Display>(name: &str, found: T, wanted: T) -> Result<(), String> {
+    if found == wanted {
+        Ok(())
+    } else {
+        Err(format!("{name} is {found}, expected {wanted}"))
+    }
+}
+
+fn make(call: &Call, inputs: &mut [Lent], outputs: &mut [Lent], answer: &mut [u8]) -> u32 {
+    match (call, inputs, outputs) {
+        (Call::Compile { .. }, [source], [table]) => {
+            library::compile(source.bytes(), table.bytes(), answer)
+        }
+        (Call::WriteBack { .. }, [table], [source]) => {
+            library::write_back(table.bytes(), source.bytes(), answer)
+        }
+        (Call::Match { budget, .. }, [table, label], [scratch, parts]) => library::match_label(
+            table.bytes(),
+            label.bytes(),
+            scratch.bytes(),
+            parts.bytes(),
+            *budget,
+            answer,
+        ),
+        (Call::Batch(batch), [table, labels, ends], [scratch, verdicts, parts]) => {
+            let lent = library::Batch {
+                table: table.bytes(),
+                labels: labels.bytes(),
+                ends: ends.bytes(),
+                scratch: scratch.bytes(),
+                verdicts: verdicts.bytes(),
+                parts: parts.bytes(),
+                budget: batch.budget,
+            };
+            library::match_batch(lent, answer)
+        }
+        _ => unreachable!("other slices than the call's"),
+    }
+}
+
+/// The number `at` of an answer area.
+fn field(answer: &[u8], at: usize) -> u64 {
+    u64::from_le_bytes(answer[8 * at..][..8].try_into().unwrap())
+}
+
+fn check_answer(answer: &mut Lent, wanted: &Expected) -> Result<(), String> {
+    if wanted.number == second::ANSWER {
+        return answer.check(&Vec::new());
+    }
+    let values = wanted.values();
+    let names = ["position", "result", "trials", "fourth number"];
+    for (at, name) in names.iter().enumerate() {
+        same(name, field(answer.bytes(), at), values[at])?;
+    }
+    let area = values.iter().flat_map(|value| value.to_le_bytes());
+    answer.check(&vec![(0, area.collect())])
+}
+
+fn outputs_of(case: &Case, margin: usize) -> Vec<Lent> {
+    let outputs = case.call.outputs().into_iter();
+    outputs
+        .map(|output| Lent::output(output, margin, case.dirt))
+        .collect()
+}
+
+/// Makes single calls of the library in turn, each with 2T part bytes, and compares what they
+/// leave with what a batch left.
+fn check_in_turn(case: &Case, number: u32, left: &[Lent], margin: usize) -> Result<(), String> {
+    let Call::Batch(Batch { table, budget, .. }) = &case.call else {
+        return Ok(());
+    };
+    let mut area = [0; 32];
+    let tested = library::match_label(table, &[], &mut [], &mut [], 0, &mut area);
+    let bad = tested == second::TABLE;
+    same("table refused", number == second::TABLE, bad)?;
+    if number > 0 {
+        return Ok(());
+    }
+    let each = second::part_bytes(table).unwrap();
+    let mut outputs = outputs_of(case, margin);
+    let [scratch, verdicts, parts] = &mut outputs[..] else {
+        unreachable!("other outputs than a batch's")
+    };
+    for (k, label) in case.call.labels().into_iter().enumerate() {
+        let parts = &mut parts.bytes()[k * each..][..each];
+        let refusal =
+            library::match_label(table, label, scratch.bytes(), parts, *budget, &mut area);
+        verdicts.bytes()[k] = match refusal {
+            0 => field(&area, 1) as u8,
+            _ => refusal as u8,
+        };
+    }
+    let pairs = left.iter().zip(&outputs);
+    pairs
+        .into_iter()
+        .try_for_each(|(left, single)| left.check_beside(single))
+}
+
+/// Makes the call on both sides; gives what both answer, or the first difference.
+pub fn compare(case: &Case, margin: usize) -> Result<Expected, String> {
+    let wanted = expected(case);
+    let lend = |bytes: &[u8]| Lent::input(bytes, margin);
+    let mut inputs: Vec<Lent> = case.call.inputs().into_iter().map(lend).collect();
+    let mut outputs = outputs_of(case, margin);
+    let mut answer = Lent::output(("answer", case.answer_len), margin, case.dirt);
+    let number = make(&case.call, &mut inputs, &mut outputs, answer.bytes());
+
+    same("number", number, wanted.number)?;
+    check_answer(&mut answer, &wanted)?;
+    let nothing = Vec::new();
+    for (at, output) in outputs.iter_mut().enumerate() {
+        output.check(wanted.writes.get(at).unwrap_or(&nothing))?;
+    }
+    for input in &mut inputs {
+        input.check(&nothing)?;
+    }
+    if number != second::ANSWER {
+        check_in_turn(case, number, &outputs, margin)?;
+    }
+    Ok(wanted)
+}

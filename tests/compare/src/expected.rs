@@ -1,0 +1,111 @@
+//! What the second program expects of a call.
+
+use crate::call::{Call, Case};
+use crate::lent::Writes;
+
+/// What a call must answer and write.
+#[derive(Default)]
+pub struct Expected {
+    pub number: u32,
+    pub position: usize,
+    /// Table length, source length or verdict.
+    pub result: u64,
+    pub trials: u64,
+    /// What is written to each output, in their order; none for those that aren't named.
+    pub writes: Vec<Writes>,
+    /// The answers to the labels of a batch.
+    pub verdicts: Vec<u8>,
+}
+
+impl Expected {
+    /// The numbers of the answer area.
+    pub fn values(&self) -> [u64; 4] {
+        [self.position as u64, self.result, self.trials, 0]
+    }
+
+    fn of_bytes(result: Result<Vec<u8>, second::Refusal>) -> Self {
+        match result {
+            Ok(bytes) => Expected {
+                result: bytes.len() as u64,
+                writes: vec![vec![(0, bytes)]],
+                ..Self::default()
+            },
+            Err(refusal) => Expected {
+                number: refusal.number,
+                position: refusal.position,
+                ..Self::default()
+            },
+        }
+    }
+
+    fn of_match(matched: second::Matched) -> Self {
+        let parts = matched.parts.map(|parts| (0, parts));
+        Expected {
+            number: matched.number,
+            position: matched.position,
+            result: u64::from(matched.verdict),
+            trials: matched.trials,
+            writes: vec![zeros(matched.clears), parts.into_iter().collect()],
+            ..Self::default()
+        }
+    }
+
+    fn of_batch(batch: second::Batch) -> Self {
+        Expected {
+            number: batch.number,
+            writes: vec![
+                zeros(batch.clears),
+                vec![(0, batch.verdicts.clone())],
+                batch.parts,
+            ],
+            verdicts: batch.verdicts,
+            ..Self::default()
+        }
+    }
+}
+
+fn zeros(len: usize) -> Writes {
+    vec![(0, vec![0; len])]
+}
+
+pub fn expected(case: &Case) -> Expected {
+    if case.answer_len >= 32 {
+        return answered(&case.call);
+    }
+    Expected {
+        number: second::ANSWER,
+        ..Expected::default()
+    }
+}
+
+fn answered(call: &Call) -> Expected {
+    match call {
+        Call::Compile { source, table_len } => {
+            Expected::of_bytes(second::compile(source, *table_len))
+        }
+        Call::WriteBack { table, source_len } => {
+            Expected::of_bytes(second::write_back(table, *source_len))
+        }
+        Call::Match {
+            table,
+            label,
+            scratch_len,
+            parts_len,
+            budget,
+        } => Expected::of_match(second::match_label(
+            table,
+            label,
+            *scratch_len,
+            *parts_len,
+            *budget,
+        )),
+        Call::Batch(batch) => Expected::of_batch(second::match_batch(
+            &batch.table,
+            (&batch.labels, &batch.ends),
+            batch.scratch_len,
+            batch.verdicts_len,
+            batch.parts_len,
+            batch.budget,
+        )),
+    }
+}
