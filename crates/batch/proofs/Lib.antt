@@ -3,3 +3,4 @@ pub mod Turns
 pub mod Cases
 pub mod Alone
 pub mod Batches
+pub mod Examples
