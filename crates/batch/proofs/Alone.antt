@@ -51,24 +51,24 @@ module _ (table : Bytes) (width budget : ℕ) (other : Bytes) where
     pub byte : getD (o .verdicts) k 0 ≡ answer-byte (matchOf table label other mine budget .answer)
     pub own : part-at width (o .parts) k ≡ matchOf table label other mine budget .parts
 
-  pub each-alone : (labels : List Bytes) (scratch verdicts parts : Bytes) → length scratch ≡ length other → length labels * width ≤ length parts → (k : ℕ) → k < length labels
+  pub turns-alone : (labels : List Bytes) (scratch verdicts parts : Bytes) → length scratch ≡ length other → length labels * width ≤ length parts → (k : ℕ) → k < length labels
       → Alone (getD labels k []) (part-at width parts k) k (in-turn table width budget labels scratch verdicts parts)
   unfolding in-turn
-  each-alone [] scratch verdicts parts e r k h = absurd (omega arith)
-  each-alone (label ∷ labels) scratch verdicts parts e r zero h =
+  turns-alone [] scratch verdicts parts e r k h = absurd (omega arith)
+  turns-alone (label ∷ labels) scratch verdicts parts e r zero h =
       let m : MatchOutput = matchOf table label scratch (take width parts) budget in
-      let n : length (m .parts) ≡ width = match-leaves table label scratch (take width parts) budget .parts-length ∙ length-take-le width parts (omega (arith, r, suc-mul (length labels) width)) in
+      let n : length (m .parts) ≡ width = match-leaves table label scratch (take width parts) budget .same-parts ∙ length-take-le width parts (omega (arith, r, suc-mul (length labels) width)) in
       let s = scratch-ignored table label scratch other (take width parts) budget e in
       let p = ap (λ v. matchOf table label other v budget) (sym (part-first width parts)) in
       record {
         byte = ap (λ (x : Answer × Bytes). answer-byte (x .0)) s ∙ ap (λ (x : MatchOutput). answer-byte (x .answer)) p;
         own = part-first width _ ∙ take-at (m .parts) _ width n ∙ ap (λ (x : Answer × Bytes). x .1) s ∙ ap (λ (x : MatchOutput). x .parts) p;
       }
-  each-alone (label ∷ labels) scratch verdicts parts e r (suc k) h =
+  turns-alone (label ∷ labels) scratch verdicts parts e r (suc k) h =
       let m : MatchOutput = matchOf table label scratch (take width parts) budget in
       let l = match-leaves table label scratch (take width parts) budget in
-      let n : length (m .parts) ≡ width = l .parts-length ∙ length-take-le width parts (omega (arith, r, suc-mul (length labels) width)) in
-      let i = each-alone labels (m .scratch) (drop 1 verdicts) (drop width parts) (l .scratch-length ∙ e) (omega (arith, r, suc-mul (length labels) width, length-drop width parts)) k (omega arith) in
+      let n : length (m .parts) ≡ width = l .same-parts ∙ length-take-le width parts (omega (arith, r, suc-mul (length labels) width)) in
+      let i = turns-alone labels (m .scratch) (drop 1 verdicts) (drop width parts) (l .same-scratch ∙ e) (omega (arith, r, suc-mul (length labels) width, length-drop width parts)) k (omega arith) in
       let p = ap (λ v. matchOf table (getD labels k []) other v budget) (sym (part-next width parts k)) in
       record {
         byte = i .byte ∙ ap (λ (x : MatchOutput). answer-byte (x .answer)) p;

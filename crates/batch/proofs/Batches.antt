@@ -23,7 +23,7 @@ use Rattle.pattern.proofs.Calls.{Leaves, match-leaves, fit-number, fit-scratch}
 use Rattle.batch.specs.Batch.{labels-from, unfit, answer-byte, BatchOutput, batch-output, in-turn, batched, batchOf, label-at, part-at, LabelByte, used-by, most-used, Fits}
 use Rattle.batch.proofs.Placing.{fits-exactly}
 use Rattle.batch.proofs.Cases.{unfit-refused, fit-in-turn}
-use Rattle.batch.proofs.Alone.{labels-length, label-is, Alone, each-alone}
+use Rattle.batch.proofs.Alone.{labels-length, label-is, Alone, turns-alone}
 
 -- ---- the labels in turn
 
@@ -43,7 +43,7 @@ module _ (table : Bytes) (width budget : ℕ) where
       let m : MatchOutput = matchOf table label scratch (take width parts) budget in
       let k : ℕ = length labels in
       let e : suc k * width ≡ width + k * width = omega (arith, suc-mul k width) in
-      let n : length (m .parts) ≡ width = match-leaves table label scratch (take width parts) budget .parts-length ∙ length-take-le width parts (omega arith) in
+      let n : length (m .parts) ≡ width = match-leaves table label scratch (take width parts) budget .same-parts ∙ length-take-le width parts (omega arith) in
       let (v, p) = turns-past labels (m .scratch) (drop 1 verdicts) (drop width parts) (omega (arith, length-drop width parts)) in
       let s : 1 + k ≡ suc k = omega arith in
       let later : BatchOutput = in-turn table width budget labels (m .scratch) (drop 1 verdicts) (drop width parts) in (
@@ -85,7 +85,7 @@ module _ (table : Bytes) (t : Syntax pattern) (good : decode table ≡ some t) (
       let e = suc-mul (length labels) width in
       let i = turns-scratch labels s (drop 1 verdicts) (drop width parts) (omega (arith, length-drop width parts)) in
       i
-      ∙ ap (λ n. zeroed (most-used t n labels) s) (match-leaves table label scratch mine budget .scratch-length)
+      ∙ ap (λ n. zeroed (most-used t n labels) s) (match-leaves table label scratch mine budget .same-scratch)
       ∙ ap (zeroed w) (match-used label scratch mine (omega (arith, length-take-le width parts (omega arith))))
       ∙ zeroed-twice w u scratch (used-le t (length scratch) label)
       ∙ ap (λ n. zeroed n scratch) (max-comm w u)
@@ -141,7 +141,7 @@ module _ (table buffer ends scratch verdicts parts : Bytes) (budget : ℕ) (t : 
     count = labels-length 0 (numbers-in ends) buffer ∙ numbers-length ends
 
     room : length labels * width ≤ length parts
-    room = subst (λ n. n * width ≤ length parts) (sym count) (fits .parts-fit)
+    room = subst (λ n. n * width ≤ length parts) (sym count) (fits .parts-long)
 
     pub fit-answers : output .number ≡ 0
     fit-answers = ap (λ (o : BatchOutput). o .number) in-turns ∙ turns-number table width budget labels scratch verdicts parts
@@ -166,8 +166,8 @@ module _ (table buffer ends scratch verdicts parts : Bytes) (budget : ℕ) (t : 
     label-answered other e k h =
         let a : Alone table width budget other (label-at buffer ends k) (part-at width parts k) k output =
         subst (λ l. Alone table width budget other l (part-at width parts k) k output) (label-is buffer ends k h)
-        (subst (Alone table width budget other (getD labels k []) (part-at width parts k) k) (sym in-turns) (each-alone table width budget other labels scratch verdicts parts e room k (omega (arith, count)))) in
-        let n : k * width + width ≤ length parts = omega (arith, suc-mul k width, mul-le-mul-right width h, fits .parts-fit) in
+        (subst (Alone table width budget other (getD labels k []) (part-at width parts k) k) (sym in-turns) (turns-alone table width budget other labels scratch verdicts parts e room k (omega (arith, count)))) in
+        let n : k * width + width ≤ length parts = omega (arith, suc-mul k width, mul-le-mul-right width h, fits .parts-long) in
         let r : width ≤ length (part-at width parts k) = omega (arith, length-take-le width (drop (k * width) parts) (omega (arith, length-drop (k * width) parts))) in
         record {
           alone = a;
@@ -181,4 +181,4 @@ unfolding in-turn labels-from numbers-in
 no-labels table buffer scratch verdicts parts budget t good = in-turns table buffer [] scratch verdicts parts budget t good fits
   where
     fits : Fits (2 * top-size t) buffer [] verdicts parts
-    fits = record { whole = refl; few = omega arith; placed = λ k h. absurd (omega arith); verdicts-fit = omega arith; parts-fit = omega (arith, zero-mul (2 * top-size t)) }
+    fits = record { whole = refl; few = omega arith; placed = λ k h. absurd (omega arith); verdicts-long = omega arith; parts-long = omega (arith, zero-mul (2 * top-size t)) }

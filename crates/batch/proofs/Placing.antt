@@ -113,7 +113,7 @@ module _ (width : ℕ) (buffer ends verdicts parts : Bytes) where
 -- it fits exactly where no test refuses it
 pub fits-exactly : (width : ℕ) (buffer ends verdicts parts : Bytes) → (unfit width buffer ends verdicts parts ≡ false) ↔ Fits width buffer ends verdicts parts
 unfolding unfit
-fits-exactly width buffer ends verdicts parts = (fit, λ f. sym (by-places width buffer ends verdicts parts (λ e. omega (arith, f .whole)) (f .few) (f .verdicts-fit) (f .parts-fit)) ∙ placed-exactly ends (length buffer) .1 (f .placed))
+fits-exactly width buffer ends verdicts parts = (fit, λ f. sym (by-places width buffer ends verdicts parts (λ e. omega (arith, f .whole)) (f .few) (f .verdicts-long) (f .parts-long)) ∙ placed-exactly ends (length buffer) .1 (f .placed))
   where
     fit : unfit width buffer ends verdicts parts ≡ false → Fits width buffer ends verdicts parts
     fit h =
@@ -126,4 +126,4 @@ fits-exactly width buffer ends verdicts parts = (fit, λ f. sym (by-places width
         let (ab, c′) = neither (a || b) _ abc in
         let (a′, b′) = neither a _ ab in
         let o : ¬ (length ends % 2 ≡ 1) = λ e. subst T (sym (eq-eqb _ _ e) ∙ b′) tt in
-        record { whole = omega arith; few = ltb-false _ _ c′; placed = placed-exactly ends (length buffer) .0 a′; verdicts-fit = ltb-false _ _ d′; parts-fit = ltb-false _ _ e′ }
+        record { whole = omega arith; few = ltb-false _ _ c′; placed = placed-exactly ends (length buffer) .0 a′; verdicts-long = ltb-false _ _ d′; parts-long = ltb-false _ _ e′ }

@@ -74,10 +74,10 @@ module _ (table buffer ends : Bytes) (width budget : ℕ) (scratch₀ verdicts�
       end-there = omega (arith, h)
 
       pub part-room : at + width ≤ length parts
-      part-room = let m = mul-le-mul-right width h in omega (arith, suc-mul k width, t .place, t .fits .parts-fit, t .same-parts)
+      part-room = let m = mul-le-mul-right width h in omega (arith, suc-mul k width, t .place, t .fits .parts-long, t .same-parts)
 
       pub verdict-room : k < length verdicts
-      verdict-room = omega (arith, t .fits .verdicts-fit, t .same-verdicts)
+      verdict-room = omega (arith, t .fits .verdicts-long, t .same-verdicts)
 
       -- the next label, and its end
       module _ (end : ℕ) (e : end ≡ field ends (2 * k)) where

@@ -89,8 +89,8 @@ pub record Fits (width : ℕ) (buffer ends verdicts parts : Bytes) : Type 0 wher
   pub whole : length ends % 2 ≡ 0
   pub few : length ends / 2 ≤ batch-limit
   pub placed : (k : ℕ) → k < length ends / 2 → (start ends k ≤ field ends (2 * k)) × (field ends (2 * k) ≤ length buffer)
-  pub verdicts-fit : length ends / 2 ≤ length verdicts
-  pub parts-fit : length ends / 2 * width ≤ length parts
+  pub verdicts-long : length ends / 2 ≤ length verdicts
+  pub parts-long : length ends / 2 * width ≤ length parts
 
 -- the part bytes of label k
 abbrev pub part-at : (width : ℕ) → Bytes → (k : ℕ) → Bytes

@@ -113,16 +113,16 @@ lent-number t label scratch parts f e =
 
 -- what is lent where none of them applies
 pub record LentFits (t : Syntax pattern) (label scratch parts : Bytes) : Type 0 where
-  pub label-fits : length label ≤ label-limit
-  pub scratch-fits : scratch-needed t (length label) ≤ length scratch
-  pub parts-fit : 2 * top-size t ≤ length parts
+  pub label-short : length label ≤ label-limit
+  pub scratch-long : scratch-needed t (length label) ≤ length scratch
+  pub parts-long : 2 * top-size t ≤ length parts
 
 pub lent-fits : (t : Syntax pattern) (label scratch parts : Bytes) → lent-fault t label scratch parts ≡ none → LentFits t label scratch parts
 unfolding lent-fault Applies
 lent-fits t label scratch parts e = record {
-  label-fits = not-less _ _ (λ h. refuse-none _ LABEL e (inl (h, refl)));
-  scratch-fits = not-less _ _ (λ h. refuse-none _ WORK e (inr (inl (h, refl))));
-  parts-fit = not-less _ _ (λ h. refuse-none _ PARTS e (inr (inr (inl (h, refl)))));
+  label-short = not-less _ _ (λ h. refuse-none _ LABEL e (inl (h, refl)));
+  scratch-long = not-less _ _ (λ h. refuse-none _ WORK e (inr (inl (h, refl))));
+  parts-long = not-less _ _ (λ h. refuse-none _ PARTS e (inr (inr (inl (h, refl)))));
 }
 
 -- by the budget, where nothing is refused before
@@ -261,24 +261,24 @@ scratch-ignored table label scratch other parts budget e = rw (same-ending (deco
 
 -- lengths as lent; and yes, or parts as lent
 pub record Leaves (scratch parts : Bytes) (m : MatchOutput) : Type 0 where
-  pub scratch-length : length (m .scratch) ≡ length scratch
-  pub parts-length : length (m .parts) ≡ length parts
+  pub same-scratch : length (m .scratch) ≡ length scratch
+  pub same-parts : length (m .parts) ≡ length parts
   pub yes-or-kept : ((m .answer .number ≡ 0) × (m .answer .value ≡ 1)) ⊎ ((m .answer .value ≡ 0) × (m .parts ≡ parts))
 
 pub match-leaves : (table label scratch parts : Bytes) (budget : ℕ) → Leaves scratch parts (matchOf table label scratch parts budget)
 unfolding matchOf ended
 match-leaves table label scratch parts budget =
     match-cases (λ e. Leaves scratch parts (ended e scratch parts)) (decode table) label scratch parts budget
-    (λ number l h. record { scratch-length = refl; parts-length = refl; yes-or-kept = inr (refl, refl) })
-    (λ t d f h. record { scratch-length = length-zeroed _ scratch (lent-fits t label scratch parts f .scratch-fits); parts-length = refl; yes-or-kept = inr (refl, refl) })
+    (λ number l h. record { same-scratch = refl; same-parts = refl; yes-or-kept = inr (refl, refl) })
+    (λ t d f h. record { same-scratch = length-zeroed _ scratch (lent-fits t label scratch parts f .scratch-long); same-parts = refl; yes-or-kept = inr (refl, refl) })
     (λ t d f h. decides t (lent-fits t label scratch parts f) (verdict label t) refl)
   where
     decides : (t : Syntax pattern) → LentFits t label scratch parts → (v : Option (List ℕ)) → verdict label t ≡ v → Leaves scratch parts (ended (decided (scratch-needed t (length label)) (trials label t) v) scratch parts)
-    decides t f none e = unfold ended in record { scratch-length = length-zeroed _ scratch (f .scratch-fits); parts-length = refl; yes-or-kept = inr (refl, refl) }
+    decides t f none e = unfold ended in record { same-scratch = length-zeroed _ scratch (f .scratch-long); same-parts = refl; yes-or-kept = inr (refl, refl) }
     decides t f (some ends) e =
         let n = part-bytes-length ends in
         unfold ended in
-        record { scratch-length = length-zeroed _ scratch (f .scratch-fits); parts-length = length-overwrite (part-bytes ends) parts (omega (arith, verdict-length label t ends e, f .parts-fit)); yes-or-kept = inl (refl, refl) }
+        record { same-scratch = length-zeroed _ scratch (f .scratch-long); same-parts = length-overwrite (part-bytes ends) parts (omega (arith, verdict-length label t ends e, f .parts-long)); yes-or-kept = inl (refl, refl) }
 
 -- ---- a verdict or a numbered refusal
 

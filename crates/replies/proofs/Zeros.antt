@@ -72,7 +72,7 @@ module _ (scratch : Bytes) (z : Zero scratch) where
   unfolding label-reply ending-reply Used
   label-same table label =
       let parts : Bytes = replicate parts-room 0 in
-      ended-same parts _ (match-cases (λ e. Used e (length scratch)) (decode table) label scratch parts budget (λ n l h. tt) (λ t d f h. lent-fits t label scratch parts f .scratch-fits) (λ t d f h. lent-fits t label scratch parts f .scratch-fits))
+      ended-same parts _ (match-cases (λ e. Used e (length scratch)) (decode table) label scratch parts budget (λ n l h. tt) (λ t d f h. lent-fits t label scratch parts f .scratch-long) (λ t d f h. lent-fits t label scratch parts f .scratch-long))
 
   source-same : (source label : Bytes) → source-reply source label scratch .scratch ≡ scratch
   unfolding source-reply table-reply
