@@ -1,94 +1,30 @@
 -- What a batch answers and leaves, sentence by sentence of the request. Assumes nothing.
 use mathlib.Core.Path.{_≡_, refl, sym, ap, subst, _∙_}
-use mathlib.Core.Logic.{_↔_, _⊎_, inl, inr, ⊎-elim}
-use mathlib.Core.Bool.{Bool, true, false, _||_}
-use mathlib.Core.List.{List, [], _∷_, _++_}
-use mathlib.Core.Option.{Option, none, some}
-use Prim.Native.Nat.{ℕ, zero, suc, _+_, _*_, _/_, max, _≤_, _<_}
-use native.Mathlib.Nat.{mul-le-mul-right, suc-mul, zero-mul, max-comm}
+use mathlib.Core.Logic.{inl, inr, ⊎-elim}
+use mathlib.Core.Bool.{Bool, true, false}
+use mathlib.Core.List.{List, []}
+use mathlib.Core.Option.{some}
+use Prim.Native.Nat.{ℕ, _+_, _*_, _/_, _≤_, _<_}
+use native.Mathlib.Nat.{mul-le-mul-right, suc-mul, zero-mul}
 use native.Mathlib.Omega.{arith}
-use lib.Dec.{eqb, ltb}
-use lib.ListN.{length, getD, take, drop, length-drop}
-use lib.Seq.{drop-at, drop-drop, length-take-le}
-use borrow.Author.Tests.{ltb-false, eq-eqb, ne-eqb}
-use Rattle.pattern.specs.Numbers.{label-limit, TABLE, LABEL, WORK, BUDGET, BATCH}
+use lib.Dec.{eqb}
+use lib.ListN.{length, getD, drop, length-drop}
+use lib.Seq.{length-take-le}
+use borrow.Author.Tests.{eq-eqb, ne-eqb}
+use Rattle.pattern.specs.Numbers.{LABEL, WORK, BUDGET, BATCH}
 use Rattle.pattern.specs.Bytes.{Bytes, numbers-in, zeroed}
 use Rattle.pattern.specs.Syntax.{pattern, Syntax, top-size}
 use Rattle.pattern.specs.Decode.{decode}
-use Rattle.pattern.specs.Answers.{Answer, MatchOutput, scratch-needed, matchOf}
-use Rattle.pattern.proofs.Tests.{neither, if-true, if-false}
-use Rattle.pattern.proofs.Stores.{zeroed-twice}
+use Rattle.pattern.specs.Answers.{MatchOutput, matchOf}
+use Rattle.pattern.proofs.Tests.{if-true, if-false}
 use Rattle.pattern.proofs.Pairs.{numbers-length}
-use Rattle.pattern.proofs.Calls.{Leaves, match-leaves, fit-number, fit-scratch}
-use Rattle.batch.specs.Batch.{labels-from, unfit, answer-byte, BatchOutput, batch-output, in-turn, batched, batchOf, label-at, part-at, LabelByte, used-by, most-used, Fits}
+use Rattle.pattern.proofs.Calls.{match-leaves, fit-number}
+use Rattle.batch.specs.Batch.{labels-from, unfit, answer-byte, BatchOutput, batch-output, in-turn, batchOf}
+use Rattle.batch.specs.Labels.{label-at, Fits, part-at, LabelByte, most-used}
 use Rattle.batch.proofs.Placing.{fits-exactly}
 use Rattle.batch.proofs.Cases.{unfit-refused, fit-in-turn}
-use Rattle.batch.proofs.Alone.{labels-length, label-is, Alone, turns-alone}
-
--- ---- the labels in turn
-
-module _ (table : Bytes) (width budget : ℕ) where
-  turns-number : (labels : List Bytes) (scratch verdicts parts : Bytes) → in-turn table width budget labels scratch verdicts parts .number ≡ 0
-  unfolding in-turn
-  turns-number [] scratch verdicts parts = refl
-  turns-number (label ∷ labels) scratch verdicts parts = turns-number labels _ _ _
-
-  -- the bytes past those of the last label
-  turns-past : (labels : List Bytes) (scratch verdicts parts : Bytes) → length labels * width ≤ length parts
-      → let o : BatchOutput = in-turn table width budget labels scratch verdicts parts in
-      (drop (length labels) (o .verdicts) ≡ drop (length labels) verdicts) × (drop (length labels * width) (o .parts) ≡ drop (length labels * width) parts)
-  unfolding in-turn
-  turns-past [] scratch verdicts parts r = (refl, refl)
-  turns-past (label ∷ labels) scratch verdicts parts r =
-      let m : MatchOutput = matchOf table label scratch (take width parts) budget in
-      let k : ℕ = length labels in
-      let e : suc k * width ≡ width + k * width = omega (arith, suc-mul k width) in
-      let n : length (m .parts) ≡ width = match-leaves table label scratch (take width parts) budget .same-parts ∙ length-take-le width parts (omega arith) in
-      let (v, p) = turns-past labels (m .scratch) (drop 1 verdicts) (drop width parts) (omega (arith, length-drop width parts)) in
-      let s : 1 + k ≡ suc k = omega arith in
-      let later : BatchOutput = in-turn table width budget labels (m .scratch) (drop 1 verdicts) (drop width parts) in (
-        v ∙ drop-drop k 1 verdicts ∙ ap (λ i. drop i verdicts) s,
-        ap (λ i. drop i (m .parts ++ later .parts)) e ∙ sym (drop-drop (k * width) width _) ∙ ap (drop (k * width)) (drop-at (m .parts) (later .parts) width n) ∙ p ∙ drop-drop (k * width) width parts ∙ ap (λ i. drop i parts) (sym e),
-      )
-
--- ---- scratch
-
-module _ (t : Syntax pattern) (room : ℕ) (label : Bytes) where
-  used-le : used-by t room label ≤ room
-  unfolding used-by
-  used-le = go (ltb label-limit (length label)) (ltb room (scratch-needed t (length label))) refl
-    where
-      go : (a b : Bool) → ltb room (scratch-needed t (length label)) ≡ b → (elim (a || b) [ true ↦ 0 | false ↦ scratch-needed t (length label) ]) ≤ room
-      go true b e = omega arith
-      go false true e = omega arith
-      go false false e = ltb-false _ _ e
-
-module _ (table : Bytes) (t : Syntax pattern) (good : decode table ≡ some t) (budget : ℕ) where
-  match-used : (label scratch parts : Bytes) → 2 * top-size t ≤ length parts → matchOf table label scratch parts budget .scratch ≡ zeroed (used-by t (length scratch) label) scratch
-  unfolding used-by
-  match-used label scratch parts r = fit-scratch table label scratch parts budget t good r ∙ go (ltb label-limit (length label) || ltb (length scratch) (scratch-needed t (length label)))
-    where
-      go : (b : Bool) → (elim b [ true ↦ scratch | false ↦ zeroed (scratch-needed t (length label)) scratch ]) ≡ zeroed (elim b [ true ↦ 0 | false ↦ scratch-needed t (length label) ]) scratch
-      go true = refl
-      go false = refl
-
-  turns-scratch : (labels : List Bytes) (scratch verdicts parts : Bytes) → length labels * (2 * top-size t) ≤ length parts
-      → in-turn table (2 * top-size t) budget labels scratch verdicts parts .scratch ≡ zeroed (most-used t (length scratch) labels) scratch
-  unfolding in-turn most-used
-  turns-scratch [] scratch verdicts parts r = refl
-  turns-scratch (label ∷ labels) scratch verdicts parts r =
-      let width : ℕ = 2 * top-size t in
-      let mine : Bytes = take width parts in
-      let s : Bytes = matchOf table label scratch mine budget .scratch in
-      let u : ℕ = used-by t (length scratch) label in
-      let w : ℕ = most-used t (length scratch) labels in
-      let e = suc-mul (length labels) width in
-      let i = turns-scratch labels s (drop 1 verdicts) (drop width parts) (omega (arith, length-drop width parts)) in
-      i
-      ∙ ap (λ n. zeroed (most-used t n labels) s) (match-leaves table label scratch mine budget .same-scratch)
-      ∙ ap (zeroed w) (match-used label scratch mine (omega (arith, length-take-le width parts (omega arith))))
-      ∙ zeroed-twice w u scratch (used-le t (length scratch) label)
-      ∙ ap (λ n. zeroed n scratch) (max-comm w u)
+use Rattle.batch.proofs.Labels.{labels-length, label-is}
+use Rattle.batch.proofs.InTurn.{turns-number, turns-past, turns-scratch, Alone, turns-alone}
 
 -- ---- a label's answer byte
 

@@ -1,6 +1,7 @@
 pub mod Placing
 pub mod Turns
 pub mod Cases
-pub mod Alone
+pub mod Labels
+pub mod InTurn
 pub mod Batches
 pub mod Examples

@@ -12,7 +12,8 @@ use Rattle.pattern.specs.Bytes.{Bytes, numbers-in}
 use Rattle.pattern.specs.Decode.{field}
 use Rattle.pattern.proofs.Tests.{neither}
 use Rattle.pattern.proofs.Pairs.{numbers-more, numbers-none, numbers-length, numbers-at}
-use Rattle.batch.specs.Batch.{batch-limit, misplaced, unfit, start, Fits}
+use Rattle.batch.specs.Batch.{batch-limit, misplaced, unfit}
+use Rattle.batch.specs.Labels.{start, Fits}
 
 -- ends that are in place
 module _ (from end size : ℕ) (ends : List ℕ) (h : misplaced from (end ∷ ends) size ≡ false) where

@@ -1,18 +1,16 @@
 -- A batch: one pattern and up to 96 labels in one call, what it answers and every lent byte afterwards. To be believed.
-use mathlib.Core.Path.{_≡_}
-use mathlib.Core.Logic.{_⊎_}
 use mathlib.Core.Bool.{Bool, true, false, _||_}
 use mathlib.Core.List.{List, [], _∷_, _++_}
 use mathlib.Core.Option.{Option, none, some}
-use Prim.Native.Nat.{ℕ, zero, suc, _*_, _/_, _%_, max, _≤_, _<_}
+use Prim.Native.Nat.{ℕ, _*_, _/_, _%_}
 use lib.Dec.{eqb, ltb}
 use lib.ListN.{length, take, drop}
 use lib.Seq.{slice}
-use Rattle.pattern.specs.Numbers.{label-limit, TABLE, LABEL, WORK, BUDGET, BATCH}
+use Rattle.pattern.specs.Numbers.{TABLE, BATCH}
 use Rattle.pattern.specs.Bytes.{Bytes, numbers-in}
 use Rattle.pattern.specs.Syntax.{pattern, Syntax, top-size}
-use Rattle.pattern.specs.Decode.{field, decode}
-use Rattle.pattern.specs.Answers.{Answer, MatchOutput, scratch-needed, matchOf}
+use Rattle.pattern.specs.Decode.{decode}
+use Rattle.pattern.specs.Answers.{Answer, MatchOutput, matchOf}
 
 -- "up to 96 labels"
 abbrev pub batch-limit : ℕ
@@ -51,16 +49,16 @@ pub record BatchOutput : Type 0 where
 abbrev pub batch-output : (number : ℕ) → (scratch verdicts parts : Bytes) → BatchOutput
 batch-output number scratch verdicts parts = record { number = number; scratch = scratch; verdicts = verdicts; parts = parts }
 
--- what a match answers and leaves, before what the later ones do
-abbrev pub before : MatchOutput → BatchOutput → BatchOutput
-before m rest = batch-output (rest .number) (rest .scratch) (answer-byte (m .answer) ∷ rest .verdicts) (m .parts ++ rest .parts)
+-- what one match answers and leaves, and then what the later ones do
+abbrev pub prepend : MatchOutput → BatchOutput → BatchOutput
+prepend m rest = batch-output (rest .number) (rest .scratch) (answer-byte (m .answer) ∷ rest .verdicts) (m .parts ++ rest .parts)
 
 -- "single calls in turn, each with the full budget and the same scratch", each with the next answer byte and the next part bytes; those after the last label's stay
 unfoldable pub in-turn : (table : Bytes) (width budget : ℕ) → (labels : List Bytes) → (scratch verdicts parts : Bytes) → BatchOutput
 in-turn table width budget [] scratch verdicts parts = batch-output 0 scratch verdicts parts
 in-turn table width budget (label ∷ labels) scratch verdicts parts =
     let m : MatchOutput = matchOf table label scratch (take width parts) budget in
-    before m (in-turn table width budget labels (m .scratch) (drop 1 verdicts) (drop width parts))
+    prepend m (in-turn table width budget labels (m .scratch) (drop 1 verdicts) (drop width parts))
 
 -- "refuse the whole call with new number 16; 11 comes before 16"; "2T part bytes each"
 unfoldable pub batched : Option (Syntax pattern) → (table buffer ends scratch verdicts parts : Bytes) → (budget : ℕ) → BatchOutput
@@ -73,37 +71,3 @@ batched (some t) table buffer ends scratch verdicts parts budget =
 
 unfoldable pub batchOf : (table buffer ends scratch verdicts parts : Bytes) → (budget : ℕ) → BatchOutput
 batchOf table buffer ends scratch verdicts parts budget = batched (decode table) table buffer ends scratch verdicts parts budget
-
--- ---- what the theorems say of a label
-
--- where label k begins: at the end before it, at 0 the first
-unfoldable pub start : (ends : Bytes) → (k : ℕ) → ℕ
-start ends zero = 0
-start ends (suc k) = field ends (2 * k)
-
-abbrev pub label-at : (buffer ends : Bytes) → (k : ℕ) → Bytes
-label-at buffer ends k = slice (start ends k) (field ends (2 * k)) buffer
-
--- what is lent fits: whole ends, not too many, none that falls or runs past the buffer, and outputs long enough
-pub record Fits (width : ℕ) (buffer ends verdicts parts : Bytes) : Type 0 where
-  pub whole : length ends % 2 ≡ 0
-  pub few : length ends / 2 ≤ batch-limit
-  pub placed : (k : ℕ) → k < length ends / 2 → (start ends k ≤ field ends (2 * k)) × (field ends (2 * k) ≤ length buffer)
-  pub verdicts-long : length ends / 2 ≤ length verdicts
-  pub parts-long : length ends / 2 * width ≤ length parts
-
--- the part bytes of label k
-abbrev pub part-at : (width : ℕ) → Bytes → (k : ℕ) → Bytes
-part-at width parts k = take width (drop (k * width) parts)
-
--- the bytes of an answer: no, yes, LABEL, WORK and BUDGET
-abbrev pub LabelByte : ℕ → Type 0
-LabelByte b = (b ≡ 0) ⊎ (b ≡ 1) ⊎ (b ≡ LABEL) ⊎ (b ≡ WORK) ⊎ (b ≡ BUDGET)
-
--- the scratch bytes that a match uses: none with LABEL or WORK
-unfoldable pub used-by : Syntax pattern → (room : ℕ) → (label : Bytes) → ℕ
-used-by t room label = elim (ltb label-limit (length label) || ltb room (scratch-needed t (length label))) [ true ↦ 0 | false ↦ scratch-needed t (length label) ]
-
-unfoldable pub most-used : Syntax pattern → (room : ℕ) → (labels : List Bytes) → ℕ
-most-used t room [] = 0
-most-used t room (label ∷ labels) = max (used-by t room label) (most-used t room labels)

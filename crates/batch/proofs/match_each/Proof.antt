@@ -22,41 +22,35 @@ loop-holds : tie.Need-loop-holds Inv-loop μ-loop
 loop-holds c = first-turn _ _ _ _ _ _ _ _ (fits-exactly _ _ _ _ _ .0 (c .before .before .before .before .before .before .before .pre .fits))
 
 read16-requires : tie.Need-read16-requires Inv-loop μ-loop
-read16-requires c κs = end-there _ _ _ _ _ _ _ _ _ _ _ _ _ _ (c .before .loop .inv) (c .loop-test .taken)
+read16-requires c κs = end-there (c .before .loop .inv) (c .loop-test .taken)
 
 add-next : tie.Need-add-next Inv-loop μ-loop
-add-next c = omega (arith, part-room _ _ _ _ _ _ _ _ _ _ _ _ _ _ (c .before .before .loop .inv) (c .before .loop-test .taken))
+add-next c = omega (arith, part-room (c .before .before .loop .inv) (c .before .loop-test .taken))
 
 sub-match-good : tie.Need-sub-match-good Inv-loop μ-loop
-sub-match-good c = omega (arith, label-rises _ _ _ _ _ _ _ _ _ _ _ _ _ _ (c .before .before .loop .inv) (c .before .loop-test .taken) _ (c .read16 .ensures))
+sub-match-good c = omega (arith, label-rises (c .before .before .loop .inv) (c .before .loop-test .taken) _ (c .read16 .ensures))
 
 part-match-good-start : tie.Need-part-match-good-start Inv-loop μ-loop
-part-match-good-start c = omega (arith, label-rises _ _ _ _ _ _ _ _ _ _ _ _ _ _ (c .before .before .loop .inv) (c .before .loop-test .taken) _ (c .read16 .ensures))
+part-match-good-start c = omega (arith, label-rises (c .before .before .loop .inv) (c .before .loop-test .taken) _ (c .read16 .ensures))
 
 part-match-good-end : tie.Need-part-match-good-end Inv-loop μ-loop
-part-match-good-end c = omega (arith, label-within _ _ _ _ _ _ _ _ _ _ _ _ _ _ (c .before .before .loop .inv) (c .before .loop-test .taken) _ (c .read16 .ensures))
-
-sub-match-good-2 : tie.Need-sub-match-good-2 Inv-loop μ-loop
-sub-match-good-2 c = omega arith
-
-part-match-good-start-2 : tie.Need-part-match-good-start-2 Inv-loop μ-loop
-part-match-good-start-2 c = omega arith
+part-match-good-end c = omega (arith, label-within (c .before .before .loop .inv) (c .before .loop-test .taken) _ (c .read16 .ensures))
 
 part-match-good-end-2 : tie.Need-part-match-good-end-2 Inv-loop μ-loop
-part-match-good-end-2 c = omega (arith, part-room _ _ _ _ _ _ _ _ _ _ _ _ _ _ (c .before .before .before .before .loop .inv) (c .before .before .before .loop-test .taken))
+part-match-good-end-2 c = omega (arith, part-room (c .before .before .before .before .loop .inv) (c .before .before .before .loop-test .taken))
 
 match-good-requires : tie.Need-match-good-requires Inv-loop μ-loop
 match-good-requires c κs = c .before .before .before .before .before .before .before .before .before .before .before .before .before .pre .good
 
 slice-write-verdicts : tie.Need-slice-write-verdicts Inv-loop μ-loop
-slice-write-verdicts c = omega (arith, verdict-room _ _ _ _ _ _ _ _ _ _ _ _ _ _ (c .before .before .before .before .before .before .before .before .before .before .before .loop .inv) (c .before .before .before .before .before .before .before .before .before .before .loop-test .taken))
+slice-write-verdicts c = omega (arith, verdict-room (c .before .before .before .before .before .before .before .before .before .before .before .loop .inv) (c .before .before .before .before .before .before .before .before .before .before .loop-test .taken))
 
 loop-again : tie.Need-loop-again Inv-loop μ-loop
 loop-again c =
     let in-loop = c .before .before .before .before .before .before .before .before .before .before in
     let m = c .before .before .before .before .before .match-good in
     let kept = m .kept .1 .1 .1 in
-    next-turn _ _ _ _ _ _ _ _ _ _ _ _ _ _ (in-loop .before .loop .inv) (in-loop .loop-test .taken) _ (c .before .before .before .before .before .before .before .before .before .read16 .ensures) (m .result) _ _ _ (m .ensures) (kept .0) (kept .1 .0) (c .byte-of .ensures (in-loop .before .before .before .before .before .before .before .before .before .args .budget))
+    next-turn (in-loop .before .loop .inv) (in-loop .loop-test .taken) _ (c .before .before .before .before .before .before .before .before .before .read16 .ensures) (m .result) _ _ _ (m .ensures) (kept .0) (kept .1 .0) (c .byte-of .ensures (in-loop .before .before .before .before .before .before .before .before .before .args .budget))
 
 same-length : tie.Need-same-length Inv-loop μ-loop
 same-length c = c .before .loop .inv .same-scratch
@@ -68,7 +62,7 @@ same-length-3 : tie.Need-same-length-3 Inv-loop μ-loop
 same-length-3 c = c .before .loop .inv .same-parts
 
 returns : tie.Need-returns Inv-loop μ-loop
-returns c = all-turns _ _ _ _ _ _ _ _ _ _ _ _ _ _ (c .before .loop .inv) (c .loop-test .left)
+returns c = all-turns (c .before .loop .inv) (c .loop-test .left)
 
 pub match-each-spec : {M : Type 1} → statement M
 match-each-spec =
@@ -85,8 +79,8 @@ match-each-spec =
     sub-match-good
     part-match-good-start
     part-match-good-end
-    sub-match-good-2
-    part-match-good-start-2
+    (λ c. omega arith)
+    (λ c. omega arith)
     part-match-good-end-2
     match-good-requires
     (λ c κs. search needs)
