@@ -1,19 +1,16 @@
 -- Bytes that are zero: parts of them, zeros over others, and scratch after a match and after a line. Assumes nothing.
 use mathlib.Core.Path.{_≡_, refl, sym, ap, _∙_}
 use mathlib.Core.Bool.{Bool, true, false}
-use mathlib.Core.List.{[], _∷_, _++_}
+use mathlib.Core.List.{_∷_, _++_}
 use mathlib.Core.Option.{Option, none, some}
-use Prim.Native.Nat.{ℕ, zero, suc, _+_, _*_, _≤_}
+use Prim.Native.Nat.{ℕ, zero, suc, _+_, _≤_}
 use native.Mathlib.Omega.{arith}
 use lib.Dec.{eqb, ltb}
 use lib.ListN.{length, take, drop, replicate, length-replicate, take-append-drop, replicate-append-replicate}
-use borrow.Author.Tests.{ltb-false}
-use Rattle.pattern.specs.Numbers.{label-limit, LABEL, WORK, PARTS, table-room, parts-room}
+use Rattle.pattern.specs.Numbers.{table-room, parts-room}
 use Rattle.pattern.specs.Bytes.{Bytes, zeroed}
-use Rattle.pattern.specs.Syntax.{pattern, Syntax, top-size}
-use Rattle.pattern.specs.Scan.{refuse}
 use Rattle.pattern.specs.Decode.{decode}
-use Rattle.pattern.specs.Answers.{compileOf, scratch-needed, lent-fault, Ending, untried, exhausted, decided, ended}
+use Rattle.pattern.specs.Answers.{compileOf, Ending, untried, exhausted, decided, ended}
 use Rattle.pattern.proofs.Calls.{match-cases, lent-fits}
 use Rattle.replies.specs.Sizes.{line-limit, budget}
 use Rattle.replies.specs.Reply.{cut, Reply, ending-reply, label-reply, table-reply, source-reply, cut-reply, reply}
