@@ -1,4 +1,4 @@
--- What the owner's demands say of the three calls. Assumes nothing.
+-- What the owner's demands say of compiling, writing back and matching. Assumes nothing.
 use mathlib.Core.Path.{_≡_, refl, sym, ap, subst, _∙_}
 use mathlib.Core.Logic.{_↔_, _⊎_, inl, inr, ⊎-elim}
 use mathlib.Core.Bool.{Bool, true, false, _||_}
@@ -347,7 +347,7 @@ compile-zero source table = go (outcome source) refl
     go (refused f p) e z = absurd (let (x, y) = outcome-number source f p e in omega arith)
     go (accepted t) e z = let (l, h, g) = accepted-exactly source t .0 e in (t, l, h, g, leb→le _ _ (put-zero _ _ (encode t) table z))
 
--- demand 1: the numbers of the three calls
+-- demand 1: the numbers of the calls
 put-number : (b : Bool) (position : ℕ) (x lent : Bytes) → (put-if b position x lent .answer .number ≡ 0) ⊎ (put-if b position x lent .answer .number ≡ ROOM)
 unfolding put-if
 put-number true position x lent = inl refl

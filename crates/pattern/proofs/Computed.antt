@@ -1,4 +1,4 @@
--- All that the examples compute with: to unfold `computed` is to unfold every definition of the three calls. Assumes nothing.
+-- All that the examples compute with: to unfold `computed` is to unfold every definition of compiling, writing back and matching. Assumes nothing.
 use Rattle.pattern.specs.Bytes.{between, equal, overwrite, bytes}
 use Rattle.pattern.specs.Codes.{all-codes, in-ranges, in-codes, in-set, bit-among, bit}
 use Rattle.pattern.specs.Syntax.{size, top-size, nodes}

@@ -1,4 +1,4 @@
--- What the three calls answer, and every lent byte afterwards. To be believed.
+-- What compiling, writing back and matching answer, and every lent byte afterwards. To be believed.
 use mathlib.Core.Path.{_≡_}
 use mathlib.Core.Logic.{_⊎_}
 use mathlib.Core.Bool.{Bool, true, false}
