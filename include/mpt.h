@@ -76,10 +76,11 @@ uint32_t mpt_match(const uint8_t *table, size_t table_len, const uint8_t *label,
                    size_t answer_len);
 
 /* Up to MPT_BATCH_MAX labels in one buffer, answered as mpt_match answers them in turn with the same scratch and budget.
- * Label k is the bytes from end k-1 (0 for the first) up to, not including, end k; ends are 16 bits each, little-endian,
- * never fall and are at most labels_len. verdicts gets a byte for each label: 1 yes, 0 no, else the label's refusal number
- * (MPT_LABEL, MPT_WORK or MPT_BUDGET), which doesn't refuse the call. With T top-level atoms the parts of label k are the
- * 2 * T bytes from parts + 2 * T * k on, written on yes only. */
+ * Label k is the bytes from end k-1 (0 for the first) up to, not including, end k; ends are 16 bits each, little-endian.
+ * verdicts gets a byte for each label: 1 yes, 0 no, else the label's refusal number (MPT_LABEL, MPT_WORK or MPT_BUDGET),
+ * which doesn't refuse the call. With T top-level atoms the parts of label k are the 2 * T bytes from parts + 2 * T * k on,
+ * written on yes only. MPT_BATCH refuses the call: half an end, too many labels, an end less than the one before or past
+ * labels_len, less than 1 byte of verdicts or 2 * T bytes of parts for each label. */
 uint32_t mpt_match_batch(const uint8_t *table, size_t table_len, const uint8_t *labels, size_t labels_len,
                          const uint8_t *ends, size_t ends_len, uint8_t *scratch, size_t scratch_len, uint8_t *verdicts,
                          size_t verdicts_len, uint8_t *parts, size_t parts_len, uint64_t budget, uint8_t *answer,

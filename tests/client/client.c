@@ -314,6 +314,9 @@ static void writing_back(void)
 static void short_answers(void)
 {
     memset(table, DIRT, sizeof table);
+    memset(scratch, DIRT, sizeof scratch);
+    memset(verdicts, DIRT, sizeof verdicts);
+    memset(parts, DIRT, sizeof parts);
     for (size_t len = 0; len < MPT_ANSWER_SIZE; len++) {
         memset(answer, DIRT, sizeof answer);
         expect(mpt_compile((const uint8_t *)"2N", 2, table, 18, answer, len) == MPT_ANSWER, "a short answer area");
@@ -325,6 +328,8 @@ static void short_answers(void)
         expect(all_are(answer, sizeof answer, DIRT), "a short answer area written");
         expect(all_are(table, sizeof table, DIRT), "a table written by refusal 9");
     }
+    expect(all_are(scratch, sizeof scratch, DIRT) && all_are(verdicts, sizeof verdicts, DIRT), "scratch or verdicts written by refusal 9");
+    expect(all_are(parts, sizeof parts, DIRT), "parts written by refusal 9");
 }
 
 static void long_answers(void)

@@ -1,27 +1,29 @@
 -- What a batch answers and leaves, sentence by sentence of the request. Assumes nothing.
 use mathlib.Core.Path.{_≡_, refl, sym, ap, subst, _∙_}
-use mathlib.Core.Logic.{inl, inr, ⊎-elim}
+use mathlib.Core.Logic.{_↔_, inl, inr, ⊎-elim}
 use mathlib.Core.Bool.{Bool, true, false}
 use mathlib.Core.List.{List, []}
-use mathlib.Core.Option.{some}
+use mathlib.Core.Option.{Option, none, some}
 use Prim.Native.Nat.{ℕ, _+_, _*_, _/_, _≤_, _<_}
 use native.Mathlib.Nat.{mul-le-mul-right, suc-mul, zero-mul}
 use native.Mathlib.Omega.{arith}
-use lib.Dec.{eqb}
 use lib.ListN.{length, getD, drop, length-drop}
 use lib.Seq.{length-take-le}
-use borrow.Author.Tests.{eq-eqb, ne-eqb}
-use Rattle.pattern.specs.Numbers.{LABEL, WORK, BUDGET, BATCH}
+use borrow.Author.Tests.{eq-eqb}
+use Rattle.pattern.specs.Numbers.{BATCH}
 use Rattle.pattern.specs.Bytes.{Bytes, numbers-in, zeroed}
 use Rattle.pattern.specs.Syntax.{pattern, Syntax, top-size}
+use Rattle.pattern.specs.Meaning.{Satisfies}
+use Rattle.pattern.specs.Parts.{verdict}
+use Rattle.pattern.specs.Trials.{trials}
 use Rattle.pattern.specs.Decode.{decode}
-use Rattle.pattern.specs.Answers.{MatchOutput, matchOf}
-use Rattle.pattern.proofs.Tests.{if-true, if-false}
+use Rattle.pattern.specs.Answers.{MatchOutput, scratch-needed, decided, ended, matchOf}
+use Rattle.pattern.proofs.Tests.{if-true}
 use Rattle.pattern.proofs.Pairs.{numbers-length}
-use Rattle.pattern.proofs.Calls.{match-leaves, fit-number}
+use Rattle.pattern.proofs.Calls.{fit-cases, match-leaves, match-tried, match-verdict}
 use Rattle.batch.specs.Batch.{labels-from, unfit, answer-byte, BatchOutput, batch-output, in-turn, batchOf}
 use Rattle.batch.specs.Labels.{label-at, Fits, part-at, LabelByte, most-used}
-use Rattle.batch.proofs.Placing.{fits-exactly}
+use Rattle.batch.proofs.Fitting.{fits-exactly}
 use Rattle.batch.proofs.Cases.{unfit-refused, fit-in-turn}
 use Rattle.batch.proofs.Labels.{labels-length, label-is}
 use Rattle.batch.proofs.InTurn.{turns-number, turns-past, turns-scratch, Alone, turns-alone}
@@ -39,14 +41,34 @@ module _ (table label scratch parts : Bytes) (budget : ℕ) (t : Syntax pattern)
       ⊎-elim (λ (n, v). absurd (h (if-true _ _ _ (eq-eqb _ _ n) ∙ v))) (λ (v, p). p) (match-leaves table label scratch parts budget .yes-or-kept)
 
   byte-is : LabelByte (answer-byte (m .answer))
-  unfolding answer-byte
+  unfolding matchOf ended answer-byte
   byte-is =
-      ⊎-elim (λ z. ⊎-elim (λ (n, v). inr (inl (if-true _ _ _ (eq-eqb _ _ z) ∙ v))) (λ (v, p). inl (if-true _ _ _ (eq-eqb _ _ z) ∙ v)) (match-leaves table label scratch parts budget .yes-or-kept))
-      (⊎-elim (λ e. inr (inr (inl (refused LABEL e (omega arith))))) (⊎-elim (λ e. inr (inr (inr (inl (refused WORK e (omega arith)))))) (λ e. inr (inr (inr (inr (refused BUDGET e (omega arith))))))))
-      (fit-number table label scratch parts budget t good r)
+      fit-cases (λ e. LabelByte (answer-byte (ended e scratch parts .answer))) table label scratch parts budget t good r
+      (λ h. inr (inr (inl refl))) (λ h k. inr (inr (inr (inl refl)))) (λ f h. inr (inr (inr (inr refl)))) (λ f h. go (verdict label t))
     where
-      refused : (number : ℕ) → m .answer .number ≡ number → 0 < number → (elim (eqb (m .answer .number) 0) [ true ↦ m .answer .value | false ↦ m .answer .number ]) ≡ number
-      refused number e p = if-false _ _ _ (ne-eqb _ _ (λ z. let x : m .answer .number ≡ 0 = z in omega arith)) ∙ e
+      go : (v : Option (List ℕ)) → LabelByte (answer-byte (ended (decided (scratch-needed t (length label)) (trials label t) v) scratch parts .answer))
+      go none = unfold ended answer-byte in inl refl
+      go (some ends) = unfold ended answer-byte in inr (inl refl)
+
+  byte-verdict : answer-byte (m .answer) ≤ 1 → m .answer .number ≡ 0
+  unfolding matchOf ended answer-byte
+  byte-verdict =
+      fit-cases (λ e. answer-byte (ended e scratch parts .answer) ≤ 1 → ended e scratch parts .answer .number ≡ 0) table label scratch parts budget t good r
+      (λ h x. absurd (omega arith)) (λ h k x. absurd (omega arith)) (λ f h x. absurd (omega arith)) (λ f h x. go (verdict label t))
+    where
+      go : (v : Option (List ℕ)) → ended (decided (scratch-needed t (length label)) (trials label t) v) scratch parts .answer .number ≡ 0
+      go none = unfold ended in refl
+      go (some ends) = unfold ended in refl
+
+  -- no or yes is a verdict, yes just when the label satisfies the pattern
+  byte-right : answer-byte (m .answer) ≤ 1 → (answer-byte (m .answer) ≡ 1) ↔ Satisfies t label
+  unfolding answer-byte
+  byte-right h =
+      let z = byte-verdict h in
+      let v : answer-byte (m .answer) ≡ m .answer .value = if-true _ _ _ (eq-eqb _ _ z) in
+      let (f, k) = match-tried table label scratch parts budget t good z in
+      let s = match-verdict table label scratch parts t good f budget k in
+      (λ e. s .0 (sym v ∙ e), λ x. v ∙ s .1 x)
 
 -- ---- the whole batch, under a good table
 
@@ -60,7 +82,7 @@ module _ (table buffer ends scratch verdicts parts : Bytes) (budget : ℕ) (t : 
   abbrev output : BatchOutput
   output = batchOf table buffer ends scratch verdicts parts budget
 
-  -- "refuse the whole call with new number 16", which writes nothing, exactly where what is lent does not fit
+  -- "refuse the whole call with new number 16", which writes nothing, where what is lent does not fit
   pub unfit-refuses : ¬ Fits width buffer ends verdicts parts → output ≡ batch-output BATCH scratch verdicts parts
   unfit-refuses n = go (unfit width buffer ends verdicts parts) refl
     where
@@ -92,10 +114,15 @@ module _ (table buffer ends scratch verdicts parts : Bytes) (budget : ℕ) (t : 
         let (v, p) = turns-past table width budget labels scratch verdicts parts room in
         rw (in-turns, sym count) (v, p)
 
-    -- "one answer byte each (0 no, 1 yes, else the refusal number)", of label k, which is those of a single call made alone with any scratch of that length; its part bytes too; "a label with no or a refusal keeps its part bytes"
+    -- of label k
     pub record LabelAnswered (other : Bytes) (k : ℕ) : Type 0 where
+      -- its answer byte and its part bytes are those of a single call made alone, with any scratch of that length
       pub alone : Alone table width budget other (label-at buffer ends k) (part-at width parts k) k output
+      -- "one answer byte each (0 no, 1 yes, else the refusal number)"
       pub byte : LabelByte (getD (output .verdicts) k 0)
+      -- a verdict is yes just when the label satisfies the pattern
+      pub right : getD (output .verdicts) k 0 ≤ 1 → (getD (output .verdicts) k 0 ≡ 1) ↔ Satisfies t (label-at buffer ends k)
+      -- "a label with no or a refusal keeps its part bytes"
       pub kept : ¬ (getD (output .verdicts) k 0 ≡ 1) → part-at width (output .parts) k ≡ part-at width parts k
 
     pub label-answered : (other : Bytes) → length scratch ≡ length other → (k : ℕ) → k < length ends / 2 → LabelAnswered other k
@@ -108,8 +135,17 @@ module _ (table buffer ends scratch verdicts parts : Bytes) (budget : ℕ) (t : 
         record {
           alone = a;
           byte = subst LabelByte (sym (a .byte)) (byte-is table (label-at buffer ends k) other (part-at width parts k) budget t good r);
+          right = subst (λ b. b ≤ 1 → (b ≡ 1) ↔ Satisfies t (label-at buffer ends k)) (sym (a .byte)) (byte-right table (label-at buffer ends k) other (part-at width parts k) budget t good r);
           kept = λ n. a .own ∙ byte-kept table (label-at buffer ends k) other (part-at width parts k) budget t good r (λ x. n (a .byte ∙ x));
         }
+
+-- 16 exactly where what is lent does not fit
+pub refused-unfit : (table buffer ends scratch verdicts parts : Bytes) (budget : ℕ) (t : Syntax pattern) → decode table ≡ some t
+    → (batchOf table buffer ends scratch verdicts parts budget .number ≡ BATCH) ↔ (¬ Fits (2 * top-size t) buffer ends verdicts parts)
+refused-unfit table buffer ends scratch verdicts parts budget t good = (
+  λ e f. let z = fit-answers table buffer ends scratch verdicts parts budget t good f in omega arith,
+  λ n. ap (λ (o : BatchOutput). o .number) (unfit-refuses table buffer ends scratch verdicts parts budget t good n),
+)
 
 -- no label: the call is not refused and touches nothing
 pub no-labels : (table buffer scratch verdicts parts : Bytes) (budget : ℕ) (t : Syntax pattern) → decode table ≡ some t → batchOf table buffer [] scratch verdicts parts budget ≡ batch-output 0 scratch verdicts parts

@@ -3,7 +3,7 @@ use mathlib.Core.Path.{_≡_, refl}
 use mathlib.Core.List.{List, [], _∷_, _++_, map}
 use Prim.Native.Nat.{ℕ}
 use lib.ListN.{take, replicate}
-use Rattle.pattern.specs.Numbers.{TABLE, WORK, BUDGET, BATCH}
+use Rattle.pattern.specs.Numbers.{TABLE, LABEL, WORK, BUDGET, BATCH}
 use Rattle.pattern.specs.Bytes.{Bytes, bytes, numbers-in}
 use Rattle.pattern.specs.Answers.{Output, compileOf, part-bytes}
 use Rattle.pattern.proofs.Computed.{computed}
@@ -17,9 +17,9 @@ table = let c : Output = compileOf (bytes "1N") (replicate 64 0) in take (c .ans
 abbrev pub run : (table buffer ends scratch verdicts parts : Bytes) → BatchOutput
 run table buffer ends scratch verdicts parts = batchOf table buffer ends scratch verdicts parts 3
 
--- yes; out of budget; two bytes, too long for 30 bytes of scratch; an empty label, which is no; yes again. A byte of the buffer and of each output is left
-pub each-answer : run table (bytes "7x128?") (part-bytes (1 ∷ 2 ∷ 4 ∷ 4 ∷ 5 ∷ [])) (replicate 30 9) (replicate 6 9) (replicate 11 9)
-    ≡ batch-output 0 (replicate 24 0 ++ replicate 6 9) (1 ∷ BUDGET ∷ WORK ∷ 0 ∷ 1 ∷ 9 ∷ []) (1 ∷ 0 ∷ replicate 6 9 ++ 1 ∷ 0 ∷ 9 ∷ [])
+-- an empty label, which is no; yes; 256 bytes; out of budget; two bytes, too long for 30 bytes of scratch; yes; an empty one. A byte of the buffer and of each output is left
+pub each-answer : run table (bytes "7" ++ replicate 256 55 ++ bytes "x128?") (part-bytes (0 ∷ 1 ∷ 257 ∷ 258 ∷ 260 ∷ 261 ∷ 261 ∷ [])) (replicate 30 9) (replicate 8 9) (replicate 15 9)
+    ≡ batch-output 0 (replicate 24 0 ++ replicate 6 9) (0 ∷ 1 ∷ LABEL ∷ BUDGET ∷ WORK ∷ 1 ∷ 0 ∷ 9 ∷ []) (9 ∷ 9 ∷ 1 ∷ 0 ∷ replicate 6 9 ++ 1 ∷ 0 ∷ replicate 3 9)
 unfolding computed numbers-in labels-from misplaced unfit answer-byte in-turn batched batchOf table
 each-answer = refl
 

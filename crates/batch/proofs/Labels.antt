@@ -9,29 +9,32 @@ use lib.Seq.{slice, drop-drop}
 use Rattle.pattern.specs.Bytes.{Bytes, numbers-in}
 use Rattle.pattern.proofs.Pairs.{numbers-length, numbers-at}
 use Rattle.batch.specs.Batch.{labels-from}
-use Rattle.batch.specs.Labels.{start, label-at, part-at}
+use Rattle.batch.specs.Labels.{label-start, label-at, part-at}
 
 pub labels-length : (from : ℕ) (ends : List ℕ) (buffer : Bytes) → length (labels-from from ends buffer) ≡ length ends
 unfolding labels-from
 labels-length from [] buffer = refl
 labels-length from (end ∷ ends) buffer = ap suc (labels-length end ends buffer)
 
-labels-first : (from : ℕ) (ends : List ℕ) (buffer : Bytes) → 0 < length ends → getD (labels-from from ends buffer) 0 [] ≡ slice from (getD ends 0 0) buffer
-unfolding labels-from
-labels-first from [] buffer h = absurd (omega arith)
-labels-first from (end ∷ ends) buffer h = refl
+-- where the label of each end begins
+unfoldable pub begin : (from : ℕ) → List ℕ → ℕ → ℕ
+begin from ends zero = from
+begin from ends (suc k) = getD ends k 0
 
-labels-next : (from : ℕ) (ends : List ℕ) (buffer : Bytes) (k : ℕ) → suc k < length ends → getD (labels-from from ends buffer) (suc k) [] ≡ slice (getD ends k 0) (getD ends (suc k) 0) buffer
-unfolding labels-from
-labels-next from [] buffer k h = absurd (omega arith)
-labels-next from (end ∷ ends) buffer zero h = labels-first end ends buffer (omega arith)
-labels-next from (end ∷ ends) buffer (suc k) h = labels-next end ends buffer k (omega arith)
+pub begins : (ends : Bytes) (k : ℕ) → k < length ends / 2 → begin 0 (numbers-in ends) k ≡ label-start ends k
+unfolding label-start begin
+begins ends zero h = refl
+begins ends (suc k) h = numbers-at ends k (omega arith)
+
+labels-at : (from : ℕ) (ends : List ℕ) (buffer : Bytes) (k : ℕ) → k < length ends → getD (labels-from from ends buffer) k [] ≡ slice (begin from ends k) (getD ends k 0) buffer
+unfolding labels-from begin
+labels-at from [] buffer k h = absurd (omega arith)
+labels-at from (end ∷ ends) buffer zero h = refl
+labels-at from (end ∷ ends) buffer (suc zero) h = labels-at end ends buffer zero (omega arith)
+labels-at from (end ∷ ends) buffer (suc (suc k)) h = labels-at end ends buffer (suc k) (omega arith)
 
 pub label-is : (buffer ends : Bytes) (k : ℕ) → k < length ends / 2 → getD (labels-from 0 (numbers-in ends) buffer) k [] ≡ label-at buffer ends k
-unfolding start
-label-is buffer ends zero h = labels-first 0 (numbers-in ends) buffer (omega (arith, numbers-length ends)) ∙ ap (λ n. slice 0 n buffer) (numbers-at ends 0 h)
-label-is buffer ends (suc k) h =
-    labels-next 0 (numbers-in ends) buffer k (omega (arith, numbers-length ends)) ∙ (λ i. slice (numbers-at ends k (omega arith) i) (numbers-at ends (suc k) h i) buffer)
+label-is buffer ends k h = labels-at 0 (numbers-in ends) buffer k (omega (arith, numbers-length ends)) ∙ (λ i. slice (begins ends k h i) (numbers-at ends k h i) buffer)
 
 -- ---- their part bytes
 

@@ -1,21 +1,22 @@
--- Ends in their places, from a place in the list on. Assumes nothing.
-use mathlib.Core.Path.{_≡_, refl, sym, ap, subst, _∙_}
+-- Ends that don't fall or run past the buffer. Assumes nothing.
+use mathlib.Core.Path.{_≡_, refl, sym, ap, _∙_}
 use mathlib.Core.Logic.{_↔_}
-use mathlib.Core.Bool.{Bool, true, false, _||_, or-true, or-false}
+use mathlib.Core.Bool.{true, false, _||_, or-true}
 use mathlib.Core.List.{List, [], _∷_}
-use Prim.Native.Nat.{ℕ, zero, suc, _+_, _*_, _/_, _%_, _≤_, _<_}
-use lib.Dec.{T, eqb, ltb}
+use Prim.Native.Nat.{ℕ, zero, suc, _+_, _*_, _/_, _≤_, _<_}
 use native.Mathlib.Omega.{arith}
+use lib.Dec.{ltb}
 use lib.ListN.{length, getD, drop}
-use borrow.Author.Tests.{ltb-false, lt-ltb, le-ltb, eq-eqb, ne-eqb}
+use borrow.Author.Tests.{ltb-false, lt-ltb, le-ltb}
 use Rattle.pattern.specs.Bytes.{Bytes, numbers-in}
 use Rattle.pattern.specs.Decode.{field}
 use Rattle.pattern.proofs.Tests.{neither}
 use Rattle.pattern.proofs.Pairs.{numbers-more, numbers-none, numbers-length, numbers-at}
-use Rattle.batch.specs.Batch.{batch-limit, misplaced, unfit}
-use Rattle.batch.specs.Labels.{start, Fits}
+use Rattle.batch.specs.Batch.{misplaced}
+use Rattle.batch.specs.Labels.{label-start}
+use Rattle.batch.proofs.Labels.{begin, begins}
 
--- ends that are in place
+-- what the test says of the first end
 module _ (from end size : ℕ) (ends : List ℕ) (h : misplaced from (end ∷ ends) size ≡ false) where
   pub not-fallen : from ≤ end
   unfolding misplaced
@@ -51,11 +52,7 @@ pub all-placed : (ends : Bytes) (i from size : ℕ) → length ends ≤ i + 1 �
 unfolding misplaced
 all-placed ends i from size h = ap (λ es. misplaced from es size) (numbers-none ends i h)
 
--- ---- no end falls or runs past the buffer, end by end
-
-begin : (from : ℕ) → List ℕ → ℕ → ℕ
-begin from ends zero = from
-begin from ends (suc k) = getD ends k 0
+-- ---- end by end
 
 abbrev EachPlaced : (from : ℕ) → List ℕ → (size : ℕ) → Type 0
 EachPlaced from ends size = (k : ℕ) → k < length ends → (begin from ends k ≤ getD ends k 0) × (getD ends k 0 ≤ size)
@@ -76,55 +73,8 @@ placed-each from (end ∷ ends) size p = let (f, g) = p 0 (omega arith) in rw (l
     later zero l = p 1 (omega arith)
     later (suc k) l = p (suc (suc k)) (omega arith)
 
-begins : (ends : Bytes) (k : ℕ) → k < length ends / 2 → begin 0 (numbers-in ends) k ≡ start ends k
-unfolding start begin
-begins ends zero h = refl
-begins ends (suc k) h = numbers-at ends k (omega arith)
-
-pub placed-exactly : (ends : Bytes) (size : ℕ) → (misplaced 0 (numbers-in ends) size ≡ false) ↔ ((k : ℕ) → k < length ends / 2 → (start ends k ≤ field ends (2 * k)) × (field ends (2 * k) ≤ size))
+pub placed-exactly : (ends : Bytes) (size : ℕ) → (misplaced 0 (numbers-in ends) size ≡ false) ↔ ((k : ℕ) → k < length ends / 2 → (label-start ends k ≤ field ends (2 * k)) × (field ends (2 * k) ≤ size))
 placed-exactly ends size = (
   λ h k l. let (f, g) = each-placed 0 (numbers-in ends) size h k (omega (arith, numbers-length ends)) in let e = begins ends k l in let n = numbers-at ends k l in (omega arith, omega arith),
   λ p. placed-each 0 (numbers-in ends) size (λ k l. let i : k < length ends / 2 = omega (arith, numbers-length ends) in let (f, g) = p k i in let e = begins ends k i in let n = numbers-at ends k i in (omega arith, omega arith)),
 )
-
--- ---- what is lent to a batch
-
-module _ (width : ℕ) (buffer ends verdicts parts : Bytes) where
-  pub half-end : length ends % 2 ≡ 1 → unfit width buffer ends verdicts parts ≡ true
-  unfolding unfit
-  half-end h = simp (eq-eqb _ _ h, or-true)
-
-  pub many-labels : batch-limit < length ends / 2 → unfit width buffer ends verdicts parts ≡ true
-  unfolding unfit
-  many-labels h = simp (lt-ltb _ _ h, or-true)
-
-  pub few-verdicts : length verdicts < length ends / 2 → unfit width buffer ends verdicts parts ≡ true
-  unfolding unfit
-  few-verdicts h = simp (lt-ltb _ _ h, or-true)
-
-  pub few-parts : length parts < length ends / 2 * width → unfit width buffer ends verdicts parts ≡ true
-  unfolding unfit
-  few-parts h = simp (lt-ltb _ _ h, or-true)
-
-  pub by-places : ¬ (length ends % 2 ≡ 1) → length ends / 2 ≤ batch-limit → length ends / 2 ≤ length verdicts → length ends / 2 * width ≤ length parts
-      → misplaced 0 (numbers-in ends) (length buffer) ≡ unfit width buffer ends verdicts parts
-  unfolding unfit
-  by-places a b c d = sym (simp (ne-eqb _ _ a, le-ltb _ _ b, le-ltb _ _ c, le-ltb _ _ d, or-false))
-
--- it fits exactly where no test refuses it
-pub fits-exactly : (width : ℕ) (buffer ends verdicts parts : Bytes) → (unfit width buffer ends verdicts parts ≡ false) ↔ Fits width buffer ends verdicts parts
-unfolding unfit
-fits-exactly width buffer ends verdicts parts = (fit, λ f. sym (by-places width buffer ends verdicts parts (λ e. omega (arith, f .whole)) (f .few) (f .verdicts-long) (f .parts-long)) ∙ placed-exactly ends (length buffer) .1 (f .placed))
-  where
-    fit : unfit width buffer ends verdicts parts ≡ false → Fits width buffer ends verdicts parts
-    fit h =
-        let a : Bool = misplaced 0 (numbers-in ends) (length buffer) in
-        let b : Bool = eqb (length ends % 2) 1 in
-        let c : Bool = ltb batch-limit (length ends / 2) in
-        let d : Bool = ltb (length verdicts) (length ends / 2) in
-        let (abcd, e′) = neither (a || b || c || d) _ (unfold unfit in h) in
-        let (abc, d′) = neither (a || b || c) _ abcd in
-        let (ab, c′) = neither (a || b) _ abc in
-        let (a′, b′) = neither a _ ab in
-        let o : ¬ (length ends % 2 ≡ 1) = λ e. subst T (sym (eq-eqb _ _ e) ∙ b′) tt in
-        record { whole = omega arith; few = ltb-false _ _ c′; placed = placed-exactly ends (length buffer) .0 a′; verdicts-long = ltb-false _ _ d′; parts-long = ltb-false _ _ e′ }

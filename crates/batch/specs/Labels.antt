@@ -15,18 +15,18 @@ use Rattle.pattern.specs.Answers.{scratch-needed}
 use Rattle.batch.specs.Batch.{batch-limit}
 
 -- where label k begins: at the end before it, at 0 the first
-unfoldable pub start : (ends : Bytes) → (k : ℕ) → ℕ
-start ends zero = 0
-start ends (suc k) = field ends (2 * k)
+unfoldable pub label-start : (ends : Bytes) → (k : ℕ) → ℕ
+label-start ends zero = 0
+label-start ends (suc k) = field ends (2 * k)
 
 abbrev pub label-at : (buffer ends : Bytes) → (k : ℕ) → Bytes
-label-at buffer ends k = slice (start ends k) (field ends (2 * k)) buffer
+label-at buffer ends k = slice (label-start ends k) (field ends (2 * k)) buffer
 
 -- what is lent fits: whole ends, not too many, none that falls or runs past the buffer, and outputs long enough
 pub record Fits (width : ℕ) (buffer ends verdicts parts : Bytes) : Type 0 where
   pub whole : length ends % 2 ≡ 0
   pub few : length ends / 2 ≤ batch-limit
-  pub placed : (k : ℕ) → k < length ends / 2 → (start ends k ≤ field ends (2 * k)) × (field ends (2 * k) ≤ length buffer)
+  pub placed : (k : ℕ) → k < length ends / 2 → (label-start ends k ≤ field ends (2 * k)) × (field ends (2 * k) ≤ length buffer)
   pub verdicts-long : length ends / 2 ≤ length verdicts
   pub parts-long : length ends / 2 * width ≤ length parts
 

@@ -6,7 +6,7 @@ ghost use Rattle.pattern.specs.Bytes.{numbers-in};
 ghost use Rattle.batch.specs.Batch.{misplaced, unfit};
 use stores::read16;
 
-pub const BATCH_LIMIT: usize = 96;
+const BATCH_LIMIT: usize = 96;
 
 // Some end is before the one before it, or past the buffer.
 fn is_misplaced(ends: &[u8], size: usize) -> bool

@@ -1,16 +1,16 @@
 -- What the owner's demands say of compiling, writing back and matching. Assumes nothing.
 use mathlib.Core.Path.{_≡_, refl, sym, ap, subst, _∙_}
 use mathlib.Core.Logic.{_↔_, _⊎_, inl, inr, ⊎-elim}
-use mathlib.Core.Bool.{Bool, true, false, _||_}
+use mathlib.Core.Bool.{Bool, true, false}
 use mathlib.Core.List.{List}
 use mathlib.Core.Option.{Option, none, some}
 use Prim.Native.Nat.{ℕ, suc, _+_, _*_, _^_, _≤_, _<_}
 use native.Mathlib.Nat.{mul-le-mul}
 use native.Mathlib.Omega.{arith}
-use lib.Dec.{T, leb, ltb, leb→le}
+use lib.Dec.{T, leb, leb→le}
 use lib.ListN.{length}
 use lib.Seq.{take-append-seam, take-length}
-use borrow.Author.Tests.{le-leb, lt-leb, leb-true, leb-false, ltb-true, le-ltb}
+use borrow.Author.Tests.{le-leb, lt-leb, leb-true, leb-false, lt-ltb, le-ltb}
 use Rattle.pattern.specs.Numbers.{source-limit, atom-limit, label-limit, LONG, DEPTH, ROOM, TABLE, LABEL, WORK, PARTS, BUDGET}
 use Rattle.pattern.specs.Bytes.{Bytes, overwrite, zeroed}
 use Rattle.pattern.specs.Syntax.{Sort, pattern, Syntax, last, then, repeat, codes, literal, group, only, or, size, top-size}
@@ -25,7 +25,7 @@ use Rattle.pattern.specs.Print.{print}
 use Rattle.pattern.specs.Table.{encode}
 use Rattle.pattern.specs.Decode.{decode}
 use Rattle.pattern.specs.Answers.{Answer, refusal, result, put-if, put, compiled, compileOf, written-back, writeOf, MatchOutput, scratch-needed, part-bytes, lent-fault, Ending, untried, exhausted, decided, ended, ending, match-ending, matchOf, result-bytes, MatchNumber, Untouched, shown}
-use Rattle.pattern.proofs.Tests.{passed, le-or-lt, not-less, if-true, if-false}
+use Rattle.pattern.proofs.Tests.{le-or-lt, not-less, if-true, if-false}
 use Rattle.pattern.proofs.Stores.{length-overwrite, length-zeroed}
 use Rattle.pattern.proofs.Longest.{partition-satisfies, verdict-is, verdict-length, part-bytes-length}
 use Rattle.pattern.proofs.Bound.{bound}
@@ -152,6 +152,27 @@ match-cases P (some t) label scratch parts budget refuses stops decides = lent (
     lent (some f) e = let (x, y) = lent-number t label scratch parts f e in refuses f (omega arith) y
     lent none e = within e (leb (trials label t) budget) refl
 
+-- with a good table and parts enough: LABEL or WORK, by their tests, BUDGET or a verdict
+pub fit-cases : (P : Ending → Type 0) (table label scratch parts : Bytes) (budget : ℕ) (t : Syntax pattern) → decode table ≡ some t → 2 * top-size t ≤ length parts
+    → (label-limit < length label → P (untried LABEL))
+    → (length label ≤ label-limit → length scratch < scratch-needed t (length label) → P (untried WORK))
+    → (LentFits t label scratch parts → budget < trials label t → P (exhausted (scratch-needed t (length label)) budget))
+    → (LentFits t label scratch parts → trials label t ≤ budget → P (decided (scratch-needed t (length label)) (trials label t) (verdict label t)))
+    → P (match-ending (decode table) label scratch parts budget)
+unfolding match-ending lent-fault refuse ending
+fit-cases P table label scratch parts budget t d r long narrow stops decides =
+    rw d (⊎-elim (λ h. ⊎-elim (λ k. rw (le-ltb label-limit (length label) h, le-ltb (length scratch) used k, le-ltb (length parts) (2 * top-size t) r) (tried (record { label-short = h; scratch-long = k; parts-long = r })))
+    (λ k. rw (le-ltb label-limit (length label) h, lt-ltb (length scratch) used k) (narrow h k)) (le-or-lt used (length scratch)))
+    (λ h. rw (lt-ltb label-limit (length label) h) (long h)) (le-or-lt (length label) label-limit))
+  where
+    used : ℕ
+    used = scratch-needed t (length label)
+
+    tried : LentFits t label scratch parts → P (ending none used (trials label t) budget (verdict label t))
+    tried f =
+        ⊎-elim (λ h. subst P (sym (ending-within used _ budget _ h)) (decides f h)) (λ h. subst P (sym (ending-beyond used (trials label t) budget (verdict label t) h)) (stops f h))
+        (le-or-lt (trials label t) budget)
+
 -- what a verdict reports, whichever it is
 record Reported (used count : ℕ) (scratch : Bytes) (m : MatchOutput) : Type 0 where
   number-zero : m .answer .number ≡ 0
@@ -162,6 +183,9 @@ decided-reports : (used count : ℕ) (v : Option (List ℕ)) (scratch parts : By
 unfolding ended
 decided-reports used count none scratch parts = record { number-zero = refl; trials-count = refl; used-zeroed = refl }
 decided-reports used count (some ends) scratch parts = record { number-zero = refl; trials-count = refl; used-zeroed = refl }
+
+pub decided-zeroed : (used count : ℕ) (v : Option (List ℕ)) (scratch parts : Bytes) → ended (decided used count v) scratch parts .scratch ≡ zeroed used scratch
+decided-zeroed used count v scratch parts = decided-reports used count v scratch parts .used-zeroed
 
 -- where no other refusal applies: the table is good, the label and the lent slices fit
 module _ (table label scratch parts : Bytes) (t : Syntax pattern) (good : decode table ≡ some t) (lent : lent-fault t label scratch parts ≡ none) where
@@ -282,44 +306,6 @@ match-leaves table label scratch parts budget =
 
 -- ---- a verdict or a numbered refusal
 
--- with a good table and parts enough: 0, 12, 13 or 15
-abbrev pub FitNumber : ℕ → Type 0
-FitNumber n = (n ≡ 0) ⊎ (n ≡ LABEL) ⊎ (n ≡ WORK) ⊎ (n ≡ BUDGET)
-
-pub fit-number : (table label scratch parts : Bytes) (budget : ℕ) (t : Syntax pattern) → decode table ≡ some t → 2 * top-size t ≤ length parts → FitNumber (matchOf table label scratch parts budget .answer .number)
-unfolding matchOf match-ending
-fit-number table label scratch parts budget t d r = rw d (by-fault (lent-fault t label scratch parts) refl)
-  where
-    by-budget : (b : Bool) → FitNumber (ended (elim b [ true ↦ decided (scratch-needed t (length label)) (trials label t) (verdict label t) | false ↦ exhausted (scratch-needed t (length label)) budget ]) scratch parts .answer .number)
-    by-budget true = inl (decided-reports (scratch-needed t (length label)) _ (verdict label t) scratch parts .number-zero)
-    by-budget false = unfold ended in inr (inr (inr refl))
-
-    by-fault : (o : Option ℕ) → lent-fault t label scratch parts ≡ o → FitNumber (ended (ending o (scratch-needed t (length label)) (trials label t) budget (verdict label t)) scratch parts .answer .number)
-    by-fault none e = unfold ending in by-budget (leb (trials label t) budget)
-    by-fault (some f) e =
-        unfold lent-fault Applies ending ended in
-        ⊎-elim (λ (x, y). inr (inl (sym y))) (⊎-elim (λ (x, y). inr (inr (inl (sym y)))) (⊎-elim (λ (x, y). absurd (let z = ltb-true (length parts) (2 * top-size t) (passed _ x) in omega arith)) (λ b. absurd b))) (refuse-applies _ f e)
-
--- and its scratch: as lent with 12 or 13, else zeroed as far as it is used
-pub fit-scratch : (table label scratch parts : Bytes) (budget : ℕ) (t : Syntax pattern) → decode table ≡ some t → 2 * top-size t ≤ length parts
-    → matchOf table label scratch parts budget .scratch
-    ≡ elim (ltb label-limit (length label) || ltb (length scratch) (scratch-needed t (length label))) [ true ↦ scratch | false ↦ zeroed (scratch-needed t (length label)) scratch ]
-unfolding matchOf match-ending lent-fault refuse
-fit-scratch table label scratch parts budget t d r = rw (d, le-ltb _ _ r) (by-tests (ltb label-limit (length label)) (ltb (length scratch) (scratch-needed t (length label))))
-  where
-    used : ℕ
-    used = scratch-needed t (length label)
-
-    by-budget : (b : Bool) → ended (elim b [ true ↦ decided used (trials label t) (verdict label t) | false ↦ exhausted used budget ]) scratch parts .scratch ≡ zeroed used scratch
-    by-budget true = decided-reports used _ (verdict label t) scratch parts .used-zeroed
-    by-budget false = unfold ended in refl
-
-    by-tests : (a b : Bool) → ended (ending (elim a [ true ↦ some LABEL | false ↦ elim b [ true ↦ some WORK | false ↦ none ] ]) used (trials label t) budget (verdict label t)) scratch parts .scratch
-        ≡ elim (a || b) [ true ↦ scratch | false ↦ zeroed used scratch ]
-    by-tests true b = unfold ending ended in refl
-    by-tests false true = unfold ending ended in refl
-    by-tests false false = unfold ending in by-budget (leb (trials label t) budget)
-
 -- the number of a source's refusal
 outcome-number : (source : Bytes) (f p : ℕ) → outcome source ≡ refused f p → (LONG ≤ f) × (f ≤ DEPTH)
 unfolding Least rows-at
@@ -389,6 +375,15 @@ match-zeroed table label scratch parts budget =
     (λ t d f h z. (t, d, decided-reports (scratch-needed t (length label)) _ (verdict label t) scratch parts .used-zeroed))
 
 -- ---- the verdict of a call
+
+-- where a verdict is given, nothing was at fault and the count is within the budget
+pub match-tried : (table label scratch parts : Bytes) (budget : ℕ) (t : Syntax pattern) → decode table ≡ some t → matchOf table label scratch parts budget .answer .number ≡ 0
+    → (lent-fault t label scratch parts ≡ none) × (trials label t ≤ budget)
+unfolding matchOf ended
+match-tried table label scratch parts budget t d =
+    match-cases (λ e. ended e scratch parts .answer .number ≡ 0 → (lent-fault t label scratch parts ≡ none) × (trials label t ≤ budget)) (decode table) label scratch parts budget
+    (λ number l h z. absurd (omega arith)) (λ u e f h z. absurd (omega arith))
+    (λ u e f h z. let s : some u ≡ some t = sym e ∙ d in let x : u ≡ t = cc in subst (λ y. (lent-fault y label scratch parts ≡ none) × (trials label y ≤ budget)) x (f, h))
 
 -- demand 2: where a verdict is given, it is yes just when the label satisfies the pattern
 module _ (table label scratch parts : Bytes) (t : Syntax pattern) (good : decode table ≡ some t) (lent : lent-fault t label scratch parts ≡ none) (budget : ℕ) (enough : trials label t ≤ budget) where

@@ -3,7 +3,7 @@ use Prim.Native.Nat.{_-_}
 use native.Mathlib.Omega.{arith}
 use borrow.Author.Needs.{needs}
 use Rattle.matcher.proofs.Refusals.{few-tops}
-use Rattle.batch.proofs.Placing.{fits-exactly}
+use Rattle.batch.proofs.Fitting.{fits-exactly}
 use Rattle.batch.proofs.Turns.{Turns, first-turn, end-there, part-room, verdict-room, label-rises, label-within, next-turn, all-turns}
 use Rattle.batch.proofs.match_each.Statement.{statement}
 use Rattle.batch.proofs.match_each.Tie as tie
