@@ -328,8 +328,8 @@ static void short_answers(void)
         expect(all_are(answer, sizeof answer, DIRT), "a short answer area written");
         expect(all_are(table, sizeof table, DIRT), "a table written by refusal 9");
     }
-    expect(all_are(scratch, sizeof scratch, DIRT) && all_are(verdicts, sizeof verdicts, DIRT), "scratch or verdicts written by refusal 9");
-    expect(all_are(parts, sizeof parts, DIRT), "parts written by refusal 9");
+    expect(all_are(scratch, sizeof scratch, DIRT), "scratch written by refusal 9");
+    expect(all_are(verdicts, sizeof verdicts, DIRT) && all_are(parts, sizeof parts, DIRT), "outputs written by refusal 9");
 }
 
 static void long_answers(void)
