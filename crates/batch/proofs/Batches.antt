@@ -9,7 +9,7 @@ use native.Mathlib.Nat.{mul-le-mul-right, suc-mul, zero-mul}
 use native.Mathlib.Omega.{arith}
 use lib.ListN.{length, getD, drop, length-drop}
 use lib.Seq.{length-take-le}
-use borrow.Author.Tests.{eq-eqb}
+use borrow.Author.Tests.{eq-eqb, ne-eqb}
 use Rattle.pattern.specs.Numbers.{BATCH}
 use Rattle.pattern.specs.Bytes.{Bytes, numbers-in, zeroed}
 use Rattle.pattern.specs.Syntax.{pattern, Syntax, top-size}
@@ -18,11 +18,11 @@ use Rattle.pattern.specs.Parts.{verdict}
 use Rattle.pattern.specs.Trials.{trials}
 use Rattle.pattern.specs.Decode.{decode}
 use Rattle.pattern.specs.Answers.{MatchOutput, scratch-needed, decided, ended, matchOf}
-use Rattle.pattern.proofs.Tests.{if-true}
+use Rattle.pattern.proofs.Tests.{if-true, if-false}
 use Rattle.pattern.proofs.Pairs.{numbers-length}
-use Rattle.pattern.proofs.Calls.{fit-cases, match-leaves, match-tried, match-verdict}
+use Rattle.pattern.proofs.Calls.{fit-cases, match-leaves, match-number, match-tried, match-verdict}
 use Rattle.batch.specs.Batch.{labels-from, unfit, answer-byte, BatchOutput, batch-output, in-turn, batchOf}
-use Rattle.batch.specs.Labels.{label-at, Fits, part-at, LabelByte, most-used}
+use Rattle.batch.specs.Labels.{label-at, BatchFits, part-at, LabelByte, most-used}
 use Rattle.batch.proofs.Fitting.{fits-exactly}
 use Rattle.batch.proofs.Cases.{unfit-refused, fit-in-turn}
 use Rattle.batch.proofs.Labels.{labels-length, label-is}
@@ -51,14 +51,10 @@ module _ (table label scratch parts : Bytes) (budget : ℕ) (t : Syntax pattern)
       go (some ends) = unfold ended answer-byte in inr (inl refl)
 
   byte-verdict : answer-byte (m .answer) ≤ 1 → m .answer .number ≡ 0
-  unfolding matchOf ended answer-byte
-  byte-verdict =
-      fit-cases (λ e. answer-byte (ended e scratch parts .answer) ≤ 1 → ended e scratch parts .answer .number ≡ 0) table label scratch parts budget t good r
-      (λ h x. absurd (omega arith)) (λ h k x. absurd (omega arith)) (λ f h x. absurd (omega arith)) (λ f h x. go (verdict label t))
-    where
-      go : (v : Option (List ℕ)) → ended (decided (scratch-needed t (length label)) (trials label t) v) scratch parts .answer .number ≡ 0
-      go none = unfold ended in refl
-      go (some ends) = unfold ended in refl
+  unfolding answer-byte
+  byte-verdict h =
+      ⊎-elim (λ z. z) (λ (l, u). let n : answer-byte (m .answer) ≡ m .answer .number = if-false _ _ _ (ne-eqb (m .answer .number) 0 (λ z. omega arith)) in absurd (omega arith))
+      (match-number table label scratch parts budget)
 
   -- no or yes is a verdict, yes just when the label satisfies the pattern
   byte-right : answer-byte (m .answer) ≤ 1 → (answer-byte (m .answer) ≡ 1) ↔ Satisfies t label
@@ -83,15 +79,15 @@ module _ (table buffer ends scratch verdicts parts : Bytes) (budget : ℕ) (t : 
   output = batchOf table buffer ends scratch verdicts parts budget
 
   -- "refuse the whole call with new number 16", which writes nothing, where what is lent does not fit
-  pub unfit-refuses : ¬ Fits width buffer ends verdicts parts → output ≡ batch-output BATCH scratch verdicts parts
-  unfit-refuses n = go (unfit width buffer ends verdicts parts) refl
+  pub unfit-untouched : ¬ BatchFits width buffer ends verdicts parts → output ≡ batch-output BATCH scratch verdicts parts
+  unfit-untouched n = go (unfit width buffer ends verdicts parts) refl
     where
       go : (b : Bool) → unfit width buffer ends verdicts parts ≡ b → output ≡ batch-output BATCH scratch verdicts parts
       go true e = unfit-refused table buffer ends scratch verdicts parts budget t good (top-size t) refl e
       go false e = absurd (n (fits-exactly width buffer ends verdicts parts .0 e))
 
   -- where it fits
-  module _ (fits : Fits width buffer ends verdicts parts) where
+  module _ (fits : BatchFits width buffer ends verdicts parts) where
     in-turns : output ≡ in-turn table width budget labels scratch verdicts parts
     in-turns = fit-in-turn table buffer ends scratch verdicts parts budget t good (top-size t) refl (fits-exactly width buffer ends verdicts parts .1 fits)
 
@@ -105,8 +101,8 @@ module _ (table buffer ends scratch verdicts parts : Bytes) (budget : ℕ) (t : 
     fit-answers = ap (λ (o : BatchOutput). o .number) in-turns ∙ turns-number table width budget labels scratch verdicts parts
 
     -- "the result, scratch included": as far as the label that used most of it, zeros, and then as lent
-    pub scratch-zeroed : output .scratch ≡ zeroed (most-used t (length scratch) labels) scratch
-    scratch-zeroed = ap (λ (o : BatchOutput). o .scratch) in-turns ∙ turns-scratch table t good budget labels scratch verdicts parts room
+    pub batch-scratch : output .scratch ≡ zeroed (most-used t (length scratch) labels) scratch
+    batch-scratch = ap (λ (o : BatchOutput). o .scratch) in-turns ∙ turns-scratch table t good budget labels scratch verdicts parts room
 
     -- the bytes past those of the last label stay
     pub past-kept : (drop (length ends / 2) (output .verdicts) ≡ drop (length ends / 2) verdicts) × (drop (length ends / 2 * width) (output .parts) ≡ drop (length ends / 2 * width) parts)
@@ -139,18 +135,18 @@ module _ (table buffer ends scratch verdicts parts : Bytes) (budget : ℕ) (t : 
           kept = λ n. a .own ∙ byte-kept table (label-at buffer ends k) other (part-at width parts k) budget t good r (λ x. n (a .byte ∙ x));
         }
 
--- 16 exactly where what is lent does not fit
-pub refused-unfit : (table buffer ends scratch verdicts parts : Bytes) (budget : ℕ) (t : Syntax pattern) → decode table ≡ some t
-    → (batchOf table buffer ends scratch verdicts parts budget .number ≡ BATCH) ↔ (¬ Fits (2 * top-size t) buffer ends verdicts parts)
-refused-unfit table buffer ends scratch verdicts parts budget t good = (
+-- with a good table, 16 exactly where what is lent does not fit
+pub unfit-exactly : (table buffer ends scratch verdicts parts : Bytes) (budget : ℕ) (t : Syntax pattern) → decode table ≡ some t
+    → (batchOf table buffer ends scratch verdicts parts budget .number ≡ BATCH) ↔ (¬ BatchFits (2 * top-size t) buffer ends verdicts parts)
+unfit-exactly table buffer ends scratch verdicts parts budget t good = (
   λ e f. let z = fit-answers table buffer ends scratch verdicts parts budget t good f in omega arith,
-  λ n. ap (λ (o : BatchOutput). o .number) (unfit-refuses table buffer ends scratch verdicts parts budget t good n),
+  λ n. ap (λ (o : BatchOutput). o .number) (unfit-untouched table buffer ends scratch verdicts parts budget t good n),
 )
 
--- no label: the call is not refused and touches nothing
+-- no label under a good table: the call is not refused and touches nothing
 pub no-labels : (table buffer scratch verdicts parts : Bytes) (budget : ℕ) (t : Syntax pattern) → decode table ≡ some t → batchOf table buffer [] scratch verdicts parts budget ≡ batch-output 0 scratch verdicts parts
 unfolding in-turn labels-from numbers-in
 no-labels table buffer scratch verdicts parts budget t good = in-turns table buffer [] scratch verdicts parts budget t good fits
   where
-    fits : Fits (2 * top-size t) buffer [] verdicts parts
+    fits : BatchFits (2 * top-size t) buffer [] verdicts parts
     fits = record { whole = refl; few = omega arith; placed = λ k h. absurd (omega arith); verdicts-long = omega arith; parts-long = omega (arith, zero-mul (2 * top-size t)) }

@@ -10,7 +10,7 @@ use borrow.Author.Tests.{ltb-false, lt-ltb, le-ltb, eq-eqb, ne-eqb}
 use Rattle.pattern.specs.Bytes.{Bytes, numbers-in}
 use Rattle.pattern.proofs.Tests.{neither}
 use Rattle.batch.specs.Batch.{batch-limit, misplaced, unfit}
-use Rattle.batch.specs.Labels.{Fits}
+use Rattle.batch.specs.Labels.{BatchFits}
 use Rattle.batch.proofs.Placing.{placed-exactly}
 
 module _ (width : ℕ) (buffer ends verdicts parts : Bytes) where
@@ -36,11 +36,11 @@ module _ (width : ℕ) (buffer ends verdicts parts : Bytes) where
   by-places a b c d = sym (simp (ne-eqb _ _ a, le-ltb _ _ b, le-ltb _ _ c, le-ltb _ _ d, or-false))
 
 -- it fits exactly where no test refuses it
-pub fits-exactly : (width : ℕ) (buffer ends verdicts parts : Bytes) → (unfit width buffer ends verdicts parts ≡ false) ↔ Fits width buffer ends verdicts parts
+pub fits-exactly : (width : ℕ) (buffer ends verdicts parts : Bytes) → (unfit width buffer ends verdicts parts ≡ false) ↔ BatchFits width buffer ends verdicts parts
 unfolding unfit
 fits-exactly width buffer ends verdicts parts = (fit, λ f. sym (by-places width buffer ends verdicts parts (λ e. omega (arith, f .whole)) (f .few) (f .verdicts-long) (f .parts-long)) ∙ placed-exactly ends (length buffer) .1 (f .placed))
   where
-    fit : unfit width buffer ends verdicts parts ≡ false → Fits width buffer ends verdicts parts
+    fit : unfit width buffer ends verdicts parts ≡ false → BatchFits width buffer ends verdicts parts
     fit h =
         let a : Bool = misplaced 0 (numbers-in ends) (length buffer) in
         let b : Bool = eqb (length ends % 2) 1 in

@@ -32,20 +32,20 @@ module _ (from end size : ℕ) (ends : List ℕ) (h : misplaced from (end ∷ en
 
 -- by the tests of the end at a place
 module _ (ends : Bytes) (i from size end : ℕ) (h : i + 1 < length ends) (e : end ≡ field ends i) where
-  abbrev rest : ℕ → List ℕ
-  rest k = numbers-in (drop k ends)
+  abbrev ends-on : ℕ → List ℕ
+  ends-on k = numbers-in (drop k ends)
 
-  placed-more : misplaced from (rest i) size ≡ (ltb end from || ltb size end || misplaced end (rest (i + 2)) size)
+  placed-more : misplaced from (ends-on i) size ≡ (ltb end from || ltb size end || misplaced end (ends-on (i + 2)) size)
   unfolding misplaced
-  placed-more = ap (λ es. misplaced from es size) (numbers-more ends i h) ∙ ap (λ x. ltb x from || ltb size x || misplaced x (rest (i + 2)) size) (sym e)
+  placed-more = ap (λ es. misplaced from es size) (numbers-more ends i h) ∙ ap (λ x. ltb x from || ltb size x || misplaced x (ends-on (i + 2)) size) (sym e)
 
-  pub fallen : end < from → misplaced from (rest i) size ≡ true
+  pub fallen : end < from → misplaced from (ends-on i) size ≡ true
   fallen f = placed-more ∙ rw (lt-ltb _ _ f) refl
 
-  pub past : size < end → misplaced from (rest i) size ≡ true
+  pub past : size < end → misplaced from (ends-on i) size ≡ true
   past f = placed-more ∙ rw (lt-ltb _ _ f, or-true (ltb end from)) refl
 
-  pub placed-next : from ≤ end → end ≤ size → misplaced end (rest (i + 2)) size ≡ misplaced from (rest i) size
+  pub placed-next : from ≤ end → end ≤ size → misplaced end (ends-on (i + 2)) size ≡ misplaced from (ends-on i) size
   placed-next f g = sym (placed-more ∙ rw (le-ltb _ _ f, le-ltb _ _ g) refl)
 
 pub all-placed : (ends : Bytes) (i from size : ℕ) → length ends ≤ i + 1 → misplaced from (numbers-in (drop i ends)) size ≡ false

@@ -17,7 +17,7 @@ use Rattle.pattern.proofs.Stretch.{slice-take}
 use Rattle.matcher.specs.declared.Matched.{Matched}
 use Rattle.matcher.specs.Answered.{answer-of, match-output, MatchPost}
 use Rattle.batch.specs.Batch.{labels-from, misplaced, answer-byte, BatchOutput, batch-output, prepend, in-turn}
-use Rattle.batch.specs.Labels.{Fits}
+use Rattle.batch.specs.Labels.{BatchFits}
 use Rattle.batch.proofs.Placing.{not-fallen, not-past, later-placed, placed-exactly}
 
 -- what later labels give, behind bytes that are written
@@ -42,28 +42,28 @@ module _ (table buffer ends : Bytes) (width budget : ℕ) (scratch₀ verdicts�
   labels-on k from = labels-from from (numbers-in (drop (2 * k) ends)) buffer
 
   -- what they give, behind the answer bytes and the part bytes that are written
-  abbrev rest : (k at from : ℕ) (scratch verdicts parts : Bytes) → BatchOutput
-  rest k at from scratch verdicts parts = behind (take k verdicts) (take at parts) (in-turn table width budget (labels-on k from) scratch (drop k verdicts) (drop at parts))
+  abbrev result-from : (k at from : ℕ) (scratch verdicts parts : Bytes) → BatchOutput
+  result-from k at from scratch verdicts parts = behind (take k verdicts) (take at parts) (in-turn table width budget (labels-on k from) scratch (drop k verdicts) (drop at parts))
 
   -- k labels are matched, and those left complete the whole
   pub record Turns (k at from : ℕ) (scratch verdicts parts : Bytes) : Type 0 where
-    pub fits : Fits width buffer ends verdicts₀ parts₀
+    pub fits : BatchFits width buffer ends verdicts₀ parts₀
     pub counted : k ≤ length ends / 2
     pub placed : misplaced from (numbers-in (drop (2 * k) ends)) (length buffer) ≡ false
     pub place : at ≡ k * width
     pub same-scratch : length scratch ≡ length scratch₀
     pub same-verdicts : length verdicts ≡ length verdicts₀
     pub same-parts : length parts ≡ length parts₀
-    pub completes : rest k at from scratch verdicts parts ≡ rest 0 0 0 scratch₀ verdicts₀ parts₀
+    pub completes : result-from k at from scratch verdicts parts ≡ result-from 0 0 0 scratch₀ verdicts₀ parts₀
 
   -- all are left
-  pub first-turn : Fits width buffer ends verdicts₀ parts₀ → Turns 0 0 0 scratch₀ verdicts₀ parts₀
+  pub first-turn : BatchFits width buffer ends verdicts₀ parts₀ → Turns 0 0 0 scratch₀ verdicts₀ parts₀
   first-turn f = record { fits = f; counted = omega arith; placed = placed-exactly ends (length buffer) .1 (f .placed); place = sym (zero-mul width); same-scratch = refl; same-verdicts = refl; same-parts = refl; completes = refl }
 
 module _ {table buffer ends : Bytes} {width budget : ℕ} {scratch₀ verdicts₀ parts₀ : Bytes} {k at from : ℕ} {scratch verdicts parts : Bytes}
     (t : Turns table buffer ends width budget scratch₀ verdicts₀ parts₀ k at from scratch verdicts parts) where
-  abbrev rest′ : (k at from : ℕ) (scratch verdicts parts : Bytes) → BatchOutput
-  rest′ = rest table buffer ends width budget scratch₀ verdicts₀ parts₀
+  abbrev result-from′ : (k at from : ℕ) (scratch verdicts parts : Bytes) → BatchOutput
+  result-from′ = result-from table buffer ends width budget scratch₀ verdicts₀ parts₀
 
   -- none is left
   pub all-turns : length ends / 2 ≤ k → batch-output 0 scratch verdicts parts ≡ in-turn table width budget (labels-from 0 (numbers-in ends) buffer) scratch₀ verdicts₀ parts₀
@@ -78,8 +78,8 @@ module _ {table buffer ends : Bytes} {width budget : ℕ} {scratch₀ verdicts�
     pub end-there : 2 * k + 2 ≤ length ends
     end-there = omega (arith, h)
 
-    pub part-room : at + width ≤ length parts
-    part-room = let m = mul-le-mul-right width h in omega (arith, suc-mul k width, t .place, t .fits .parts-long, t .same-parts)
+    pub own-room : at + width ≤ length parts
+    own-room = let m = mul-le-mul-right width h in omega (arith, suc-mul k width, t .place, t .fits .parts-long, t .same-parts)
 
     pub verdict-room : k < length verdicts
     verdict-room = omega (arith, t .fits .verdicts-long, t .same-verdicts)
@@ -123,7 +123,7 @@ module _ {table buffer ends : Bytes} {width budget : ℕ} {scratch₀ verdicts�
             wide = omega arith
 
             long : length mine ≡ width
-            long = kept ∙ mid-len at (at + width) parts part-room ∙ wide
+            long = kept ∙ mid-len at (at + width) parts own-room ∙ wide
 
             m : MatchOutput
             m = matchOf table (slice from end buffer) scratch (take width (drop at parts)) budget
@@ -138,12 +138,12 @@ module _ {table buffer ends : Bytes} {width budget : ℕ} {scratch₀ verdicts�
                 ≡ prepend m (later (m .scratch) (drop 1 (drop k verdicts)) (drop width (drop at parts)))
             first = unfold in-turn labels-from in refl
 
-            completed : rest′ k at from scratch verdicts parts ≡ rest′ (k + 1) (at + width) end scratch′ (set verdicts k b) (putMid at (at + width - at) parts mine)
+            completed : result-from′ k at from scratch verdicts parts ≡ result-from′ (k + 1) (at + width) end scratch′ (set verdicts k b) (putMid at (at + width - at) parts mine)
             completed =
                 let v : take k verdicts ++ answer-byte (answer-of budget r) ∷ [] ≡ take (k + 1) (set verdicts k b) = rw (add-one, sym is) (sym (take-suc-set verdicts k b verdict-room)) in
-                let p : take at parts ++ mine ≡ take (at + width) (putMid at (at + width - at) parts mine) = sym (take-put-next at width parts mine (omega (arith, part-room)) long) in
+                let p : take at parts ++ mine ≡ take (at + width) (putMid at (at + width - at) parts mine) = sym (take-put-next at width parts mine (omega (arith, own-room)) long) in
                 let v′ : drop 1 (drop k verdicts) ≡ drop (k + 1) (set verdicts k b) = drop-drop 1 k verdicts ∙ sym (drop-set-lt (k + 1) verdicts k b (omega arith)) in
-                let p′ : drop width (drop at parts) ≡ drop (at + width) (putMid at (at + width - at) parts mine) = drop-drop width at parts ∙ sym (drop-put at (at + width) parts mine (omega arith) part-room (long ∙ sym wide)) in
+                let p′ : drop width (drop at parts) ≡ drop (at + width) (putMid at (at + width - at) parts mine) = drop-drop width at parts ∙ sym (drop-put at (at + width) parts mine (omega arith) own-room (long ∙ sym wide)) in
                 ap (λ es. behind (take k verdicts) (take at parts) (in-turn table width budget (labels-from from es buffer) scratch (drop k verdicts) (drop at parts))) numbers-here
                 ∙ ap (behind (take k verdicts) (take at parts)) first
                 ∙ behind-prepend (take k verdicts) (take at parts) m (later (m .scratch) (drop 1 (drop k verdicts)) (drop width (drop at parts)))

@@ -23,7 +23,7 @@ abbrev pub label-at : (buffer ends : Bytes) → (k : ℕ) → Bytes
 label-at buffer ends k = slice (label-start ends k) (field ends (2 * k)) buffer
 
 -- what is lent fits: whole ends, not too many, none that falls or runs past the buffer, and outputs long enough
-pub record Fits (width : ℕ) (buffer ends verdicts parts : Bytes) : Type 0 where
+pub record BatchFits (width : ℕ) (buffer ends verdicts parts : Bytes) : Type 0 where
   pub whole : length ends % 2 ≡ 0
   pub few : length ends / 2 ≤ batch-limit
   pub placed : (k : ℕ) → k < length ends / 2 → (label-start ends k ≤ field ends (2 * k)) × (field ends (2 * k) ≤ length buffer)

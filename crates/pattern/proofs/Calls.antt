@@ -408,14 +408,9 @@ module _ (table label scratch parts : Bytes) (t : Syntax pattern) (good : decode
           let n : length ends ≡ top-size t = verdict-length label t ends e in
           (ends, rw e at (verdict-right table t good label), part-bytes-length ends ∙ omega arith, refl)
 
-  -- no writes none
-  pub match-no : matchOf table label scratch parts budget .answer .value ≡ 0 → matchOf table label scratch parts budget .parts ≡ parts
-  unfolding ended
-  match-no = rw (within-budget table label scratch parts t good lent budget enough) (go (verdict label t))
-    where
-      go : (v : Option (List ℕ)) → ended (decided (scratch-needed t (length label)) (trials label t) v) scratch parts .answer .value ≡ 0 → ended (decided (scratch-needed t (length label)) (trials label t) v) scratch parts .parts ≡ parts
-      go none y = refl
-      go (some ends) y = absurd (omega arith)
+-- no writes none
+pub match-no : (table label scratch parts : Bytes) (budget : ℕ) → matchOf table label scratch parts budget .answer .value ≡ 0 → matchOf table label scratch parts budget .parts ≡ parts
+match-no table label scratch parts budget z = ⊎-elim (λ (n, v). absurd (omega arith)) (λ (v, p). p) (match-leaves table label scratch parts budget .yes-or-kept)
 
 -- the trials of a pattern within the limits fit 64 bits
 pub trials-fit : (label : Bytes) (t : Syntax pattern) → length label ≤ label-limit → Limited t → trials label t < 2 ^ 64

@@ -4,7 +4,7 @@ use native.Mathlib.Omega.{arith}
 use borrow.Author.Needs.{needs}
 use Rattle.matcher.proofs.Refusals.{few-tops}
 use Rattle.batch.proofs.Fitting.{fits-exactly}
-use Rattle.batch.proofs.Turns.{Turns, first-turn, end-there, part-room, verdict-room, label-rises, label-within, next-turn, all-turns}
+use Rattle.batch.proofs.Turns.{Turns, first-turn, end-there, own-room, verdict-room, label-rises, label-within, next-turn, all-turns}
 use Rattle.batch.proofs.match_each.Statement.{statement}
 use Rattle.batch.proofs.match_each.Tie as tie
 
@@ -25,7 +25,7 @@ read16-requires : tie.Need-read16-requires Inv-loop μ-loop
 read16-requires c κs = end-there (c .before .loop .inv) (c .loop-test .taken)
 
 add-next : tie.Need-add-next Inv-loop μ-loop
-add-next c = omega (arith, part-room (c .before .before .loop .inv) (c .before .loop-test .taken))
+add-next c = omega (arith, own-room (c .before .before .loop .inv) (c .before .loop-test .taken))
 
 sub-match-good : tie.Need-sub-match-good Inv-loop μ-loop
 sub-match-good c = omega (arith, label-rises (c .before .before .loop .inv) (c .before .loop-test .taken) _ (c .read16 .ensures))
@@ -37,7 +37,7 @@ part-match-good-end : tie.Need-part-match-good-end Inv-loop μ-loop
 part-match-good-end c = omega (arith, label-within (c .before .before .loop .inv) (c .before .loop-test .taken) _ (c .read16 .ensures))
 
 part-match-good-end-2 : tie.Need-part-match-good-end-2 Inv-loop μ-loop
-part-match-good-end-2 c = omega (arith, part-room (c .before .before .before .before .loop .inv) (c .before .before .before .loop-test .taken))
+part-match-good-end-2 c = omega (arith, own-room (c .before .before .before .before .loop .inv) (c .before .before .before .loop-test .taken))
 
 match-good-requires : tie.Need-match-good-requires Inv-loop μ-loop
 match-good-requires c κs = c .before .before .before .before .before .before .before .before .before .before .before .before .before .pre .good
