@@ -22,13 +22,14 @@ const LETTER_BITS: [u8; 256] = {
 const CLASSES: [u8; 256] = {
     let mut classes = [0; 256];
     let mut byte = 0;
-    while byte < 128 {
+    while byte < 256 {
         classes[byte] = match byte as u8 {
             b'A'..=b'Z' => 0b1000101,
             b'a'..=b'z' => 0b0001101,
             b'0'..=b'9' => 0b0010100,
             b' '..=b'~' => 0b0100100,
-            _ => 0b0000110,
+            0..=31 | 127 => 0b0000110,
+            128.. => 0b0000100,
         };
         byte += 1;
     }

@@ -25,7 +25,7 @@ const CODES: [Code; 7] = [
     },
     Code {
         letter: b'E',
-        ranges: *b"\x00\x7f\x01\x00\x01\x00\x01\x00",
+        ranges: *b"\x00\xff\x01\x00\x01\x00\x01\x00",
     },
     Code {
         letter: b'L',

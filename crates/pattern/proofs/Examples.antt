@@ -49,7 +49,7 @@ examples =
     ∷ fails (bytes "1N") (bytes "x") (some 4)
     ∷ fails (bytes "1N1A") [] (some 1)
     ∷ matches (bytes "0N") [] (0 ∷ []) (some 0)
-    ∷ fails (bytes "1E") (200 ∷ []) none
+    ∷ matches (bytes "1E") (200 ∷ []) (1 ∷ []) none
     ∷ matches (bytes "1\"a\"\"b\"") (bytes "a\"b") (3 ∷ []) none
     ∷ []
 

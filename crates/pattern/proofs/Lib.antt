@@ -29,4 +29,5 @@ pub mod Computed
 pub mod Examples
 pub mod Sources
 pub mod Classes
+pub mod EveryByte
 pub mod Demands

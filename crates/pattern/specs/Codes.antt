@@ -15,7 +15,7 @@ unfoldable pub all-codes : List Code
 all-codes =
     record { letter = 65; ranges = (65, 90) ∷ (97, 122) ∷ [] }
     ∷ record { letter = 67; ranges = (0, 31) ∷ (127, 127) ∷ [] }
-    ∷ record { letter = 69; ranges = (0, 127) ∷ [] }
+    ∷ record { letter = 69; ranges = (0, 255) ∷ [] }
     ∷ record { letter = 76; ranges = (97, 122) ∷ [] }
     ∷ record { letter = 78; ranges = (48, 57) ∷ [] }
     ∷ record { letter = 80; ranges = (32, 47) ∷ (58, 64) ∷ (91, 96) ∷ (123, 126) ∷ [] }

@@ -8,7 +8,7 @@ pub fn byte_of(random: &mut Random, set: u16) -> u8 {
     let bytes: [&[u8]; 7] = [
         b"aZqXbA",
         b"\x00\x1f\x7f\x0a",
-        b"\x00a1-Z\x7f",
+        b"\x00a1-Z\x7f\x80\xc3\xbc\xff",
         b"abz",
         b"0123459",
         b" ./:@[`{~-!\"",

@@ -5,9 +5,9 @@ use std::path::Path;
 use std::process::exit;
 
 /// How often, and the shortest line.
-type Tally<'l> = BTreeMap<String, (usize, &'l str)>;
+type Tally<'l> = BTreeMap<String, (usize, &'l [u8])>;
 
-fn count<'l>(tally: &mut Tally<'l>, class: String, line: &'l str) {
+fn count<'l>(tally: &mut Tally<'l>, class: String, line: &'l [u8]) {
     let (count, shortest) = tally.entry(class).or_insert((0, line));
     *count += 1;
     if line.len() < shortest.len() {
@@ -16,38 +16,55 @@ fn count<'l>(tally: &mut Tally<'l>, class: String, line: &'l str) {
 }
 
 /// Whether a group with no upper end has one branch.
-fn open_group(source: &str) -> bool {
+fn open_group(source: &[u8]) -> bool {
     let mut quoted = false;
     // For each open group, whether it is such a group so far.
     let mut groups = Vec::new();
-    let mut before = ' ';
-    for letter in source.chars() {
-        match letter {
-            '"' => quoted = !quoted,
+    let mut before = b' ';
+    for &byte in source {
+        match byte {
+            b'"' => quoted = !quoted,
             _ if quoted => (),
-            '(' => groups.push(before == '.'),
-            ',' => _ = groups.pop().map(|_| groups.push(false)),
-            ')' if groups.pop() == Some(true) => return true,
+            b'(' => groups.push(before == b'.'),
+            b',' => _ = groups.pop().map(|_| groups.push(false)),
+            b')' if groups.pop() == Some(true) => return true,
             _ => (),
         }
-        before = letter;
+        before = byte;
     }
     false
 }
 
+/// Whether a code that GT.M gives bytes above 127, E apart, stands outside the literals, and the label has such a byte.
+fn high_bytes(source: &[u8], label: &[u8]) -> bool {
+    let mut unquoted = source.split(|&byte| byte == b'"').step_by(2).flatten();
+    !label.is_ascii() && unquoted.any(|byte| b"ACLPU".contains(&byte.to_ascii_uppercase()))
+}
+
 /// Why the answers differ, as docs/GTM.md has it.
-fn reason(source: &str, ours: &str, theirs: &str) -> Option<&'static str> {
+fn reason(source: &[u8], label: &[u8], ours: &str, theirs: &str) -> Option<&'static str> {
     let fault = theirs.len() > 1;
     match (ours, theirs) {
         ("R 1" | "R 4" | "R 6" | "R 7", _) if !fault => Some("a limit here"),
         ("R 3", _) if !fault => Some("a code that GT.M ignores where it can"),
-        ("R 2", _) if !fault && source.contains(' ') => Some("GT.M stops reading at a space"),
+        ("R 2", _) if !fault && source.contains(&b' ') => Some("GT.M stops reading at a space"),
         ("M 13" | "M 15", _) if !fault => Some("a limit of the line tool"),
         ("1" | "0", "PATMAXLEN") => Some("a limit of GT.M"),
         ("1" | "0", "NUMOFLOW") => Some("GT.M reads digits, E and digits as a number too"),
+        ("0", "1") if high_bytes(source, label) => Some("GT.M has bytes above 127 in a code"),
         ("0", "1") if open_group(source) => Some("GT.M cuts an open group of one atom anywhere"),
         _ => None,
     }
+}
+
+/// The pattern and the label, each byte above 127 by its number.
+fn shown(line: &[u8]) -> String {
+    let one = |&byte: &u8| match byte {
+        b'\t' => "  on  ".into(),
+        128.. => format!("<{byte}>"),
+        _ => char::from(byte).to_string(),
+    };
+    line.iter().map(one).collect()
 }
 
 fn print_tally(title: &str, tally: &Tally) {
@@ -56,7 +73,7 @@ fn print_tally(title: &str, tally: &Tally) {
         tally.values().map(|(count, _)| count).sum::<usize>()
     );
     for (class, (count, line)) in tally {
-        let example = line.replace('\t', "  on  ");
+        let example = shown(line);
         let dots = if example.len() > 60 { "..." } else { "" };
         println!("{count:>7}  {class:<75}{example:.60}{dots}");
     }
@@ -87,16 +104,19 @@ fn print_bytes(code: char, theirs: &str) {
 }
 
 pub fn print(folder: &Path) {
+    let lines = std::fs::read(folder.join("lines")).unwrap();
+    let mut lines: Vec<&[u8]> = lines.split(|&byte| byte == b'\n').collect();
+    // Nothing stands after the last newline.
+    lines.pop();
     let read = |name| std::fs::read_to_string(folder.join(name)).unwrap();
-    let [lines, ours, theirs] = ["lines", "ours", "theirs"].map(read);
-    let lines: Vec<&str> = lines.lines().collect();
+    let [ours, theirs] = ["ours", "theirs"].map(read);
     let (ours, theirs): (Vec<&str>, Vec<&str>) = (ours.lines().collect(), theirs.lines().collect());
     assert_eq!(ours.len(), lines.len() + 1);
     assert_eq!(
         theirs.len(),
         lines.len() + 8,
         "GT.M stopped at {:?}",
-        lines.get(theirs.len() - 1)
+        lines.get(theirs.len() - 1).map(|line| shown(line))
     );
     let (mut same, mut refused, mut different, mut new) =
         (Tally::new(), Tally::new(), Tally::new(), Tally::new());
@@ -108,13 +128,14 @@ pub fn print(folder: &Path) {
         } else {
             words[..words.len().min(2)].join(" ")
         };
-        let source = line.split('\t').next().unwrap();
+        let tab = line.iter().position(|&byte| byte == b'\t').unwrap();
+        let (source, label) = (&line[..tab], &line[tab..]);
         let class = format!("{ours} here, {theirs} there");
         if ours == theirs {
             count(&mut same, class, line);
         } else if ours.len() > 1 && theirs.len() > 1 {
             count(&mut refused, class, line);
-        } else if let Some(reason) = reason(source, &ours, theirs) {
+        } else if let Some(reason) = reason(source, label, &ours, theirs) {
             count(&mut different, format!("{class}: {reason}"), line);
         } else {
             count(&mut new, class, line);

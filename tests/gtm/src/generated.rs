@@ -1,4 +1,4 @@
-//! Lines of a pattern, a tab and a label, of bytes 32 to 126 only.
+//! Lines of a pattern, a tab and a label: bytes 32 to 126, in labels also 128 to 255.
 
 use generate::labels::{flatten, most_trials, sample};
 use generate::patterns::pattern;
@@ -12,17 +12,13 @@ const BEYOND: [&[u8]; 12] = [
     b" ", b" ;x", b"1'N", b"1Y", b"1YaY", b"1Z", b"1B", b".Xa", b"1@x", b"1[a]", b"1N(x)", b"1E50N",
 ];
 
-fn printable(bytes: &[u8]) -> Vec<u8> {
-    let bytes = bytes.iter().copied();
-    bytes.filter(|byte| (32..127).contains(byte)).collect()
-}
-
 fn label_near(random: &mut Random, tree: &[Atom]) -> Vec<u8> {
     let mut label = Vec::new();
     sample(random, tree, &mut label);
     if random.once_in(3) {
-        mutate(random, &mut label, b"aA1-!.\" (,)~");
+        mutate(random, &mut label, b"aA1-!.\" (,)~\x80\xc8\xfc");
     }
+    label.retain(|byte| !byte.is_ascii_control());
     let mut atoms = Vec::new();
     flatten(tree, &mut atoms);
     while most_trials(&atoms, label.len()) > 200_000 {
@@ -56,12 +52,13 @@ fn line(random: &mut Random) -> Vec<u8> {
         // One byte more than whole bodies have.
         label.extend(label.first().copied());
     }
-    let text = match kind {
+    let mut text = match kind {
         1..=4 => source(random),
         5 => [&print(random, &tree)[..], random.pick(&BEYOND)].concat(),
         _ => print(random, &tree),
     };
-    [&printable(&text)[..], b"\t", &printable(&label), b"\n"].concat()
+    text.retain(|byte| (32..127).contains(byte));
+    [&text[..], b"\t", &label, b"\n"].concat()
 }
 
 pub fn lines() -> Vec<u8> {

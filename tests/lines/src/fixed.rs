@@ -40,7 +40,7 @@ const PAIRS: [Pair; 31] = [
 ];
 
 /// No tab, several tabs, carriage returns, zero bytes, bytes above 127.
-const ODD: [&[u8]; 16] = [
+const ODD: [&[u8]; 19] = [
     b"",
     b"no tab",
     b"\t",
@@ -55,6 +55,9 @@ const ODD: [&[u8]; 16] = [
     b"1\0N\t1",
     b"\0\0",
     b".E\t\0\x7f\x80",
+    b".E\tJ\xc3\xbcrgen",
+    b".ACLNPU\tJ\xc3\xbcrgen",
+    b"1U.E\tJ\xfcrgen\xff",
     b"1\"\x80\"\t\x80",
     b"3N\t123",
 ];

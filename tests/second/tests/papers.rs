@@ -45,7 +45,7 @@ fn proved_examples() {
     assert_eq!(parts(b"1N", b"x"), None);
     assert_eq!(parts(b"1N1A", b""), None);
     assert_eq!(parts(b"0N", b""), yes(&[0]));
-    assert_eq!(parts(b"1E", &[200]), None);
+    assert_eq!(parts(b"1E", &[200]), yes(&[1]));
     assert_eq!(parts(b"1\"a\"\"b\"", b"a\"b"), yes(&[3]));
     assert_eq!(trials(b"300\"\"", b""), 0);
     assert_eq!(trials(b"1N", b"7"), 3);
@@ -299,7 +299,7 @@ fn classes_of_codes() {
     for byte in 0..=255u8 {
         assert_eq!(in_class("A", byte), byte.is_ascii_alphabetic());
         assert_eq!(in_class("C", byte), byte.is_ascii_control());
-        assert_eq!(in_class("E", byte), byte.is_ascii());
+        assert!(in_class("E", byte));
         assert_eq!(in_class("L", byte), byte.is_ascii_lowercase());
         assert_eq!(in_class("N", byte), byte.is_ascii_digit());
         assert_eq!(
