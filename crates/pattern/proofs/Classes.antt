@@ -32,11 +32,15 @@ capital = 1 + 64 + 4
 abbrev small : ℕ
 small = 1 + 8 + 4
 
--- the character set in order: how many bytes of each sort follow each other, the last 128 of E alone
+-- E alone
+abbrev other : ℕ
+other = 4
+
+-- the character set in order: how many bytes of each sort follow each other
 unfoldable pub in-order : List ℕ
 in-order =
     replicate 32 control ++ replicate 16 punctuation ++ replicate 10 digit ++ replicate 7 punctuation ++ replicate 26 capital
-    ++ replicate 6 punctuation ++ replicate 26 small ++ replicate 4 punctuation ++ replicate 1 control ++ replicate 128 4
+    ++ replicate 6 punctuation ++ replicate 26 small ++ replicate 4 punctuation ++ replicate 1 control ++ replicate 128 other
 
 -- c numbers from b on
 unfoldable pub count-up : ℕ → ℕ → List ℕ

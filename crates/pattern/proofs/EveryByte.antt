@@ -1,14 +1,14 @@
 -- E is every byte: each label satisfies `.E`, and a verdict on it is yes, one part that ends with the label. Assumes nothing.
 use mathlib.Core.Path.{_≡_, refl, ap, _∙_}
 use mathlib.Core.List.{[], _∷_}
-use lib.ListN.{length, getD}
 use mathlib.Core.Option.{none, some}
 use Prim.Native.Nat.{ℕ, suc, _<_}
 use native.Mathlib.Omega.{arith}
 use lib.Dec.{T}
+use lib.ListN.{length, getD}
 use Rattle.pattern.specs.Bytes.{Bytes, between, overwrite, bytes}
 use Rattle.pattern.specs.Codes.{all-codes, in-ranges, in-codes, in-set}
-use Rattle.pattern.specs.Syntax.{Syntax, pattern, last, repeat, body, codes}
+use Rattle.pattern.specs.Syntax.{Syntax, pattern, last, repeat, codes}
 use Rattle.pattern.specs.Meaning.{Cut, Power, UpTo, Satisfies}
 use Rattle.pattern.specs.Parts.{Partition, IsVerdict}
 use Rattle.pattern.specs.Decode.{decode}

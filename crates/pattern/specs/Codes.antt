@@ -10,7 +10,7 @@ pub record Code : Type 0 where
   pub letter : ℕ
   pub ranges : List (ℕ × ℕ)
 
--- the codes A C E L N P U, in the order of a set's bits
+-- the codes A C E L N P U, in the order of a set's bits; "E becomes 0 to 255" (02)
 unfoldable pub all-codes : List Code
 all-codes =
     record { letter = 65; ranges = (65, 90) ∷ (97, 122) ∷ [] }
