@@ -35,14 +35,38 @@ fn open_group(source: &[u8]) -> bool {
     false
 }
 
-/// Whether a code that GT.M gives bytes above 127, E apart, stands outside the literals, and the label has such a byte.
-fn high_bytes(source: &[u8], label: &[u8]) -> bool {
-    let mut unquoted = source.split(|&byte| byte == b'"').step_by(2).flatten();
-    !label.is_ascii() && unquoted.any(|byte| b"ACLPU".contains(&byte.to_ascii_uppercase()))
+/// The line with each byte above 127 exchanged for a lower one that has the same codes in GT.M and isn't in the line.
+fn lowered(line: &[u8], codes: &[&str]) -> Vec<u8> {
+    let same = |low: u8, high: u8| {
+        let has = |row: &str, byte: u8| row.as_bytes()[usize::from(byte)];
+        codes.iter().all(|row| has(row, low) == has(row, high))
+    };
+    let lower = |byte: u8| (0..128).find(|&low| !line.contains(&low) && same(low, byte));
+    let one = |&byte: &u8| {
+        if byte < 128 {
+            byte
+        } else {
+            lower(byte).unwrap()
+        }
+    };
+    line.iter().map(one).collect()
+}
+
+/// An answer of the line tool without parts and position.
+fn short(answer: &str) -> String {
+    let words: Vec<&str> = answer.split(' ').collect();
+    let kept = if words[0] == "1" {
+        1
+    } else {
+        words.len().min(2)
+    };
+    words[..kept].join(" ")
 }
 
 /// Why the answers differ, as docs/GTM.md has it.
-fn reason(source: &[u8], label: &[u8], ours: &str, theirs: &str) -> Option<&'static str> {
+fn reason(line: &[u8], codes: &[&str], ours: &str, theirs: &str) -> Option<&'static str> {
+    let source = line.split(|&byte| byte == b'\t').next().unwrap();
+    let same_lowered = || short(&second::line::answer(&lowered(line, codes))) == theirs;
     let fault = theirs.len() > 1;
     match (ours, theirs) {
         ("R 1" | "R 4" | "R 6" | "R 7", _) if !fault => Some("a limit here"),
@@ -51,7 +75,7 @@ fn reason(source: &[u8], label: &[u8], ours: &str, theirs: &str) -> Option<&'sta
         ("M 13" | "M 15", _) if !fault => Some("a limit of the line tool"),
         ("1" | "0", "PATMAXLEN") => Some("a limit of GT.M"),
         ("1" | "0", "NUMOFLOW") => Some("GT.M reads digits, E and digits as a number too"),
-        ("0", "1") if high_bytes(source, label) => Some("GT.M has bytes above 127 in a code"),
+        ("0", "1") if !line.is_ascii() && same_lowered() => Some("a code's bytes above 127"),
         ("0", "1") if open_group(source) => Some("GT.M cuts an open group of one atom anywhere"),
         _ => None,
     }
@@ -118,24 +142,17 @@ pub fn print(folder: &Path) {
         "GT.M stopped at {:?}",
         lines.get(theirs.len() - 1).map(|line| shown(line))
     );
+    let codes = &theirs[lines.len() + 1..];
     let (mut same, mut refused, mut different, mut new) =
         (Tally::new(), Tally::new(), Tally::new(), Tally::new());
     for (at, line) in lines.iter().enumerate() {
-        let (ours, theirs) = (ours[at + 1], theirs[at + 1]);
-        let words: Vec<&str> = ours.split(' ').collect();
-        let ours = if words[0] == "1" {
-            "1".into()
-        } else {
-            words[..words.len().min(2)].join(" ")
-        };
-        let tab = line.iter().position(|&byte| byte == b'\t').unwrap();
-        let (source, label) = (&line[..tab], &line[tab..]);
+        let (ours, theirs) = (short(ours[at + 1]), theirs[at + 1]);
         let class = format!("{ours} here, {theirs} there");
         if ours == theirs {
             count(&mut same, class, line);
         } else if ours.len() > 1 && theirs.len() > 1 {
             count(&mut refused, class, line);
-        } else if let Some(reason) = reason(source, label, &ours, theirs) {
+        } else if let Some(reason) = reason(line, codes, &ours, theirs) {
             count(&mut different, format!("{class}: {reason}"), line);
         } else {
             count(&mut new, class, line);
@@ -147,8 +164,8 @@ pub fn print(folder: &Path) {
     print_tally("different, as docs/GTM.md explains", &different);
     print_tally("different, not explained", &new);
     println!("\nbytes of a code on one side only");
-    for (at, code) in "ACELNPU".chars().enumerate() {
-        print_bytes(code, theirs[lines.len() + 1 + at]);
+    for (code, row) in "ACELNPU".chars().zip(codes) {
+        print_bytes(code, row);
     }
     if !new.is_empty() {
         exit(1);
