@@ -1,44 +1,46 @@
--- E is every byte: each label satisfies `.E`, and a verdict on it is yes, one part that ends with the label. Assumes nothing.
-use mathlib.Core.Path.{_≡_, refl, ap, _∙_}
-use mathlib.Core.List.{[], _∷_}
-use mathlib.Core.Option.{none, some}
+-- E is every byte: each label satisfies `.E`, and a match with its table finds one part, the whole label. Assumes nothing.
+use mathlib.Core.Path.{_≡_, refl, ap}
+use mathlib.Core.List.{List, [], _∷_}
+use mathlib.Core.Option.{Option, none, some}
 use Prim.Native.Nat.{ℕ, suc, _<_}
 use native.Mathlib.Omega.{arith}
 use lib.Dec.{T}
-use lib.ListN.{length, getD}
-use Rattle.pattern.specs.Bytes.{Bytes, between, overwrite, bytes}
+use lib.ListN.{length, getD, replicate}
+use Rattle.pattern.specs.Bytes.{Bytes, between, bytes}
 use Rattle.pattern.specs.Codes.{all-codes, in-ranges, in-codes, in-set}
 use Rattle.pattern.specs.Syntax.{Syntax, pattern, last, repeat, codes}
 use Rattle.pattern.specs.Meaning.{Cut, Power, UpTo, Satisfies}
 use Rattle.pattern.specs.Parts.{Partition, IsVerdict}
+use Rattle.pattern.specs.Trials.{trials}
 use Rattle.pattern.specs.Decode.{decode}
-use Rattle.pattern.specs.Answers.{MatchOutput, part-bytes, matchOf}
+use Rattle.pattern.specs.Answers.{result, compileOf, scratch-needed, lent-fault, ended, ending, match-ending, matchOf}
 use Rattle.pattern.proofs.Tests.{all, all-at}
-use Rattle.pattern.proofs.Calls.{match-tried, match-verdict, match-parts}
+use Rattle.pattern.proofs.Calls.{verdict-right}
 use Rattle.pattern.proofs.Computed.{computed}
-use Rattle.pattern.proofs.Examples.{compiled-table}
 
--- the set of E, its table from the source, and what the table holds
-abbrev e-set : ℕ
-e-set = 4
+-- what `.E` spells, and its table
+abbrev e-pattern : Syntax pattern
+e-pattern = last (repeat 0 none (codes 4))
 
 abbrev e-table : Bytes
-e-table = compiled-table (bytes ".E")
+e-table = 77 ∷ 80 ∷ 84 ∷ 1 ∷ 0 ∷ 1 ∷ 0 ∷ 0 ∷ 1 ∷ 1 ∷ 0 ∷ 0 ∷ 255 ∷ 255 ∷ 4 ∷ 0 ∷ 0 ∷ 0 ∷ []
 
-abbrev e-pattern : Syntax pattern
-e-pattern = last (repeat 0 none (codes e-set))
+-- "Tables keep their bytes and version"
+pub e-compiled : compileOf (bytes ".E") (replicate 18 7) ≡ record { answer = result 18 0; bytes = e-table }
+unfolding computed
+e-compiled = refl
 
 e-decoded : decode e-table ≡ some e-pattern
-unfolding computed compiled-table
+unfolding computed
 e-decoded = refl
 
 -- "E becomes 0 to 255"
-pub every-byte : (b : ℕ) → b < 256 → T (in-set e-set b)
+every-byte : (b : ℕ) → b < 256 → T (in-set 4 b)
 unfolding all between all-codes in-ranges in-codes in-set
-every-byte b h = all-at 256 (in-set e-set) tt b h
+every-byte = all-at 256 (in-set 4) tt
 
 -- a body for each byte
-one-each : (s : Bytes) → ((k : ℕ) → getD s k 0 < 256) → Power (Satisfies (codes e-set)) (length s) s
+one-each : (s : Bytes) → ((k : ℕ) → getD s k 0 < 256) → Power (Satisfies (codes 4)) (length s) s
 unfolding Power Cut Satisfies
 one-each [] h = refl
 one-each (b ∷ s) h = (b ∷ [], s, refl, (b, refl, every-byte b (h 0)), one-each s (λ k. h (suc k)))
@@ -48,13 +50,15 @@ module _ (label : Bytes) (is-bytes : (k : ℕ) → getD label k 0 < 256) where
   unfolding Satisfies UpTo
   every-label = (length label, omega arith, tt, one-each label is-bytes)
 
-  -- names with umlauts pass `.E`
-  pub every-passes : (scratch parts : Bytes) (budget : ℕ)
-      → let m : MatchOutput = matchOf e-table label scratch parts budget in
-      m .answer .number ≡ 0 → (m .answer .value ≡ 1) × (m .parts ≡ overwrite (part-bytes (length label ∷ [])) parts)
+  one-part : (v : Option (List ℕ)) → IsVerdict label e-pattern v → v ≡ some (length label ∷ [])
   unfolding IsVerdict Partition
-  every-passes scratch parts budget z =
-      let (lent, enough) = match-tried e-table label scratch parts budget e-pattern e-decoded z in
-      let yes = match-verdict e-table label scratch parts e-pattern e-decoded lent budget enough .1 every-label in
-      let (ends, v, n, p) = match-parts e-table label scratch parts e-pattern e-decoded lent budget enough yes in
-      (yes, p ∙ ap (λ x. overwrite (part-bytes x) parts) (v .0 .0))
+  one-part none m = absurd (m every-label)
+  one-part (some ends) m = ap some (m .0 .0)
+
+  -- names with umlauts pass `.E`: the whole call, refused for what is lent, out of budget, or yes
+  pub every-match : (scratch parts : Bytes) (budget : ℕ)
+      → let verdict : Option (List ℕ) = some (length label ∷ []) in
+      let e = ending (lent-fault e-pattern label scratch parts) (scratch-needed e-pattern (length label)) (trials label e-pattern) budget verdict in
+      matchOf e-table label scratch parts budget ≡ ended e scratch parts
+  unfolding matchOf match-ending
+  every-match scratch parts budget = rw (e-decoded, one-part _ (verdict-right e-table e-pattern e-decoded label))

@@ -33,7 +33,7 @@ matches source label ends count =
 abbrev fails : Bytes → Bytes → Option ℕ → Example
 fails source label count = record { source = source; label = label; budget = 10_000_000; number = 0; value = 0; ends = []; count = count }
 
--- P1 to P14; P9 also under budget 2
+-- P1 to P14, P13 as 02 has it; P9 also under budget 2
 unfoldable pub examples : List Example
 examples =
     matches (bytes "3N1\".\"2N.U") (bytes "123.45") (3 ∷ 4 ∷ 6 ∷ 6 ∷ []) none
