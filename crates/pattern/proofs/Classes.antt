@@ -33,14 +33,14 @@ abbrev small : ℕ
 small = 1 + 8 + 4
 
 -- E alone
-abbrev eight-bit : ℕ
-eight-bit = 4
+abbrev above-127 : ℕ
+above-127 = 4
 
 -- the character set in order: how many bytes of each sort follow each other
 unfoldable pub in-order : List ℕ
 in-order =
     replicate 32 control ++ replicate 16 punctuation ++ replicate 10 digit ++ replicate 7 punctuation ++ replicate 26 capital
-    ++ replicate 6 punctuation ++ replicate 26 small ++ replicate 4 punctuation ++ replicate 1 control ++ replicate 128 eight-bit
+    ++ replicate 6 punctuation ++ replicate 26 small ++ replicate 4 punctuation ++ replicate 1 control ++ replicate 128 above-127
 
 -- c numbers from b on
 unfoldable pub count-up : ℕ → ℕ → List ℕ

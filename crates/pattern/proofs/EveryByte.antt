@@ -46,6 +46,7 @@ one-each [] h = refl
 one-each (b ∷ s) h = (b ∷ [], s, refl, (b, refl, every-byte b (h 0)), one-each s (λ k. h (suc k)))
 
 module _ (label : Bytes) (is-bytes : (k : ℕ) → getD label k 0 < 256) where
+  -- each label satisfies `.E`
   pub every-label : Satisfies e-pattern label
   unfolding Satisfies UpTo
   every-label = (length label, omega arith, tt, one-each label is-bytes)
@@ -57,8 +58,8 @@ module _ (label : Bytes) (is-bytes : (k : ℕ) → getD label k 0 < 256) where
 
   -- names with umlauts pass `.E`: the whole call, refused for what is lent, out of budget, or yes
   pub every-match : (scratch parts : Bytes) (budget : ℕ)
-      → let verdict : Option (List ℕ) = some (length label ∷ []) in
-      let e = ending (lent-fault e-pattern label scratch parts) (scratch-needed e-pattern (length label)) (trials label e-pattern) budget verdict in
+      → let whole : Option (List ℕ) = some (length label ∷ []) in
+      let e = ending (lent-fault e-pattern label scratch parts) (scratch-needed e-pattern (length label)) (trials label e-pattern) budget whole in
       matchOf e-table label scratch parts budget ≡ ended e scratch parts
   unfolding matchOf match-ending
   every-match scratch parts budget = rw (e-decoded, one-part _ (verdict-right e-table e-pattern e-decoded label))

@@ -25,10 +25,11 @@ sources =
     ∷ (bytes "3Q", CODE, 1)
     ∷ (bytes "3.10000N", NUMBER, 2)
     ∷ (bytes "9999N", 0, 0)
-    -- a body without a count, a literal that does not end, a byte 127 in one
+    -- a body without a count, a literal that does not end, a byte 127 and a byte 200 in one
     ∷ (bytes "N", FORM, 0)
     ∷ (bytes "1\"a", FORM, 3)
     ∷ (49 ∷ 34 ∷ 127 ∷ 34 ∷ [], FORM, 2)
+    ∷ (49 ∷ 34 ∷ 200 ∷ 34 ∷ [], FORM, 2)
     -- what is left aside: indirection, negation, bracket ranges, Y and Z codes, names
     ∷ (bytes "@X", FORM, 0)
     ∷ (bytes "1'N", FORM, 1)

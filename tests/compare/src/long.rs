@@ -46,7 +46,7 @@ pub fn each_set() -> Vec<Call> {
     calls
 }
 
-/// Labels of up to 255 bytes that match, most of them also with a last byte that E alone takes.
+/// Labels of up to 255 bytes that match, most of them also with another last byte: one that only E takes, or `?` for `!`.
 pub fn long_labels() -> Vec<Call> {
     let literal = |len| [b"1\"".to_vec(), b"x".repeat(len), b"\"".to_vec()].concat();
     let mut pairs = vec![

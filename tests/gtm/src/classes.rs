@@ -46,7 +46,7 @@ fn lowered(line: &[u8], codes: &[&str]) -> Vec<u8> {
         if byte < 128 {
             byte
         } else {
-            lower(byte).unwrap()
+            lower(byte).unwrap_or(byte)
         }
     };
     line.iter().map(one).collect()
