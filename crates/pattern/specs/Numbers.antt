@@ -91,6 +91,15 @@ BUDGET = 15
 abbrev pub BATCH : ℕ
 BATCH = 16
 
+abbrev pub FULL : ℕ
+FULL = 17
+
+abbrev pub REGISTER : ℕ
+REGISTER = 18
+
+abbrev pub MISSING : ℕ
+MISSING = 19
+
 -- "the mark MPT"
 abbrev pub mark : List ℕ
 mark = 77 ∷ 80 ∷ 84 ∷ []

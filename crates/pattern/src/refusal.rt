@@ -28,3 +28,9 @@ pub const PARTS: u32 = 14;
 pub const BUDGET: u32 = 15;
 
 pub const BATCH: u32 = 16;
+
+pub const FULL: u32 = 17;
+
+pub const REGISTER: u32 = 18;
+
+pub const MISSING: u32 = 19;

@@ -1,3 +1,4 @@
 pub mod Little
 pub mod Compared
 pub mod Digits
+pub mod Moving

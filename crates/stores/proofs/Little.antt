@@ -1,12 +1,15 @@
--- Numbers stored byte by byte. Assumes nothing.
-use mathlib.Core.Path.{_≡_, ap, _∙_}
-use Prim.Native.Nat.{ℕ, suc, _+_, _-_, _/_, _%_, _<_, _≤_}
+-- Numbers in bytes and back, and stored byte by byte. Assumes nothing.
+use mathlib.Core.Path.{_≡_, refl, sym, ap, _∙_}
+use mathlib.Core.List.{[], _∷_, _++_}
+use Prim.Native.Nat.{ℕ, zero, suc, _+_, _*_, _-_, _/_, _%_, _<_, _≤_}
 use native.Mathlib.Omega.{arith}
-use lib.ListN.{set}
-use Rattle.pattern.specs.Bytes.{Bytes}
+use lib.ListN.{length, getD, take, drop, set}
+use lib.Seq.{getD-drop}
+use Rattle.pattern.specs.Bytes.{Bytes, le16}
 use Rattle.pattern.specs.Stores.{store-at}
 use Rattle.pattern.proofs.Stores.{store-at-none, store-at-first}
-use Rattle.stores.specs.Little.{little}
+use Rattle.pattern.specs.Decode.{field}
+use Rattle.stores.specs.Little.{little, value}
 
 -- the bytes still to be stored, one of them stored
 pub store-next : (l : Bytes) (at j left : ℕ) → j < 8
@@ -22,3 +25,53 @@ store-next l at j left h =
 pub store-end : (l : Bytes) (at j left : ℕ) → 8 ≤ j → store-at l (at + j) (little (8 - j) left) ≡ l
 unfolding little
 store-end l at j left h = let e : 8 - j ≡ 0 = omega arith in ap (λ c. store-at l (at + j) (little c left)) e ∙ store-at-none l (at + j)
+
+pub length-little : (c x : ℕ) → length (little c x) ≡ c
+unfolding little
+length-little zero x = refl
+length-little (suc c) x = ap suc (length-little c (x / 256))
+
+-- a number below 2^32 is read as it was written
+pub value-little : (x : ℕ) → x < 4294967296 → value (little 4 x) ≡ x
+unfolding little value
+value-little x h = omega arith
+
+-- bytes are what their number is written as
+pub little-value : (s : Bytes) → ((k : ℕ) → getD s k 0 < 256) → little (length s) (value s) ≡ s
+unfolding little value
+little-value [] f = refl
+little-value (b ∷ s) f =
+    let low : (b + 256 * value s) % 256 ≡ b = omega (arith, f 0) in
+    let high : (b + 256 * value s) / 256 ≡ value s = omega (arith, f 0) in
+    rw (low, high, little-value s (λ k. f (suc k)))
+
+-- ---- four bytes as two times two
+
+four : (s : Bytes) → value (take 4 s) ≡ getD s 0 0 + 256 * getD s 1 0 + 65536 * (getD s 2 0 + 256 * getD s 3 0)
+unfolding value
+four [] = refl
+four (a ∷ []) = omega arith
+four (a ∷ b ∷ []) = omega arith
+four (a ∷ b ∷ c ∷ []) = omega arith
+four (a ∷ b ∷ c ∷ d ∷ s) = omega arith
+
+pub value-halves : (s : Bytes) (i : ℕ) → value (take 4 (drop i s)) ≡ field s i + 65536 * field s (i + 2)
+value-halves s i =
+    let e : i + 0 ≡ i = omega arith in
+    let f : i + 2 + 1 ≡ i + 3 = omega arith in
+    let first : getD (drop i s) 0 0 ≡ getD s i 0 = getD-drop i s 0 0 ∙ ap (λ k. getD s k 0) e in
+    let last : getD (drop i s) 3 0 ≡ getD s (i + 2 + 1) 0 = getD-drop i s 3 0 ∙ rw f in
+    omega (arith, four (drop i s), first, getD-drop i s 1 0, getD-drop i s 2 0, last)
+
+split : (y q r : ℕ) → y ≡ 256 * q + r → r < 256 → (y % 256 ≡ r) × (y / 256 ≡ q)
+split y q r e h = (omega arith, omega arith)
+
+pub little-halves : (x : ℕ) → x < 4294967296 → le16 (x % 65536) [] ++ le16 (x / 65536) [] ≡ little 4 x
+unfolding little
+little-halves x h =
+    let a : x % 65536 % 256 ≡ x % 256 = omega arith in
+    let r : x % 65536 / 256 < 256 = omega arith in
+    let y : x / 256 ≡ 256 * (x / 65536) + x % 65536 / 256 = omega arith in
+    let (b, c) = split (x / 256) (x / 65536) (x % 65536 / 256) y r in
+    let d : x / 65536 / 256 % 256 ≡ x / 65536 / 256 = omega arith in
+    rw (a, b, c, d)

@@ -1,15 +1,16 @@
-// Bytes and numbers of a fixed width in lent bytes: read, stored, copied, compared and zeroed. What stores answers the place after.
+// Bytes and numbers of a fixed width in lent bytes: read, stored, copied, moved, compared and zeroed. What stores answers the place after.
 ghost use mathlib.Core.Path.{_≡_};
 ghost use mathlib.Core.List.{[], _∷_};
 ghost use Prim.Native.Nat.{_+_, _≤_, _<_};
-ghost use lib.ListN.{length, take};
+ghost use lib.ListN.{length, take, drop};
 ghost use lib.Seq.{slice};
 ghost use Rattle.pattern.specs.Bytes.{equal, le16, zeroed};
 ghost use Rattle.pattern.specs.Decode.{field};
 ghost use Rattle.pattern.specs.Stores.{Puts};
-ghost use Rattle.stores.specs.Little.{little};
+ghost use Rattle.stores.specs.Little.{little, value};
 
 pub mod decimal;
+pub mod moves;
 
 // One byte.
 pub fn put_byte(to: &mut [u8], at: usize, b: u8) -> usize
@@ -35,6 +36,14 @@ pub fn read16(from: &[u8], at: usize) -> u16
     wide(from[at]) + 256 * wide(from[at + 1])
 }
 
+// The 32 bits at a place, the lowest byte first.
+pub fn read32(from: &[u8], at: usize) -> u32
+    requires { ⌜ at + 4 ≤ length (now from) ⌝ }
+    ensures { λ r. ⌜ r ≡ value (take 4 (drop at (now (from .entry)))) ⌝ }
+{
+    read16(from, at) as u32 + 65536 * read16(from, at + 2) as u32
+}
+
 // A number in two bytes, the lower first.
 pub fn put16(to: &mut [u8], at: usize, x: u16) -> usize
     requires { ⌜ at + 2 ≤ length (now to) ⌝ }
@@ -43,6 +52,15 @@ pub fn put16(to: &mut [u8], at: usize, x: u16) -> usize
     to[at] = (x % 256) as u8;
     to[at + 1] = (x / 256) as u8;
     at + 2
+}
+
+// A number in four bytes, the lowest first.
+pub fn put32(to: &mut [u8], at: usize, x: u32) -> usize
+    requires { ⌜ at + 4 ≤ length (now to) ⌝ }
+    ensures { λ r. ⌜ Puts (now (to .entry)) at (little 4 x) (now (to .exit)) r ⌝ }
+{
+    let middle = put16(to, at, (x % 65536) as u16);
+    put16(to, middle, (x / 65536) as u16)
 }
 
 // A number in eight bytes, the lowest first.
