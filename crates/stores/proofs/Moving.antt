@@ -84,7 +84,7 @@ module _ {l : Bytes} {from n to : ℕ} {s : Bytes} {i : ℕ} (u : Up l from n to
       record {
         upto = omega (arith, u .upto);
         bytes = ap (set s (to + j)) r ∙ ap (λ (z : Bytes). set z (to + j) x) y ∙ sym (store-at-one (store-at l (to + (j + 1)) w) (to + j) x)
-        ∙ store-at-before l (to + j) (to + (j + 1)) (x ∷ []) w (omega arith) ∙ ap (store-at l (to + j)) (sym (drop-one v j (omega (arith, length-moved l from n h, u .upto))));
+            ∙ store-at-before l (to + j) (to + (j + 1)) (x ∷ []) w (omega arith) ∙ ap (store-at l (to + j)) (sym (drop-one v j (omega (arith, length-moved l from n h, u .upto))));
       }
 
   pub up-end : i ≤ 0 → s ≡ store-at l to (take n (drop from l))
