@@ -39,7 +39,7 @@ pub struct Answer {
 }
 
 // A refusal before any trial.
-fn refused(number: u32) -> Answer
+pub fn refused(number: u32) -> Answer
     ensures { λ r. ⌜ r ≡ record { number = number; value = 0; trials = 0 } ⌝ }
 {
     Answer {

@@ -1,0 +1,140 @@
+-- Plain maps: what they keep, and how long it is. Assumes nothing.
+use mathlib.Core.Path.{_≡_, refl, sym, ap, _∙_}
+use mathlib.Core.Bool.{Bool, true, false, _||_}
+use mathlib.Core.List.{[], _∷_, _++_, append-assoc}
+use mathlib.Core.Option.{Option, none, some}
+use Prim.Native.Nat.{ℕ, zero, suc, _+_, _≤_, _<_}
+use native.Mathlib.Omega.{arith}
+use lib.Dec.{T, eqb, eqb→eq}
+use lib.ListN.{length, getD, take, drop, set, replicate, length-append, length-set, length-replicate}
+use lib.Seq.{split-at, set-split, getD-set-same, getD-set-other, take-suc}
+use Rattle.pattern.specs.Numbers.{table-room}
+use Rattle.pattern.specs.Bytes.{Bytes}
+use Rattle.pattern.specs.Syntax.{pattern, Syntax}
+use Rattle.pattern.specs.Print.{print}
+use Rattle.pattern.specs.Decode.{decode}
+use Rattle.pattern.proofs.Calls.{print-accepted, decoded-encode}
+use Rattle.pattern.proofs.Rooms.{table-fits}
+use Rattle.register.specs.Maps.{numbers, Map, table-of, empty, tables, total, is-table}
+use Rattle.register.specs.Layout.{kept}
+
+-- each table is none or a good one
+abbrev pub Kept : Map → Type 0
+Kept m = (k : ℕ) → kept (table-of m k) ≡ true
+
+-- a map: a table, or none, for each number, and each table good
+pub record Proper (m : Map) : Type 0 where
+  pub count : length m ≡ numbers
+  pub each : Kept m
+
+-- ---- tables are short
+
+pub to-T : (b : Bool) → b ≡ true → T b
+to-T b e = rw e tt
+
+pub table-short : (t : Bytes) → is-table t ≡ true → length t ≤ table-room
+unfolding is-table
+table-short t = go (decode t) refl
+  where
+    go : (o : Option (Syntax pattern)) → decode t ≡ o → (elim o [ none ↦ false | some _ ↦ true ]) ≡ true → length t ≤ table-room
+    go none d e = absurd (to-T false e)
+    go (some x) d e = let n = table-fits (print x) x (print-accepted t x d) in rw (decoded-encode t x d) at n
+
+pub kept-short : (t : Bytes) → kept t ≡ true → length t ≤ table-room
+unfolding kept
+kept-short t e = go (eqb (length t) 0) refl
+  where
+    go : (b : Bool) → eqb (length t) 0 ≡ b → length t ≤ table-room
+    go true f = omega (arith, eqb→eq (length t) 0 (to-T _ f))
+    go false f = table-short t (ap (λ (x : Bool). x || is-table t) (sym f) ∙ e)
+
+-- ---- maps that are changed
+
+pub kept-none : kept [] ≡ true
+unfolding kept
+kept-none = refl
+
+pub kept-table : (t : Bytes) → is-table t ≡ true → kept t ≡ true
+unfolding kept
+kept-table t e = go (eqb (length t) 0)
+  where
+    go : (b : Bool) → (b || is-table t) ≡ true
+    go true = refl
+    go false = e
+
+kept-set : (m : Map) (k : ℕ) (t : Bytes) → Kept m → kept t ≡ true → Kept (set m k t)
+kept-set [] k t f h j = f j
+kept-set (x ∷ m) zero t f h zero = h
+kept-set (x ∷ m) zero t f h (suc j) = f (suc j)
+kept-set (x ∷ m) (suc k) t f h zero = f zero
+kept-set (x ∷ m) (suc k) t f h (suc j) = kept-set m k t (λ i. f (suc i)) h j
+
+pub proper-set : (m : Map) (k : ℕ) (t : Bytes) → Proper m → kept t ≡ true → Proper (set m k t)
+proper-set m k t p h = record { count = length-set m k t ∙ p .count; each = kept-set m k t (p .each) h }
+
+kept-empty : (n : ℕ) → Kept (replicate n [])
+kept-empty zero k = kept-none
+kept-empty (suc n) zero = kept-none
+kept-empty (suc n) (suc k) = kept-empty n k
+
+pub proper-empty : Proper empty
+unfolding empty
+proper-empty = record { count = length-replicate {A = Bytes} numbers []; each = kept-empty numbers }
+
+-- a stored table is found again, and every other is what it was
+pub stored-found : (m : Map) (k : ℕ) (t : Bytes) → k < length m → table-of (set m k t) k ≡ t
+stored-found m k t h = getD-set-same m k t [] h
+
+pub others-stay : (m : Map) (k j : ℕ) (t : Bytes) → (j ≡ k → ⊥) → table-of (set m k t) j ≡ table-of m j
+others-stay m k j t n = getD-set-other m k j t [] n
+
+-- ---- how long the tables are
+
+pub tables-append : (m n : Map) → tables (m ++ n) ≡ tables m ++ tables n
+unfolding tables
+tables-append [] n = refl
+tables-append (t ∷ m) n = rw (tables-append m n, append-assoc)
+
+pub total-append : (m n : Map) → total (m ++ n) ≡ total m + total n
+total-append m n = ap length (tables-append m n) ∙ length-append (tables m) (tables n)
+
+-- the tables up to a number
+pub total-suc : (m : Map) (k : ℕ) → k < length m → total (take (suc k) m) ≡ total (take k m) + length (table-of m k)
+unfolding tables
+total-suc m k h =
+    let e : total (take (suc k) m) ≡ total (take k m ++ table-of m k ∷ []) = ap total (take-suc m k [] h) in
+    omega (arith, e, total-append (take k m) (table-of m k ∷ []), length-append (table-of m k) [])
+
+-- the tables before a number's, its own, and those after it
+module _ (m : Map) (k : ℕ) (there : k < length m) where
+  pub tables-split : tables m ≡ tables (take k m) ++ (table-of m k ++ tables (drop (suc k) m))
+  unfolding tables
+  tables-split = ap tables (split-at m k [] there) ∙ tables-append (take k m) (table-of m k ∷ drop (suc k) m)
+
+  pub tables-set : (t : Bytes) → tables (set m k t) ≡ tables (take k m) ++ (t ++ tables (drop (suc k) m))
+  unfolding tables
+  tables-set t = ap tables (set-split m k t there) ∙ tables-append (take k m) (t ∷ drop (suc k) m)
+
+  pub total-split : total m ≡ total (take k m) + (length (table-of m k) + total (drop (suc k) m))
+  total-split = ap length tables-split ∙ length-append (tables (take k m)) (table-of m k ++ tables (drop (suc k) m)) ∙ ap (λ n. total (take k m) + n) (length-append (table-of m k) (tables (drop (suc k) m)))
+
+  -- "Replacing" frees the old table: "freed room is used again"
+  pub total-set : (t : Bytes) → total (set m k t) + length (table-of m k) ≡ total m + length t
+  total-set t =
+      omega (arith, total-split, ap length (tables-set t), length-append (tables (take k m)) (t ++ tables (drop (suc k) m)), length-append t (tables (drop (suc k) m)))
+
+-- a removal leaves no more
+pub total-removed : (m : Map) (k : ℕ) → total (set m k []) ≤ total m
+unfolding tables
+total-removed [] k = omega arith
+total-removed (t ∷ m) zero = omega (arith, length-append t (tables m))
+total-removed (t ∷ m) (suc k) = omega (arith, length-append t (tables m), length-append t (tables (set m k [])), total-removed m k)
+
+none-total : (n : ℕ) → total (replicate n []) ≡ 0
+unfolding tables
+none-total zero = refl
+none-total (suc n) = none-total n
+
+pub total-empty : total empty ≡ 0
+unfolding empty
+total-empty = none-total numbers

@@ -1,0 +1,112 @@
+-- The tables of a section passed one after the other. Assumes nothing.
+use mathlib.Core.Path.{_≡_, refl, sym, ap, _∙_}
+use mathlib.Core.Bool.{true, false}
+use mathlib.Core.List.{[], _∷_}
+use mathlib.Core.Option.{Option, none, some}
+use Prim.Native.Nat.{ℕ, zero, suc, _+_, _*_, _-_, _≤_, _<_}
+use native.Mathlib.Omega.{arith}
+use borrow.Author.Tests.{le-leb, lt-leb}
+use lib.ListN.{length, getD, take, drop, length-append, length-drop}
+use lib.Seq.{length-take-le, drop-drop, getD-drop}
+use Rattle.pattern.specs.Bytes.{Bytes}
+use Rattle.stores.specs.Little.{little, value}
+use Rattle.stores.proofs.Little.{little-value}
+use Rattle.register.specs.declared.locate.TablesEnd.the-variants as ending
+use Rattle.register.specs.Maps.{numbers, Map, tables}
+use Rattle.register.specs.Layout.{slot-size, slot, directory-size, kept}
+use Rattle.register.specs.Sections.{first-size, first-table, intact, cons-if, held, tables-end}
+use Rattle.register.proofs.Sections.{is-intact}
+
+-- each is a byte
+abbrev pub Octets : Bytes → Type 0
+Octets s = (k : ℕ) → getD s k 0 < 256
+
+octets-drop : (n : ℕ) (s : Bytes) → Octets s → Octets (drop n s)
+octets-drop n s f k = rw getD-drop (f (n + k))
+
+octets-take : (n : ℕ) (s : Bytes) → Octets s → Octets (take n s)
+octets-take zero s f k = omega arith
+octets-take (suc n) [] f k = omega arith
+octets-take (suc n) (b ∷ s) f zero = f 0
+octets-take (suc n) (b ∷ s) f (suc k) = octets-take n s (λ j. f (suc j)) k
+
+-- a slot of bytes is what its length is written as
+slot-told : (slots bytes : Bytes) → Octets slots → slot-size ≤ length slots → first-size slots ≤ length bytes → take slot-size slots ≡ slot (first-table slots bytes)
+unfolding slot
+slot-told slots bytes f h k =
+    let v : Bytes = take slot-size slots in
+    let n : length v ≡ slot-size = length-take-le slot-size slots h in
+    sym (little-value v (octets-take slot-size slots f)) ∙ ap (λ x. little x (value v)) n ∙ ap (little slot-size) (sym (length-take-le (value v) bytes k))
+
+tables-end-cons : (at : ℕ) (t : Bytes) (o : Option Map) → tables-end at (cons-if true t o) ≡ tables-end (at + length t) o
+unfolding tables-end cons-if tables
+tables-end-cons at t none = refl
+tables-end-cons at t (some m) = ap ending.At (omega (arith, length-append t (tables m)))
+
+-- the tables of the numbers from k on, the first one at a place
+abbrev pub held-from : (s : Bytes) (k b at : ℕ) → Option Map
+held-from s k b at = held (b - k) (drop (slot-size * k) s) (drop at s)
+
+-- up to number k the tables were passed, and those that are left end where all do
+pub record Passing (s : Bytes) (a b at k end : ℕ) : Type 0 where
+  pub from : a ≤ k
+  pub upto : k ≤ b
+  pub inside : end ≤ length s
+  pub left : tables-end at (held-from s a b at) ≡ tables-end end (held-from s k b end)
+
+pub pass-start : (s : Bytes) (a b at : ℕ) → a ≤ b → at ≤ length s → Passing s a b at a at
+pass-start s a b at h k = record { from = omega arith; upto = h; inside = k; left = refl }
+
+module _ {s : Bytes} {a b at k end : ℕ} (w : Passing s a b at k end) where
+  pub pass-end : b ≤ k → ending.At end ≡ tables-end at (held-from s a b at)
+  unfolding held tables-end tables
+  pass-end h =
+      let e : b - k ≡ 0 = omega (arith, w .upto) in
+      let z : end + 0 ≡ end = omega arith in
+      sym (w .left ∙ ap (λ x. tables-end end (held x (drop (slot-size * k) s) (drop end s))) e ∙ ap ending.At z)
+
+  module _ (n : ℕ) (sized : n ≡ first-size (drop (slot-size * k) s)) (more : k < b) where
+    abbrev slots : Bytes
+    slots = drop (slot-size * k) s
+
+    abbrev bytes : Bytes
+    bytes = drop end s
+
+    one-more : held-from s k b end ≡ cons-if (intact slots bytes) (first-table slots bytes) (held-from s (k + 1) b (end + n))
+    unfolding held
+    one-more =
+        let e : b - k ≡ suc (b - (k + 1)) = omega arith in
+        let f : slot-size * (k + 1) ≡ slot-size * k + slot-size = omega arith in
+        rw (e, f, sized, drop-drop slot-size (slot-size * k) s, drop-drop (first-size slots) end s)
+
+    not-intact : intact slots bytes ≡ false → ending.Bad ≡ tables-end at (held-from s a b at)
+    unfolding tables-end cons-if
+    not-intact e = sym (w .left ∙ ap (tables-end end) one-more ∙ rw e)
+
+    pub pass-long : length s - end < n → ending.Bad ≡ tables-end at (held-from s a b at)
+    unfolding intact
+    pass-long h = not-intact (rw (lt-leb (first-size slots) (length bytes) (omega (arith, sized, length-drop end s))))
+
+    module _ (fits : n ≤ length s - end) where
+      there : first-size slots ≤ length bytes
+      there = omega (arith, sized, length-drop end s)
+
+      first-is : take (end + n - end) (drop end s) ≡ first-table slots bytes
+      first-is = let e : end + n - end ≡ first-size slots = omega (arith, sized) in ap (λ x. take x bytes) e
+
+      pub pass-bad : false ≡ kept (take (end + n - end) (drop end s)) → ending.Bad ≡ tables-end at (held-from s a b at)
+      unfolding intact
+      pass-bad h = not-intact (rw (le-leb (first-size slots) (length bytes) there, ← first-is, ← h))
+
+      pub pass-on : Octets s → directory-size ≤ length s → b ≤ numbers → true ≡ kept (take (end + n - end) (drop end s)) → Passing s a b at (k + 1) (end + n)
+      pass-on f long few h =
+          let wide : slot-size ≤ length slots = omega (arith, length-drop (slot-size * k) s) in
+          let g : intact slots bytes ≡ true = is-intact slots bytes (record { there = there; keeps = ap kept (sym first-is) ∙ sym h; told = slot-told slots bytes (octets-drop (slot-size * k) s f) wide there }) in
+          let size : end + length (first-table slots bytes) ≡ end + n = omega (arith, sized, length-take-le (first-size slots) bytes there) in
+          let rest : Option Map = held-from s (k + 1) b (end + n) in
+          record {
+            from = omega (arith, w .from);
+            upto = omega arith;
+            inside = omega (arith, w .inside);
+            left = w .left ∙ ap (tables-end end) (one-more ∙ ap (λ x. cons-if x (first-table slots bytes) rest) g) ∙ tables-end-cons end (first-table slots bytes) rest ∙ ap (λ x. tables-end x rest) size;
+          }

@@ -1,0 +1,67 @@
+-- How a map lies in lent bytes, and the map that lent bytes mean (docs/REGISTER.md). To be believed.
+use mathlib.Core.Bool.{Bool, true, false, _&&_, _||_}
+use mathlib.Core.List.{[], _∷_, _++_}
+use mathlib.Core.Option.{Option, none, some}
+use Prim.Native.Nat.{ℕ, zero, suc, _+_, _*_, _-_}
+use lib.Dec.{eqb}
+use lib.ListN.{length, take, drop}
+use Rattle.pattern.specs.Bytes.{Bytes, equal, le16}
+use Rattle.stores.specs.Little.{little, value}
+use Rattle.register.specs.Maps.{numbers, Map, tables, is-table}
+
+-- "mark MPR and version 1", and zeros up to 8 bytes
+abbrev pub preamble : Bytes
+preamble = 77 ∷ 80 ∷ 82 ∷ le16 1 (0 ∷ 0 ∷ 0 ∷ [])
+
+abbrev pub preamble-size : ℕ
+preamble-size = 8
+
+-- a slot has the length of its number's table
+abbrev pub slot-size : ℕ
+slot-size = 4
+
+unfoldable pub slot : Bytes → Bytes
+slot t = little slot-size (length t)
+
+-- the slot of each number in turn
+abbrev pub directory-size : ℕ
+directory-size = slot-size * numbers
+
+unfoldable pub directory : Map → Bytes
+directory [] = []
+directory (t ∷ m) = slot t ++ directory m
+
+-- a section: the directory and the tables of one map
+unfoldable pub section : Map → Bytes
+section m = directory m ++ tables m
+
+unfoldable pub laid-out : Map → Bytes
+laid-out m = preamble ++ section m
+
+-- "Capacity is the buffer length less 1,032"
+abbrev pub overhead : ℕ
+overhead = preamble-size + directory-size
+
+abbrev pub capacity : Bytes → ℕ
+capacity lent = length lent - overhead
+
+-- the tables of c numbers, cut from bytes by the lengths in the slots
+unfoldable pub cut : (c : ℕ) → (slots bytes : Bytes) → Map
+cut zero slots bytes = []
+cut (suc c) slots bytes =
+    let n : ℕ = value (take slot-size slots) in
+    take n bytes ∷ cut c (drop slot-size slots) (drop n bytes)
+
+-- no table, or a good one
+unfoldable pub kept : Bytes → Bool
+kept t = eqb (length t) 0 || is-table t
+
+unfoldable pub all-kept : Map → Bool
+all-kept [] = true
+all-kept (t ∷ m) = kept t && all-kept m
+
+-- the map that lent bytes mean: "a buffer that doesn't meet" the layout, "or holds a bad table", means none
+unfoldable pub registerOf : Bytes → Option Map
+registerOf lent =
+    let m : Map = cut numbers (drop preamble-size lent) (drop overhead lent) in
+    elim (all-kept m && equal (take (length (laid-out m)) lent) (laid-out m)) [ true ↦ some m | false ↦ none ]

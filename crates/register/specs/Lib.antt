@@ -1,0 +1,5 @@
+pub mod Maps
+pub mod Layout
+pub mod Register
+pub mod Turns
+pub mod Sections

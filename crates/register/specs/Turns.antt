@@ -1,0 +1,49 @@
+-- Calls in turn, on a plain map and on a register. To be believed.
+use mathlib.Core.List.{List, [], _∷_}
+use Prim.Native.Nat.{ℕ}
+use Rattle.pattern.specs.Bytes.{Bytes}
+use Rattle.pattern.specs.Answers.{MatchOutput}
+use Rattle.register.specs.Maps.{Map, empty, Changed, store-in, remove-in, match-in}
+use Rattle.register.specs.Register.{initOf, storeOf, removeOf, matchNumberOf}
+
+-- "start empty, store or replace, remove, match by number"
+pub data Call : Type 0 where
+  init : Call
+  store : (number : ℕ) → (table : Bytes) → Call
+  remove : (number : ℕ) → Call
+  match : (number : ℕ) → (label scratch parts : Bytes) → (budget : ℕ) → Call
+
+-- what the caller hears: a refusal number, or all of a match
+pub data Reply : Type 0 where
+  numbered : (number : ℕ) → Reply
+  matched : MatchOutput → Reply
+
+pub record Step (State : Type 0) : Type 0 where
+  pub reply : Reply
+  pub next : State
+
+abbrev pub changed : {State : Type 0} → Changed State → Step State
+changed c = record { reply = numbered (c .number); next = c .after }
+
+-- a call on a plain map with a capacity
+unfoldable pub map-step : (capacity : ℕ) → Map → Call → Step Map
+map-step capacity m init = record { reply = numbered 0; next = empty }
+map-step capacity m (store k t) = changed (store-in capacity m k t)
+map-step capacity m (remove k) = changed (remove-in m k)
+map-step capacity m (match k label scratch parts budget) = record { reply = matched (match-in m k label scratch parts budget); next = m }
+
+-- a call on lent bytes
+unfoldable pub register-step : Bytes → Call → Step Bytes
+register-step lent init = changed (initOf lent)
+register-step lent (store k t) = changed (storeOf lent k t)
+register-step lent (remove k) = changed (removeOf lent k)
+register-step lent (match k label scratch parts budget) = record { reply = matched (matchNumberOf lent k label scratch parts budget); next = lent }
+
+-- the replies to calls in turn, and what there is after them
+unfoldable pub replies : {State : Type 0} → (State → Call → Step State) → State → List Call → List Reply
+replies step s [] = []
+replies step s (c ∷ cs) = step s c .reply ∷ replies step (step s c .next) cs
+
+unfoldable pub after-all : {State : Type 0} → (State → Call → Step State) → State → List Call → State
+after-all step s [] = s
+after-all step s (c ∷ cs) = after-all step (step s c .next) cs
