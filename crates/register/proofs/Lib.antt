@@ -1,6 +1,9 @@
 pub mod Maps
+pub mod Testing
+pub mod Cases
 pub mod Sections
 pub mod Meaning
 pub mod Passing
 pub mod Locating
 pub mod Putting
+pub mod Calls

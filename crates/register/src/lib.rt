@@ -124,11 +124,11 @@ pub fn match_number(
     match find(lent, number) {
         Located::Bad => refused(refusal::REGISTER),
         Located::At(at) => {
-            let start = PREAMBLE_SIZE + at.start;
-            let end = PREAMBLE_SIZE + at.end;
-            if start == end {
+            if at.start == at.end {
                 return refused(refusal::MISSING);
             }
+            let start = PREAMBLE_SIZE + at.start;
+            let end = PREAMBLE_SIZE + at.end;
             match_label(&lent[start..end], label, scratch, parts, budget).numbers(budget)
         }
     }

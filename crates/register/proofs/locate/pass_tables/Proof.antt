@@ -1,79 +1,35 @@
+-- `locate::pass_tables` meets its contract: the tables that are left end where all do. Assumes nothing.
+use mathlib.Core.Path.{sym, _∙_}
+use Prim.Native.Nat.{_-_}
+use native.Mathlib.Omega.{arith}
+use borrow.Author.Needs.{needs}
+use Rattle.register.proofs.Passing.{Passing, pass-start, pass-end, pass-long, pass-bad, pass-on}
 use Rattle.register.proofs.locate.pass_tables.Statement.{statement}
 use Rattle.register.proofs.locate.pass_tables.Tie as tie
-use Rattle.register.proofs.locate.pass_tables.Reads as reads
-use Rattle.register.proofs.locate.pass_tables.Lts as lts
-use Rattle.register.proofs.locate.is_kept.Reads as is-kept-reads
-use Rattle.stores.proofs.read32.Reads as read32-reads
 
 abbrev Inv-loop : tie.InvT-loop
-Inv-loop section a b at k₀ end₀ k end = ?
+Inv-loop section a b at k₀ end₀ k end = Passing section a b at k end
 
 abbrev μ-loop : tie.MeasureT-loop
-μ-loop section a b at k₀ end₀ k end = ?
+μ-loop section a b at k₀ end₀ k end = b - k
 
--- src/locate.rt:56:5
-loop-holds : tie.Need-loop-holds Inv-loop μ-loop
-loop-holds c = ?
-
--- src/locate.rt:57:33
-mul-read32 : tie.Need-mul-read32 Inv-loop μ-loop
-mul-read32 c = ?
-
--- src/locate.rt:57:17
 read32-requires : tie.Need-read32-requires Inv-loop μ-loop
-read32-requires c κs = ?
+read32-requires c κs = omega (arith, c .before .before .before .pre, c .before .loop .inv)
 
--- src/locate.rt:57:17
-cast-n : tie.Need-cast-n Inv-loop μ-loop
-cast-n c = ?
-
--- src/locate.rt:58:12
-sub-if1 : tie.Need-sub-if1 Inv-loop μ-loop
-sub-if1 c = ?
-
--- src/locate.rt:59:13
 returns : tie.Need-returns Inv-loop μ-loop
-returns c = ?
+returns c = pass-long (c .before .before .before .loop .inv) _ (c .before .read32 .ensures) (c .before .before .loop-test .taken) (c .if1 .taken)
 
--- src/locate.rt:61:20
-add-next : tie.Need-add-next Inv-loop μ-loop
-add-next c = ?
-
--- src/locate.rt:62:20
-sub-is-kept : tie.Need-sub-is-kept Inv-loop μ-loop
-sub-is-kept c = ?
-
--- src/locate.rt:62:20
-part-is-kept-start : tie.Need-part-is-kept-start Inv-loop μ-loop
-part-is-kept-start c = ?
-
--- src/locate.rt:62:20
-part-is-kept-end : tie.Need-part-is-kept-end Inv-loop μ-loop
-part-is-kept-end c = ?
-
--- src/locate.rt:62:12
-is-kept-requires : tie.Need-is-kept-requires Inv-loop μ-loop
-is-kept-requires c κs = ?
-
--- src/locate.rt:64:13
-add-k : tie.Need-add-k Inv-loop μ-loop
-add-k c = ?
-
--- src/locate.rt:56:5
-loop-less : tie.Need-loop-less Inv-loop μ-loop
-loop-less c = ?
-
--- src/locate.rt:56:5
 loop-again : tie.Need-loop-again Inv-loop μ-loop
-loop-again c = ?
+loop-again c =
+    let after-read32 = c .before .before .before .before in
+    let in-loop = after-read32 .before in
+    let pre = in-loop .before .before .before .pre in
+    pass-on (in-loop .before .loop .inv) _ (after-read32 .read32 .ensures) (in-loop .loop-test .taken) (c .before .before .before .if1 .left) (λ k. in-loop .before .before .shared-slice-known .given k .fits) (pre .2) (pre .1) (sym (c .if2 .taken) ∙ c .before .is-kept .ensures)
 
--- src/locate.rt:66:13
 returns-2 : tie.Need-returns-2 Inv-loop μ-loop
-returns-2 c = ?
-
--- src/locate.rt:50:1
-returns-3 : tie.Need-returns-3 Inv-loop μ-loop
-returns-3 c = ?
+returns-2 c =
+    let after-read32 = c .before .before .before .before in
+    pass-bad (after-read32 .before .before .loop .inv) _ (after-read32 .read32 .ensures) (after-read32 .before .loop-test .taken) (c .before .before .before .if1 .left) (sym (c .if2 .left) ∙ c .before .is-kept .ensures)
 
 pub pass-tables-spec : {M : Type 1} → statement M
 pass-tables-spec =
@@ -81,19 +37,19 @@ pass-tables-spec =
     (tie.spec
     Inv-loop
     μ-loop
-    loop-holds
-    mul-read32
+    (λ c. pass-start _ _ _ _ (c .before .pre .0) (c .before .pre .3))
+    (λ c. omega (arith, c .before .before .before .pre))
     read32-requires
-    cast-n
-    sub-if1
+    (λ c. omega arith)
+    (λ c. c .before .before .loop .inv .inside)
     returns
-    add-next
-    sub-is-kept
-    part-is-kept-start
-    part-is-kept-end
-    is-kept-requires
-    add-k
-    loop-less
+    (λ c. omega (arith, c .before .before .before .loop .inv .inside, c .before .before .before .before .before .good))
+    (λ c. omega arith)
+    (λ c. omega (arith, c .before .before .before .loop .inv .inside))
+    (λ c. omega (arith, c .before .before .before .loop .inv .inside))
+    (λ c κs. tt)
+    (λ c. omega (arith, c .before .before .before .before .before .before .before .before .pre))
+    (λ c. omega arith)
     loop-again
     returns-2
-    returns-3)
+    (λ c. pass-end (c .before .loop .inv) (c .loop-test .left)))

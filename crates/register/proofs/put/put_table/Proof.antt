@@ -1,58 +1,59 @@
+-- `put::put_table` meets its contract: the tables after it are moved, it is copied, its slot is written. Assumes nothing.
+use mathlib.Core.Path.{ap, _∙_}
+use Prim.Native.Nat.{_*_}
+use native.Mathlib.Omega.{arith}
+use lib.ListN.{length}
+use lib.Seq.{take-all}
+use Rattle.pattern.specs.Bytes.{Bytes}
+use Rattle.pattern.specs.Stores.{store-at}
+use Rattle.register.specs.Layout.{slot-size, slot}
+use Rattle.register.proofs.Maps.{kept-short}
+use Rattle.register.proofs.Putting.{put-places, put-placed}
 use borrow.Author.Needs.{needs}
 use Rattle.register.proofs.put.put_table.Statement.{statement}
 use Rattle.register.proofs.put.put_table.Tie as tie
-use Rattle.register.proofs.put.put_table.Reads as reads
-use Rattle.register.proofs.put.put_table.Lts as lts
-use Rattle.stores.proofs.copy.Reads as copy-reads
-use Rattle.stores.proofs.moves.move_bytes.Reads as move-bytes-reads
-use Rattle.stores.proofs.put32.Reads as put32-reads
 
--- src/put.rt:18:30
-sub-move-bytes : tie.Need-sub-move-bytes
-sub-move-bytes c = ?
-
--- src/put.rt:18:45
 add-move-bytes : tie.Need-add-move-bytes
-add-move-bytes c = ?
+add-move-bytes c = let p = put-places (c .before .before .before .before .pre) in omega (arith, p .within, p .room, p .ends, c .before .before .before .before .good)
 
--- src/put.rt:18:5
 move-bytes-requires : tie.Need-move-bytes-requires
-move-bytes-requires c κs = ?
+move-bytes-requires c κs = let p = put-places (c .before .before .before .before .pre) in (omega (arith, p .ends, p .within), omega (arith, p .room))
 
--- src/put.rt:19:5
 copy-requires : tie.Need-copy-requires
-copy-requires c κs = ?
+copy-requires c κs =
+    let p = put-places (c .before .before .before .before .before .before .before .before .pre) in
+    (omega arith, omega (arith, p .room, c .before .before .before .move-bytes .kept .0))
 
--- src/put.rt:20:20
-mul-put32 : tie.Need-mul-put32
-mul-put32 c = search needs
-
--- src/put.rt:20:35
 cast-put32 : tie.Need-cast-put32
-cast-put32 c = ?
+cast-put32 c = omega (arith, kept-short _ (c .before .before .before .before .before .before .before .before .before .before .before .before .pre .keeps))
 
--- src/put.rt:20:5
 put32-requires : tie.Need-put32-requires
-put32-requires c κs = ?
+put32-requires c κs =
+    let p = put-places (c .before .before .before .before .before .before .before .before .before .before .before .before .pre) in
+    omega (arith, p .slotted, c .before .before .before .before .before .before .before .move-bytes .kept .0, c .before .before .before .copy .kept .1 .1 .0)
 
--- src/put.rt:11:1
-same-length : tie.Need-same-length
-same-length c = search needs
-
--- src/put.rt:11:1
 returns : tie.Need-returns
-returns c = ?
+unfolding slot
+returns c =
+    let after-put32 = c .before .before in
+    let after-copy = after-put32 .before .before .before .before in
+    let after-move = after-copy .before .before .before .before in
+    let start = after-move .before .before .before .before .before in
+    let t : Bytes = start .args .table .now in
+    after-put32 .put32 .ensures .bytes
+    ∙ ap (λ (x : Bytes). store-at x (slot-size * start .args .k) (slot t)) (after-copy .copy .ensures .bytes ∙ ap (store-at _ (start .args .at .start)) (take-all (length t) t (omega arith)) ∙ ap (λ (x : Bytes). store-at x (start .args .at .start) t) (after-move .move-bytes .ensures))
+    ∙ put-placed (start .pre)
 
 pub put-table-spec : {M : Type 1} → statement M
 put-table-spec =
     tie.close
     (tie.spec
-    sub-move-bytes
+    (λ c. put-places (c .before .before .before .before .pre) .ends)
     add-move-bytes
     move-bytes-requires
     copy-requires
-    mul-put32
+    (search needs)
     cast-put32
     put32-requires
-    same-length
+    (search needs)
     returns)

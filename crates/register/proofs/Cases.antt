@@ -1,0 +1,34 @@
+-- What a plain map answers, case by case. Assumes nothing.
+use mathlib.Core.Path.{_≡_}
+use mathlib.Core.Bool.{true, false}
+use mathlib.Core.List.{[]}
+use Prim.Native.Nat.{ℕ, _≤_, _<_}
+use borrow.Author.Tests.{lt-ltb, le-ltb}
+use lib.ListN.{set}
+use Rattle.pattern.specs.Numbers.{TABLE, FULL, MISSING}
+use Rattle.pattern.specs.Bytes.{Bytes}
+use Rattle.pattern.specs.Scan.{refuse}
+use Rattle.register.specs.Maps.{Map, total, is-table, missing, change, store-in, remove-in}
+
+module _ (capacity : ℕ) (m : Map) (k : ℕ) (t : Bytes) where
+  pub store-bad : is-table t ≡ false → store-in capacity m k t ≡ record { number = TABLE; after = m }
+  unfolding store-in change refuse
+  store-bad g = rw g
+
+  module _ (g : is-table t ≡ true) where
+    pub store-full : capacity < total (set m k t) → store-in capacity m k t ≡ record { number = FULL; after = m }
+    unfolding store-in change refuse
+    store-full h = rw (g, lt-ltb capacity (total (set m k t)) h)
+
+    pub store-done : total (set m k t) ≤ capacity → store-in capacity m k t ≡ record { number = 0; after = set m k t }
+    unfolding store-in change refuse
+    store-done h = rw (g, le-ltb capacity (total (set m k t)) h)
+
+module _ (m : Map) (k : ℕ) where
+  pub remove-missing : missing m k ≡ true → remove-in m k ≡ record { number = MISSING; after = m }
+  unfolding remove-in change refuse
+  remove-missing h = rw h
+
+  pub remove-done : missing m k ≡ false → remove-in m k ≡ record { number = 0; after = set m k [] }
+  unfolding remove-in change refuse
+  remove-done h = rw h
