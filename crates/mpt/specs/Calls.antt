@@ -7,6 +7,8 @@ use Rattle.pattern.specs.Numbers.{ANSWER}
 use Rattle.pattern.specs.Bytes.{Bytes, overwrite}
 use Rattle.pattern.specs.Answers.{Answer, refusal, Output, compileOf, writeOf, MatchOutput, matchOf}
 use Rattle.batch.specs.Batch.{BatchOutput, batchOf}
+use Rattle.register.specs.Maps.{Changed}
+use Rattle.register.specs.Register.{initOf, storeOf, removeOf, matchNumberOf}
 use Rattle.mpt.specs.Area.{area-size, area}
 
 -- the number returned, and the lent slices and the answer area afterwards
@@ -48,3 +50,22 @@ unfoldable pub batch-call : (table labels ends scratch verdicts parts : Bytes) �
 batch-call table labels ends scratch verdicts parts budget answer =
     let o : BatchOutput = batchOf table labels ends scratch verdicts parts budget in
     called (refusal (o .number) 0) (record { scratch = o .scratch; verdicts = o .verdicts; parts = o .parts }) (record { scratch = scratch; verdicts = verdicts; parts = parts }) answer
+
+-- a call that changes a register: the area's numbers are all 0
+unfoldable pub change-call : Changed Bytes → (lent answer : Bytes) → Called Bytes
+change-call c lent answer = called (refusal (c .number) 0) (c .after) lent answer
+
+unfoldable pub init-call : (lent answer : Bytes) → Called Bytes
+init-call lent answer = change-call (initOf lent) lent answer
+
+unfoldable pub store-call : (lent : Bytes) → (number : ℕ) → (table answer : Bytes) → Called Bytes
+store-call lent number table answer = change-call (storeOf lent number table) lent answer
+
+unfoldable pub remove-call : (lent : Bytes) → (number : ℕ) → (answer : Bytes) → Called Bytes
+remove-call lent number answer = change-call (removeOf lent number) lent answer
+
+-- a match by number: the register is only read
+unfoldable pub match-number-call : (lent : Bytes) → (number : ℕ) → (label scratch parts : Bytes) → (budget : ℕ) → (answer : Bytes) → Called MatchLent
+match-number-call lent number label scratch parts budget answer =
+    let o : MatchOutput = matchNumberOf lent number label scratch parts budget in
+    called (o .answer) (record { scratch = o .scratch; parts = o .parts }) (record { scratch = scratch; parts = parts }) answer

@@ -10,8 +10,12 @@ use matcher::match_label;
 use pattern::refusal;
 use printer::Written;
 use printer::write_back;
+use register::init;
+use register::match_number;
+use register::remove;
+use register::store;
 ghost use mathlib.Core.Path.{_≡_};
-ghost use Rattle.mpt.specs.Calls.{compile-call, write-call, match-call, batch-call};
+ghost use Rattle.mpt.specs.Calls.{compile-call, write-call, match-call, batch-call, init-call, store-call, remove-call, match-number-call};
 
 #[no_mangle]
 pub extern "C" fn mpt_compile(source: &[u8], table: &mut [u8], answer: &mut [u8]) -> u32
@@ -93,4 +97,65 @@ pub extern "C" fn mpt_match_batch(
     let number = match_batch(table, labels, ends, scratch, verdicts, parts, budget);
     put_answer(answer, 0, 0, 0);
     number
+}
+
+#[no_mangle]
+pub extern "C" fn mpt_register_init(reg: &mut [u8], answer: &mut [u8]) -> u32
+    ensures { λ r. ⌜ record { number = r; lent = now (reg .exit); answer = now (answer .exit) } ≡ init-call (now (reg .entry)) (now (answer .entry)) ⌝ }
+{
+    if answer.len() < AREA_SIZE {
+        return refusal::ANSWER;
+    }
+    let number = init(reg);
+    put_answer(answer, 0, 0, 0);
+    number
+}
+
+#[no_mangle]
+pub extern "C" fn mpt_register_store(
+    reg: &mut [u8],
+    number: u8,
+    table: &[u8],
+    answer: &mut [u8],
+) -> u32
+    ensures { λ r. ⌜ record { number = r; lent = now (reg .exit); answer = now (answer .exit) } ≡ store-call (now (reg .entry)) number (now (table .entry)) (now (answer .entry)) ⌝ }
+{
+    if answer.len() < AREA_SIZE {
+        return refusal::ANSWER;
+    }
+    let refused = store(reg, number, table);
+    put_answer(answer, 0, 0, 0);
+    refused
+}
+
+#[no_mangle]
+pub extern "C" fn mpt_register_remove(reg: &mut [u8], number: u8, answer: &mut [u8]) -> u32
+    ensures { λ r. ⌜ record { number = r; lent = now (reg .exit); answer = now (answer .exit) } ≡ remove-call (now (reg .entry)) number (now (answer .entry)) ⌝ }
+{
+    if answer.len() < AREA_SIZE {
+        return refusal::ANSWER;
+    }
+    let refused = remove(reg, number);
+    put_answer(answer, 0, 0, 0);
+    refused
+}
+
+#[no_mangle]
+pub extern "C" fn mpt_register_match(
+    reg: &[u8],
+    number: u8,
+    label: &[u8],
+    scratch: &mut [u8],
+    parts: &mut [u8],
+    budget: u64,
+    answer: &mut [u8],
+) -> u32
+    ensures { λ r. ⌜ record { number = r; lent = record { scratch = now (scratch .exit); parts = now (parts .exit) }; answer = now (answer .exit) } ≡ match-number-call (now (reg .entry)) number (now (label .entry)) (now (scratch .entry)) (now (parts .entry)) budget (now (answer .entry)) ⌝ }
+{
+    if answer.len() < AREA_SIZE {
+        return refusal::ANSWER;
+    }
+    let a = match_number(reg, number, label, scratch, parts, budget);
+    put_answer(answer, 0, a.value, a.trials);
+    a.number
 }
