@@ -7,3 +7,5 @@ pub mod Passing
 pub mod Locating
 pub mod Putting
 pub mod Calls
+pub mod Registers
+pub mod Turns

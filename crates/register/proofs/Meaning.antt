@@ -179,6 +179,9 @@ means lent m h =
 pub exactly : (lent : Bytes) (m : Map) → (registerOf lent ≡ some m) ↔ Meant lent m
 exactly lent m = (meant lent m, means lent m)
 
+pub one-map : (lent : Bytes) (m n : Map) → Meant lent m → Meant lent n → m ≡ n
+one-map lent m n g h = let e : some m ≡ some n = sym (means lent m g) ∙ means lent n h in cc
+
 -- a map laid out over any bytes
 pub laid : (m : Map) (lent : Bytes) → Proper m → registerOf (overwrite (laid-out m) lent) ≡ some m
 unfolding overwrite

@@ -18,6 +18,11 @@ pub data Reply : Type 0 where
   numbered : (number : ℕ) → Reply
   matched : MatchOutput → Reply
 
+-- its refusal number, 0 for none
+unfoldable pub refusal-of : Reply → ℕ
+refusal-of (numbered number) = number
+refusal-of (matched o) = o .answer .number
+
 pub record Step (State : Type 0) : Type 0 where
   pub reply : Reply
   pub next : State

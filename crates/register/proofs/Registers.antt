@@ -1,0 +1,130 @@
+-- What each call answers and leaves, by what the lent bytes mean. Assumes nothing.
+use mathlib.Core.Path.{_≡_, refl, sym, ap, _∙_}
+use mathlib.Core.Logic.{_↔_, ⊎-elim}
+use mathlib.Core.Bool.{true, false}
+use mathlib.Core.List.{[]}
+use mathlib.Core.Option.{Option, none, some}
+use Prim.Native.Nat.{ℕ, _+_, _≤_, _<_}
+use native.Mathlib.Omega.{arith}
+use borrow.Author.Tests.{lt-ltb, le-ltb}
+use lib.ListN.{length, drop, set, length-append}
+use Rattle.pattern.specs.Numbers.{FULL, REGISTER}
+use Rattle.pattern.specs.Bytes.{Bytes, overwrite}
+use Rattle.pattern.specs.Scan.{refuse}
+use Rattle.pattern.specs.Answers.{untried, ended, matchOf}
+use Rattle.pattern.proofs.Stores.{length-overwrite}
+use Rattle.pattern.proofs.Tests.{le-or-lt, if-false}
+use Rattle.register.specs.Maps.{Map, table-of, empty, tables, total, is-table, missing, Changed, change, store-in, remove-in, match-in}
+use Rattle.register.specs.Layout.{laid-out, overhead, capacity, kept, registerOf}
+use Rattle.register.specs.Register.{initOf, in-register, storeOf, removeOf, matchNumberOf}
+use Rattle.register.specs.Turns.{store, match}
+use Rattle.register.proofs.Maps.{Proper, kept-none, kept-table, proper-set, proper-empty, total-removed, total-empty}
+use Rattle.register.proofs.Cases.{store-full, store-done, store-cases, remove-cases}
+use Rattle.register.proofs.Meaning.{Meant, length-laid-out, meant, exactly, laid}
+use Rattle.register.proofs.Locating.{after}
+
+-- the tables that lent bytes mean are within them
+pub meant-within : (lent : Bytes) (m : Map) → registerOf lent ≡ some m → overhead + total m ≤ length lent
+unfolding overwrite
+meant-within lent m e =
+    let h = meant lent m e in
+    omega (arith, ap length (h .bytes), length-append (laid-out m) (drop (length (laid-out m)) lent), length-laid-out m (h .proper))
+
+-- ---- "start empty"
+
+pub init-means : (lent : Bytes) → overhead ≤ length lent → (initOf lent .number ≡ 0) × (registerOf (initOf lent .after) ≡ some empty) × (length (initOf lent .after) ≡ length lent)
+unfolding initOf change refuse
+init-means lent h =
+    let e = le-ltb (length lent) overhead h in
+    let l : length (laid-out empty) ≤ length lent = omega (arith, length-laid-out empty proper-empty, total-empty, h) in
+    (rw e, rw e (laid empty lent proper-empty), rw e (length-overwrite (laid-out empty) lent l))
+
+-- ---- a buffer that means no map
+
+pub short-means-none : (lent : Bytes) → length lent < overhead → registerOf lent ≡ none
+short-means-none lent h = go (registerOf lent) refl
+  where
+    go : (o : Option Map) → registerOf lent ≡ o → registerOf lent ≡ none
+    go none e = e
+    go (some m) e = absurd (omega (arith, meant-within lent m e))
+
+-- "refused with 18 by all calls but starting empty"
+module _ (lent : Bytes) (e : registerOf lent ≡ none) (k : ℕ) where
+  pub store-refused : (t : Bytes) → storeOf lent k t ≡ record { number = REGISTER; after = lent }
+  unfolding storeOf in-register
+  store-refused t = rw e
+
+  pub remove-refused : removeOf lent k ≡ record { number = REGISTER; after = lent }
+  unfolding removeOf in-register
+  remove-refused = rw e
+
+  pub match-refused : (label scratch parts : Bytes) (budget : ℕ) → matchNumberOf lent k label scratch parts budget ≡ ended (untried REGISTER) scratch parts
+  unfolding matchNumberOf
+  match-refused label scratch parts budget = ap (λ (o : Option Map). elim o [ none ↦ ended (untried REGISTER) scratch parts | some m ↦ match-in m k label scratch parts budget ]) e
+
+-- "a shorter buffer is refused with 18, by every call": starting empty too
+pub init-refused : (lent : Bytes) → length lent < overhead → initOf lent ≡ record { number = REGISTER; after = lent }
+unfolding initOf change refuse
+init-refused lent h = rw (lt-ltb (length lent) overhead h)
+
+-- ---- a buffer that means a map
+
+-- a plain map's answer, and as many lent bytes as before, which mean what it became
+pub record Follows (lent : Bytes) (c : Changed Map) (o : Changed Bytes) : Type 0 where
+  pub number : o .number ≡ c .number
+  pub means : registerOf (o .after) ≡ some (c .after)
+  pub long : length (o .after) ≡ length lent
+  pub refused-leaves : ¬ (c .number ≡ 0) → o .after ≡ lent
+
+-- a map that a plain map may become: proper, and within the capacity; a refusal changes nothing
+pub record Allowed (lent : Bytes) (m : Map) (c : Changed Map) : Type 0 where
+  pub proper : Proper (c .after)
+  pub fits : overhead + total (c .after) ≤ length lent
+  pub refused-same : ¬ (c .number ≡ 0) → c .after ≡ m
+
+module _ (lent : Bytes) (m : Map) (e : registerOf lent ≡ some m) where
+  abbrev h : Meant lent m
+  h = meant lent m e
+
+  follows : (call : Map → Changed Map) → Allowed lent m (call m) → Follows lent (call m) (in-register (registerOf lent) call lent)
+  unfolding in-register
+  follows call a =
+      rw e (record {
+        number = refl;
+        means = laid (call m .after) lent (a .proper);
+        long = length-overwrite (laid-out (call m .after)) lent (omega (arith, length-laid-out (call m .after) (a .proper), a .fits));
+        refused-leaves = λ n. ap (λ (x : Map). overwrite (laid-out x) lent) (a .refused-same n) ∙ sym (h .bytes);
+      })
+
+  refusal-allowed : (n : ℕ) → Allowed lent m (record { number = n; after = m })
+  refusal-allowed n = record { proper = h .proper; fits = meant-within lent m e; refused-same = λ f. refl }
+
+  module _ (k : ℕ) where
+    pub store-follows : (t : Bytes) → Follows lent (store-in (capacity lent) m k t) (storeOf lent k t)
+    unfolding storeOf
+    store-follows t =
+        follows (λ m. store-in (capacity lent) m k t) (store-cases (capacity lent) m k t (Allowed lent m) (refusal-allowed _) (refusal-allowed _)
+        (λ g r. record { proper = proper-set m k t (h .proper) (kept-table t g); fits = omega (arith, r, meant-within lent m e); refused-same = λ f. absurd (f refl) }))
+
+    pub remove-follows : Follows lent (remove-in m k) (removeOf lent k)
+    unfolding removeOf
+    remove-follows =
+        follows (λ m. remove-in m k) (remove-cases m k (Allowed lent m) (refusal-allowed _)
+        (record { proper = proper-set m k [] (h .proper) kept-none; fits = omega (arith, total-removed m k, meant-within lent m e); refused-same = λ f. absurd (f refl) }))
+
+    pub match-follows : (label scratch parts : Bytes) (budget : ℕ) → matchNumberOf lent k label scratch parts budget ≡ match-in m k label scratch parts budget
+    unfolding matchNumberOf
+    match-follows label scratch parts budget = ap (λ (o : Option Map). elim o [ none ↦ ended (untried REGISTER) scratch parts | some m ↦ match-in m k label scratch parts budget ]) e
+
+    -- a match by number is a match against that number's table
+    pub match-means : missing m k ≡ false → (label scratch parts : Bytes) (budget : ℕ) → matchNumberOf lent k label scratch parts budget ≡ matchOf (table-of m k) label scratch parts budget
+    unfolding match-in
+    match-means n label scratch parts budget = match-follows label scratch parts budget ∙ if-false (missing m k) _ _ n
+
+    -- "A store is refused with 17 exactly when the lengths of all tables then kept would exceed capacity"
+    pub full-exactly : (t : Bytes) → is-table t ≡ true → (storeOf lent k t .number ≡ FULL) ↔ (capacity lent < total (set m k t))
+    full-exactly t g =
+        let n = store-follows t .number in (
+          λ f. ⊎-elim (λ r. absurd (let z : _≡_ {A = ℕ} 0 FULL = sym (n ∙ ap (λ (c : Changed Map). c .number) (store-done (capacity lent) m k t g r)) ∙ f in omega arith)) (λ r. r) (le-or-lt (total (set m k t)) (capacity lent)),
+          λ r. n ∙ ap (λ (c : Changed Map). c .number) (store-full (capacity lent) m k t g r),
+        )

@@ -1,0 +1,111 @@
+-- Any calls in turn are answered as by a plain map. Assumes nothing.
+use mathlib.Core.Path.{_≡_, refl, ap, ap₂, _∙_}
+use mathlib.Core.Logic.{_↔_, _⊎_, inl, inr, ⊎-elim}
+use mathlib.Core.Bool.{true}
+use mathlib.Core.List.{List, [], _∷_}
+use mathlib.Core.Option.{Option, none, some}
+use Prim.Native.Nat.{ℕ, _≤_, _<_}
+use native.Mathlib.Omega.{arith}
+use lib.ListN.{length, set}
+use Rattle.pattern.specs.Numbers.{FULL, REGISTER}
+use Rattle.pattern.specs.Bytes.{Bytes}
+use Rattle.pattern.specs.Answers.{MatchOutput, ended}
+use Rattle.pattern.proofs.Tests.{le-or-lt}
+use Rattle.register.specs.Maps.{Map, empty, total, is-table, Changed, change}
+use Rattle.register.specs.Layout.{overhead, capacity, registerOf}
+use Rattle.register.specs.Register.{initOf, storeOf}
+use Rattle.register.specs.Turns.{Call, init, store, remove, match, Reply, numbered, matched, refusal-of, Step, changed, map-step, register-step, replies, after-all}
+use Rattle.register.proofs.Locating.{after}
+use Rattle.register.proofs.Registers.{meant-within, init-means, store-refused, remove-refused, match-refused, init-refused, Follows, store-follows, remove-follows, match-follows, full-exactly}
+
+-- the same reply, and as many lent bytes as before, which mean what the plain map became
+pub record Simulates (lent : Bytes) (p : Step Map) (o : Step Bytes) : Type 0 where
+  pub reply : o .reply ≡ p .reply
+  pub means : registerOf (o .next) ≡ some (p .next)
+  pub long : length (o .next) ≡ length lent
+  pub refused-leaves : ¬ (refusal-of (o .reply) ≡ 0) → o .next ≡ lent
+
+changed-simulates : (lent : Bytes) (c : Changed Map) (o : Changed Bytes) → Follows lent c o → Simulates lent (changed c) (changed o)
+unfolding refusal-of
+changed-simulates lent c o f = record { reply = ap numbered (f .number); means = f .means; long = f .long; refused-leaves = λ n. f .refused-leaves (λ z. n (f .number ∙ z)) }
+
+-- "It must answer as a plain map from number to table does", each call
+pub step-simulates : (lent : Bytes) (m : Map) → registerOf lent ≡ some m → (c : Call) → Simulates lent (map-step (capacity lent) m c) (register-step lent c)
+unfolding map-step register-step refusal-of
+step-simulates lent m e init =
+    let (n, f, l) = init-means lent (omega (arith, meant-within lent m e)) in
+    record { reply = ap numbered n; means = f; long = l; refused-leaves = λ z. absurd (z n) }
+step-simulates lent m e (store k t) = changed-simulates lent _ _ (store-follows lent m e k t)
+step-simulates lent m e (remove k) = changed-simulates lent _ _ (remove-follows lent m e k)
+step-simulates lent m e (match k label scratch parts budget) =
+    record { reply = ap matched (match-follows lent m e k label scratch parts budget); means = e; long = refl; refused-leaves = λ z. refl }
+
+same-capacity : (a b : Bytes) → length a ≡ length b → capacity a ≡ capacity b
+same-capacity a b h = omega arith
+
+-- and all calls in turn: the replies are the plain map's, and the lent bytes then mean what it then is
+pub simulation : (lent : Bytes) (m : Map) (calls : List Call) → registerOf lent ≡ some m
+    → (replies register-step lent calls ≡ replies (map-step (capacity lent)) m calls)
+    × (registerOf (after-all register-step lent calls) ≡ some (after-all (map-step (capacity lent)) m calls))
+    × (length (after-all register-step lent calls) ≡ length lent)
+unfolding replies after-all
+simulation lent m [] e = (refl, e, refl)
+simulation lent m (c ∷ cs) e =
+    let s = step-simulates lent m e c in
+    let next : Bytes = register-step lent c .next in
+    let (r, a, l) = simulation next (map-step (capacity lent) m c .next) cs (s .means) in
+    let n : capacity next ≡ capacity lent = same-capacity next lent (s .long) in
+    (rw (s .reply, r, n), rw (a, n), l ∙ s .long)
+
+-- from any bytes that are enough, whatever they hold
+pub simulation-from-init : (lent : Bytes) (calls : List Call) → overhead ≤ length lent
+    → (replies register-step lent (init ∷ calls) ≡ replies (map-step (capacity lent)) empty (init ∷ calls))
+    × (registerOf (after-all register-step lent (init ∷ calls)) ≡ some (after-all (map-step (capacity lent)) empty (init ∷ calls)))
+    × (length (after-all register-step lent (init ∷ calls)) ≡ length lent)
+unfolding replies after-all map-step register-step
+simulation-from-init lent calls h =
+    let (n, e, l) = init-means lent h in
+    let next : Bytes = initOf lent .after in
+    let (r, a, l′) = simulation next empty calls e in
+    let c : capacity next ≡ capacity lent = same-capacity next lent l in
+    (ap₂ (λ (x : Reply) (xs : List Reply). x ∷ xs) (ap numbered n) (r ∙ ap (λ x. replies (map-step x) empty calls) c), a ∙ ap (λ x. some (after-all (map-step x) empty calls)) c, l′ ∙ l)
+
+-- "so freed room is used again": after any stores and removals 17 asks for the lengths that are then kept, and for nothing else
+pub room-after : (lent : Bytes) (m : Map) (calls : List Call) → registerOf lent ≡ some m → (k : ℕ) (t : Bytes) → is-table t ≡ true
+    → (storeOf (after-all register-step lent calls) k t .number ≡ FULL) ↔ (capacity lent < total (set (after-all (map-step (capacity lent)) m calls) k t))
+room-after lent m calls e k t g =
+    let (r, a, l) = simulation lent m calls e in
+    let now : Bytes = after-all register-step lent calls in
+    let c : capacity now ≡ capacity lent = same-capacity now lent l in
+    rw c at (full-exactly now (after-all (map-step (capacity lent)) m calls) a k t g)
+
+-- ---- any lent bytes
+
+-- where they mean no map: 18 and all stays, or it is starting empty
+none-step : (lent : Bytes) → registerOf lent ≡ none → (c : Call)
+    → ((refusal-of (register-step lent c .reply) ≡ REGISTER) × (register-step lent c .next ≡ lent)) ⊎ ((refusal-of (register-step lent c .reply) ≡ 0) × (registerOf (register-step lent c .next) ≡ some empty))
+unfolding register-step refusal-of ended
+none-step lent e init = ⊎-elim (λ h. let (n, f, l) = init-means lent h in inr (n, f)) (λ h. inl (refused (init-refused lent h))) (le-or-lt overhead (length lent))
+  where
+    refused : initOf lent ≡ record { number = REGISTER; after = lent } → (initOf lent .number ≡ REGISTER) × (initOf lent .after ≡ lent)
+    refused f = (ap (λ (o : Changed Bytes). o .number) f, ap (λ (o : Changed Bytes). o .after) f)
+none-step lent e (store k t) = let f = store-refused lent e k t in inl (ap (λ (o : Changed Bytes). o .number) f, ap (λ (o : Changed Bytes). o .after) f)
+none-step lent e (remove k) = let f = remove-refused lent e k in inl (ap (λ (o : Changed Bytes). o .number) f, ap (λ (o : Changed Bytes). o .after) f)
+none-step lent e (match k label scratch parts budget) = inl (ap (λ (o : MatchOutput). o .answer .number) (match-refused lent e k label scratch parts budget), refl)
+
+module _ (lent : Bytes) (c : Call) where
+  -- "Every call not refused with 9 or 18 leaves a good buffer"
+  pub good-after : ¬ (refusal-of (register-step lent c .reply) ≡ REGISTER) → (m : Map) × (registerOf (register-step lent c .next) ≡ some m)
+  good-after n = go (registerOf lent) refl
+    where
+      go : (o : Option Map) → registerOf lent ≡ o → (m : Map) × (registerOf (register-step lent c .next) ≡ some m)
+      go (some m) e = (map-step (capacity lent) m c .next, step-simulates lent m e c .means)
+      go none e = ⊎-elim (λ (r, l). absurd (n r)) (λ (r, f). (empty, f)) (none-step lent e c)
+
+  -- "Refusals change nothing in the register"
+  pub refused-leaves : ¬ (refusal-of (register-step lent c .reply) ≡ 0) → register-step lent c .next ≡ lent
+  refused-leaves n = go (registerOf lent) refl
+    where
+      go : (o : Option Map) → registerOf lent ≡ o → register-step lent c .next ≡ lent
+      go (some m) e = step-simulates lent m e c .refused-leaves n
+      go none e = ⊎-elim (λ (r, l). l) (λ (r, f). absurd (n r)) (none-step lent e c)
