@@ -155,7 +155,7 @@ pub extern "C" fn mpt_register_match(
     if answer.len() < AREA_SIZE {
         return refusal::ANSWER;
     }
-    let a = match_number(reg, number, label, scratch, parts, budget);
-    put_answer(answer, 0, a.value, a.trials);
-    a.number
+    let matched = match_number(reg, number, label, scratch, parts, budget);
+    put_answer(answer, 0, matched.value, matched.trials);
+    matched.number
 }

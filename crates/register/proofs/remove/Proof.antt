@@ -18,7 +18,7 @@ returns-3 : tie.Need-returns-3
 returns-3 c =
     let after-put = c .before .before in
     let after-if1 = after-put .before .before .before in
-    removed-done (sited (after-if1 .before .before)) (after-if1 .if1 .left) _ (after-put .put-table .ensures)
+    removed-done (sited (after-if1 .before .before)) (λ e. after-if1 .if1 .left (omega (arith, e))) _ (after-put .put-table .ensures)
 
 pub remove-spec : {M : Type 1} → statement M
 remove-spec =
@@ -28,7 +28,7 @@ remove-spec =
     (search needs)
     (search needs)
     (search needs)
-    (λ c. removed-missing (sited (c .before .before)) (c .if1 .taken))
+    (λ c. removed-missing (sited (c .before .before)) (omega (arith, c .if1 .taken)))
     (λ c. omega (arith, lent-places (sited (c .before .before))))
     (λ c. omega (arith, lent-places (sited (c .before .before))))
     (search needs)

@@ -15,12 +15,12 @@ sited c = record { lies = sym (c .before .at .given .1) ∙ c .before .before .b
 returns : tie.Need-returns
 returns c =
     let after-told = c .before .before .before in
-    stored-full (sited (after-told .before .before .before)) _ (good-table _ _ (sym (after-told .enum-told3 .given .1) ∙ after-told .before .before .test .ensures)) (c .if1 .taken)
+    stored-full (sited (after-told .before .before .before)) _ (good-table _ _ (sym (after-told .enum-told3 .given .1) ∙ after-told .before .before .test .ensures)) (omega (arith, c .if1 .taken))
 
 put-table-requires : tie.Need-put-table-requires
 put-table-requires c κs =
     let after-told = c .before .before .before .before in
-    lent-put (sited (after-told .before .before .before)) _ (kept-table _ (good-table _ _ (sym (after-told .enum-told3 .given .1) ∙ after-told .before .before .test .ensures))) (c .before .if1 .left)
+    lent-put (sited (after-told .before .before .before)) _ (kept-table _ (good-table _ _ (sym (after-told .enum-told3 .given .1) ∙ after-told .before .before .test .ensures))) (omega (arith, c .before .if1 .left))
 
 returns-3 : tie.Need-returns-3
 returns-3 c = stored-bad (sited (c .before .before .before)) _ (bad-table _ (sym (c .enum-told2 .given .1) ∙ c .before .before .test .ensures))
@@ -30,7 +30,7 @@ returns-4 c =
     let after-put = c .before .before in
     let after-if1 = after-put .before .before in
     let after-told = after-if1 .before .before .before in
-    stored-done (sited (after-told .before .before .before)) _ (good-table _ _ (sym (after-told .enum-told3 .given .1) ∙ after-told .before .before .test .ensures)) (after-if1 .if1 .left) _ (after-put .put-table .ensures)
+    stored-done (sited (after-told .before .before .before)) _ (good-table _ _ (sym (after-told .enum-told3 .given .1) ∙ after-told .before .before .test .ensures)) (omega (arith, after-if1 .if1 .left)) _ (after-put .put-table .ensures)
 
 pub store-spec : {M : Type 1} → statement M
 store-spec =
