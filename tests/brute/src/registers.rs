@@ -104,8 +104,8 @@ pub unsafe extern "C" fn mpt_register_init(
     if register_len < TABLES {
         return answer(area, 18, [0; 3]);
     }
-    for at in 0..TABLES {
-        register[at] = OPENING.get(at).copied().unwrap_or(0);
+    for (at, byte) in register[..TABLES].iter_mut().enumerate() {
+        *byte = OPENING.get(at).copied().unwrap_or(0);
     }
     answer(area, 0, [0; 3])
 }
