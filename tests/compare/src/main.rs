@@ -1,6 +1,7 @@
 //! Compares libmpt.a with the second program, call by call.
 //!
-//! compare [COUNT] [--quick] [--seed N] [--dearest TRIALS] [--margin BYTES] [--lines] [--generated]
+//! compare [COUNT] [--sequences COUNT] [--quick] [--seed N] [--dearest TRIALS] [--margin BYTES] [--lines]
+//!         [--generated]
 //! compare --replay [LINE]    without LINE it is read from standard input
 
 mod batches;
@@ -29,6 +30,8 @@ const MARGIN: usize = 61;
 
 struct Options {
     count: u64,
+    /// How many calls are made on registers in sequences; if not named, a tenth of the count.
+    sequences: Option<u64>,
     seed: u64,
     /// The most trials of one match; if not named, the generated ones have a limit of their own.
     dearest: Option<u64>,
@@ -44,6 +47,7 @@ struct Options {
 fn options() -> Options {
     let mut options = Options {
         count: 1_000_000,
+        sequences: None,
         seed: 1,
         dearest: None,
         margin: MARGIN,
@@ -59,6 +63,7 @@ fn options() -> Options {
         };
         match word.as_str() {
             "--quick" => (options.count, options.quick) = (100_000, true),
+            "--sequences" => options.sequences = Some(number()),
             "--seed" => options.seed = number(),
             "--dearest" => options.dearest = Some(number()),
             "--margin" => options.margin = number() as usize,
@@ -198,8 +203,9 @@ fn exceeds(case: &Case, most: u64) -> bool {
 
 /// Makes calls on registers in sequences, each beside a plain map.
 fn make_sequences(tally: &mut Tally, options: &Options) {
-    let mut left = options.count / 10;
-    for index in 0.. {
+    let mut left = options.sequences.unwrap_or(options.count / 10);
+    let mut index = 0;
+    while left > 0 {
         let mut sequence = Sequence::new(options.seed, index);
         let len = left.min(sequence.len);
         for _ in 0..len {
@@ -209,9 +215,7 @@ fn make_sequences(tally: &mut Tally, options: &Options) {
             meant.unwrap_or_else(|found| differ(&found, &case));
         }
         left -= len;
-        if left == 0 {
-            return;
-        }
+        index += 1;
     }
 }
 
