@@ -12,13 +12,15 @@ use std::collections::BTreeMap;
 /// The most trials of a label that is made for a pattern.
 const DEAREST: u64 = 20_000;
 
+type Map = BTreeMap<u8, Vec<u8>>;
+
 pub struct Sequence {
     /// How many calls it has.
     pub len: u64,
     random: Random,
     register: Vec<u8>,
     /// What the register means; None before it is started.
-    map: Option<Register>,
+    map: Option<Map>,
     /// The numbers that are mostly used.
     numbers: Vec<u8>,
     /// Numbers that get a table before all else.
@@ -80,6 +82,28 @@ fn damage_register(random: &mut Random, register: &mut Vec<u8>, numbers: &[u8]) 
     }
 }
 
+/// The answer of a call that writes no output.
+fn numbered(number: u32) -> Expected {
+    Expected {
+        number,
+        ..Expected::default()
+    }
+}
+
+/// Stores a table in a plain map if there is room; the refusal number.
+fn store(map: &mut Map, capacity: usize, number: u8, table: &[u8]) -> u32 {
+    if !second::good(table) {
+        return second::TABLE;
+    }
+    let mut then = map.clone();
+    then.insert(number, table.to_vec());
+    if then.values().map(Vec::len).sum::<usize>() > capacity {
+        return second::FULL;
+    }
+    *map = then;
+    0
+}
+
 impl Sequence {
     pub fn new(seed: u64, index: u64) -> Self {
         let mut random = Random::new(seed << 40 ^ index << 2 ^ 1);
@@ -114,23 +138,13 @@ impl Sequence {
         self.random.pick(&self.numbers)
     }
 
-    /// A number that has a table, if any has one.
-    fn kept_number(&mut self) -> u8 {
-        let tables = self.map.iter().flat_map(|map| map.tables.keys());
-        let kept: Vec<u8> = tables.copied().collect();
-        if kept.is_empty() {
-            self.number()
-        } else {
-            self.random.pick(&kept)
+    /// A number that has a table, if any has one; once in `others` another one.
+    fn kept_number(&mut self, others: usize) -> u8 {
+        let kept: Vec<u8> = self.map.iter().flat_map(BTreeMap::keys).copied().collect();
+        if kept.is_empty() || self.random.once_in(others) {
+            return self.number();
         }
-    }
-
-    /// A table as long as the room that is left for it, or a byte longer.
-    fn fitted(&mut self, number: u8) -> Option<Vec<u8>> {
-        let map = self.map.as_ref()?;
-        let own = map.tables.get(&number).map_or(0, Vec::len);
-        let len = map.capacity - map.kept() + own + self.random.below(2);
-        (18..=518).contains(&len).then(|| table_of_len(len))
+        self.random.pick(&kept)
     }
 
     /// The table of a pattern for a number, with labels for it.
@@ -141,21 +155,29 @@ impl Sequence {
         table_of(tree)
     }
 
-    fn store(&mut self, register: Vec<u8>, number: u8) -> Call {
-        let chosen = if self.unfilled.is_empty() {
-            self.random.below(20)
-        } else {
-            0
+    /// A table as long as the room that is left for it, or a byte longer.
+    fn fitted(&mut self, number: u8) -> Vec<u8> {
+        let others = self.map.iter().flatten().filter(|kept| *kept.0 != number);
+        let kept: usize = others.map(|(_, table)| table.len()).sum();
+        let room = self.register.len().saturating_sub(REGISTER_LEAST + kept);
+        let len = (room + self.random.below(2)).clamp(18, 518);
+        self.labels
+            .insert(number, vec![b"x".repeat(len.min(30) - 18)]);
+        table_of_len(len)
+    }
+
+    /// A store of a table of one atom, of a pattern, of one that just fits, or of one that may not
+    /// be good, by a number below 20.
+    fn store(&mut self, register: Vec<u8>, number: u8, kind: usize) -> Call {
+        let tree = match kind {
+            0..=5 => one_atom(&mut self.random),
+            6..=12 => pattern(&mut self.random),
+            _ => Vec::new(),
         };
-        let some = match chosen {
-            0..=5 => Some(one_atom(&mut self.random)),
-            6..=12 => Some(pattern(&mut self.random)),
-            _ => None,
-        };
-        let table = match some {
-            Some(tree) => self.table_of(number, &tree),
-            None if chosen < 17 => self.fitted(number).unwrap_or_default(),
-            None => table(&mut self.random),
+        let table = match kind {
+            0..=12 => self.table_of(number, &tree),
+            13..=16 => self.fitted(number),
+            _ => table(&mut self.random),
         };
         Call::Store {
             register,
@@ -164,23 +186,23 @@ impl Sequence {
         }
     }
 
+    fn label(&mut self, number: u8) -> Vec<u8> {
+        match self.labels.get(&number) {
+            _ if self.random.once_in(12) => long_label(&mut self.random),
+            Some(labels) => labels[self.random.below(labels.len())].clone(),
+            None => b"x".repeat(self.random.below(9)),
+        }
+    }
+
     fn match_number(&mut self, register: Vec<u8>) -> Call {
-        let kept = !self.random.once_in(12);
-        let number = if kept {
-            self.kept_number()
-        } else {
-            self.number()
-        };
+        let number = self.kept_number(12);
         let label = self.label(number);
         let random = &mut self.random;
-        let tables = self.map.as_ref().map(|map| &map.tables);
-        let table = tables.and_then(|tables| tables.get(&number));
-        let table = table.map_or(&[][..], |table| table);
+        let kept = self.map.as_ref().and_then(|map| map.get(&number));
+        let table = kept.map_or(&[][..], |table| table);
         let atoms = usize::from(*table.get(5).unwrap_or(&1));
-        let mut lens = [
-            work(atoms, label.len().min(255)),
-            second::part_bytes(table).unwrap_or(2),
-        ];
+        let parts = second::part_bytes(table).unwrap_or(2);
+        let mut lens = [work(atoms, label.len().min(255)), parts];
         if random.once_in(3) {
             let at = random.below(2);
             lens[at] = about(random, lens[at]);
@@ -200,44 +222,26 @@ impl Sequence {
         }
     }
 
-    fn label(&mut self, number: u8) -> Vec<u8> {
-        let of_number = self.labels.get(&number);
-        match (self.random.below(12), of_number) {
-            (0, _) => long_label(&mut self.random),
-            (1, _) => b"x".repeat(self.random.below(9)),
-            (_, Some(labels)) => labels[self.random.below(labels.len())].clone(),
-            _ => Vec::new(),
-        }
-    }
-
     fn call(&mut self) -> Call {
         let mut register = self.register.clone();
         if self.map.is_none() && self.random.once_in(4) {
             return Call::Init { register };
         }
-        if self.map.is_some() && !self.unfilled.is_empty() {
-            let number = self.unfilled[self.unfilled.len() - 1];
-            let call = self.store(register, number);
-            self.unfilled.pop();
-            return call;
+        if let Some(number) = self.unfilled.pop_if(|_| self.map.is_some()) {
+            return self.store(register, number, 0);
         }
         // Now and then a call on a damaged copy, which isn't taken over.
         if self.random.once_in(10) {
             damage_register(&mut self.random, &mut register, &self.numbers);
         }
-        match self.random.below(100) {
+        match self.random.below(500) {
             0 => Call::Init { register },
-            1..=44 => {
-                let number = self.number();
-                self.store(register, number)
+            1..=219 => {
+                let (number, kind) = (self.number(), self.random.below(20));
+                self.store(register, number, kind)
             }
-            45..=64 => {
-                let kept = !self.random.once_in(5);
-                let number = if kept {
-                    self.kept_number()
-                } else {
-                    self.number()
-                };
+            220..=319 => {
+                let number = self.kept_number(5);
                 Call::Remove { register, number }
             }
             _ => self.match_number(register),
@@ -259,19 +263,21 @@ impl Sequence {
         }
     }
 
-    /// What the plain map answers; None on no register.
-    fn answer_of_map(&mut self, call: &Call) -> Option<Expected> {
-        let of = |result: Result<(), second::Refusal>| Expected {
-            number: result.map_or_else(|refusal| refusal.number, |()| 0),
-            ..Expected::default()
-        };
-        if let Call::Init { register } = call {
-            self.map = Register::empty(register.len());
+    /// What a plain map answers, and what it becomes.
+    fn answer_of_map(&mut self, call: &Call) -> Expected {
+        let capacity = self.register.len().checked_sub(REGISTER_LEAST);
+        if let Call::Init { .. } = call {
+            self.map = capacity.map(|_| BTreeMap::new());
         }
-        let map = self.map.as_mut()?;
-        Some(match call {
-            Call::Store { number, table, .. } => of(map.store(*number, table)),
-            Call::Remove { number, .. } => of(map.remove(*number)),
+        let (Some(map), Some(capacity)) = (&mut self.map, capacity) else {
+            return numbered(second::REGISTER);
+        };
+        match call {
+            Call::Store { number, table, .. } => numbered(store(map, capacity, *number, table)),
+            Call::Remove { number, .. } => match map.remove(number) {
+                Some(_) => numbered(0),
+                None => numbered(second::MISSING),
+            },
             Call::MatchNumber {
                 number,
                 label,
@@ -279,13 +285,18 @@ impl Sequence {
                 parts_len,
                 budget,
                 ..
-            } => {
-                let (scratch_len, parts_len) = (*scratch_len, *parts_len);
-                let matched = map.match_label(*number, label, scratch_len, parts_len, *budget);
-                Expected::of_match(matched)
-            }
-            _ => Expected::default(),
-        })
+            } => match map.get(number) {
+                Some(table) => Expected::of_match(second::match_label(
+                    table,
+                    label,
+                    *scratch_len,
+                    *parts_len,
+                    *budget,
+                )),
+                None => numbered(second::MISSING),
+            },
+            _ => numbered(0),
+        }
     }
 
     /// Looks whether a call answered as the plain map does and left a register that means it.
@@ -293,10 +304,7 @@ impl Sequence {
         if case.answer_len < 32 || case.call.register() != Some(&self.register) {
             return Ok(());
         }
-        let wanted = self.answer_of_map(&case.call).unwrap_or(Expected {
-            number: second::REGISTER,
-            ..Expected::default()
-        });
+        let wanted = self.answer_of_map(&case.call);
         let same = answered.number == wanted.number
             && answered.values() == wanted.values()
             && answered.writes == wanted.writes;
@@ -306,7 +314,7 @@ impl Sequence {
         for (at, bytes) in &answered.register {
             self.register[*at..][..bytes.len()].copy_from_slice(bytes);
         }
-        if Register::read(&self.register) != self.map {
+        if Register::read(&self.register).map(|register| register.tables) != self.map {
             return Err("the register means another map afterwards".to_string());
         }
         Ok(())
