@@ -1,18 +1,19 @@
 /* M patterns: compile a pattern to a table, match a label or a batch of them against it within a budget, write a table
- * back as source.
+ * back as source, keep tables by number in a register and match by number.
  *
  * Each call returns its refusal number, 0 for none (enum mpt_refusal). No input needs checking first: any bytes may be
  * handed over, and every call ends. A refused call writes nothing but its answer, save MPT_BUDGET, which clears the scratch
  * bytes used as a verdict does.
  *
  * Each slice is lent with its true length; a length of 0 may come with a null pointer. Nothing that a call writes (table,
- * source, scratch, verdicts, parts, answer) may share bytes with anything else lent to that call. Nothing is allocated and
- * the library has no data that is written: calls may run in any number of threads at once, each with its own slices to
- * write.
+ * source, scratch, verdicts, parts, register, answer) may share bytes with anything else lent to that call. Nothing is
+ * allocated and the library has no data that is written: calls may run in any number of threads at once, each with its own
+ * slices to write.
  *
  * The answer area is MPT_ANSWER_SIZE bytes: four little-endian 64-bit numbers, position; table or source length, or verdict
- * (1 yes, 0 no); trials (with MPT_BUDGET the budget); 0. A batch answers 0 in all four. A shorter area gives MPT_ANSWER,
- * looked at before all else, and nothing is written; the bytes after the 32 stay as they were.
+ * (1 yes, 0 no); trials (with MPT_BUDGET the budget); 0. A batch and the calls on a register other than a match answer 0
+ * in all four. A shorter area gives MPT_ANSWER, looked at before all else, and nothing is written; the bytes after the 32 stay
+ * as they were.
  *
  * docs/C.md has the order of refusals, what to do about each, and what is left in the lent slices.
  */
@@ -27,30 +28,34 @@ extern "C" {
 #endif
 
 enum mpt_refusal {
-    MPT_LONG = 1,    /* source over 512 bytes */
-    MPT_FORM = 2,    /* not a pattern */
-    MPT_CODE = 3,    /* a letter other than A C E L N P U as a code */
-    MPT_NUMBER = 4,  /* a repeat number over 9,999 */
-    MPT_RANGE = 5,   /* the second repeat number is less than the first */
-    MPT_ATOMS = 6,   /* a 65th atom */
-    MPT_DEPTH = 7,   /* a group inside 8 others */
-    MPT_ROOM = 8,    /* the lent output is too short */
-    MPT_ANSWER = 9,  /* the answer area is too short */
-    MPT_TABLE = 11,  /* the bytes are not a good table */
-    MPT_LABEL = 12,  /* label over 255 bytes */
-    MPT_WORK = 13,   /* scratch too short: see MPT_SCRATCH_SIZE */
-    MPT_PARTS = 14,  /* parts too short: 2 bytes for each top-level atom */
-    MPT_BUDGET = 15, /* more trials than the budget */
-    MPT_BATCH = 16   /* a batch of over 96 labels, with ends at fault, or with verdicts or parts too short */
+    MPT_LONG = 1,      /* source over 512 bytes */
+    MPT_FORM = 2,      /* not a pattern */
+    MPT_CODE = 3,      /* a letter other than A C E L N P U as a code */
+    MPT_NUMBER = 4,    /* a repeat number over 9,999 */
+    MPT_RANGE = 5,     /* the second repeat number is less than the first */
+    MPT_ATOMS = 6,     /* a 65th atom */
+    MPT_DEPTH = 7,     /* a group inside 8 others */
+    MPT_ROOM = 8,      /* the lent output is too short */
+    MPT_ANSWER = 9,    /* the answer area is too short */
+    MPT_TABLE = 11,    /* the bytes are not a good table */
+    MPT_LABEL = 12,    /* label over 255 bytes */
+    MPT_WORK = 13,     /* scratch too short: see MPT_SCRATCH_SIZE */
+    MPT_PARTS = 14,    /* parts too short: 2 bytes for each top-level atom */
+    MPT_BUDGET = 15,   /* more trials than the budget */
+    MPT_BATCH = 16,    /* a batch of over 96 labels, with ends at fault, or with verdicts or parts too short */
+    MPT_FULL = 17,     /* the tables then kept would be longer than the register has room for */
+    MPT_REGISTER = 18, /* not a good register, or shorter than MPT_REGISTER_MIN */
+    MPT_MISSING = 19   /* the register has no table of that number */
 };
 
 enum {
-    MPT_ANSWER_SIZE = 32,  /* the answer area */
-    MPT_SOURCE_MAX = 512,  /* a source, also one written back */
-    MPT_TABLE_MAX = 1160,  /* a table: 8 + 64 * 10 + 512 */
-    MPT_PARTS_MAX = 128,   /* the parts of 64 atoms */
-    MPT_LABEL_MAX = 255,   /* a label */
-    MPT_BATCH_MAX = 96     /* labels in a batch */
+    MPT_ANSWER_SIZE = 32,   /* the answer area */
+    MPT_SOURCE_MAX = 512,   /* a source, also one written back */
+    MPT_TABLE_MAX = 1160,   /* a table: 8 + 64 * 10 + 512 */
+    MPT_PARTS_MAX = 128,    /* the parts of 64 atoms */
+    MPT_LABEL_MAX = 255,    /* a label */
+    MPT_BATCH_MAX = 96,     /* labels in a batch */
+    MPT_REGISTER_MIN = 1032 /* a register without tables */
 };
 
 /* Scratch for a table of A atoms (its byte 5) and a label of n bytes, n at most MPT_LABEL_MAX: a longer label is refused
@@ -62,6 +67,11 @@ enum {
  * MPT_SCRATCH_SIZE use their arguments more than once. */
 #define MPT_BUDGET_ENOUGH(A, n) \
     ((uint64_t)(A) * ((uint64_t)(n) + 1) * ((uint64_t)(n) + 1) * ((uint64_t)(n) + 2) * ((uint64_t)(n) + 3) / 6)
+
+/* A register that always has room for n tables, n at most 256, whatever their patterns. MPT_REGISTER_MAX, 297,992 bytes, is
+ * never full. */
+#define MPT_REGISTER_SIZE(n) (MPT_REGISTER_MIN + (size_t)(n) * MPT_TABLE_MAX)
+#define MPT_REGISTER_MAX MPT_REGISTER_SIZE(256)
 
 /* The answer's value is the length of the table: lend the other calls that length, not the buffer's. */
 uint32_t mpt_compile(const uint8_t *source, size_t source_len, uint8_t *table, size_t table_len, uint8_t *answer,
@@ -85,6 +95,22 @@ uint32_t mpt_match_batch(const uint8_t *table, size_t table_len, const uint8_t *
                          const uint8_t *ends, size_t ends_len, uint8_t *scratch, size_t scratch_len, uint8_t *verdicts,
                          size_t verdicts_len, uint8_t *parts, size_t parts_len, uint64_t budget, uint8_t *answer,
                          size_t answer_len);
+
+/* A register keeps tables by number, 0 to 255, all of them in the buffer reg. This call starts an empty one there, whatever
+ * its bytes are: it looks at the length only and writes the first MPT_REGISTER_MIN bytes. */
+uint32_t mpt_register_init(uint8_t *reg, size_t reg_len, uint8_t *answer, size_t answer_len);
+
+/* Keeps a copy of the table under the number, in place of the one that stood there. MPT_FULL exactly when the lengths of all
+ * tables then kept would exceed reg_len - MPT_REGISTER_MIN, so freed room is used again. */
+uint32_t mpt_register_store(uint8_t *reg, size_t reg_len, uint8_t number, const uint8_t *table, size_t table_len,
+                            uint8_t *answer, size_t answer_len);
+
+uint32_t mpt_register_remove(uint8_t *reg, size_t reg_len, uint8_t number, uint8_t *answer, size_t answer_len);
+
+/* As mpt_match with the table of the number; the register stays as it is. */
+uint32_t mpt_register_match(const uint8_t *reg, size_t reg_len, uint8_t number, const uint8_t *label, size_t label_len,
+                            uint8_t *scratch, size_t scratch_len, uint8_t *parts, size_t parts_len, uint64_t budget,
+                            uint8_t *answer, size_t answer_len);
 
 /* Number k of the answer area, k from 0 to 3. After MPT_ANSWER the area has no answer. */
 static inline uint64_t mpt_answer_number(const uint8_t *answer, size_t k)
@@ -132,6 +158,9 @@ static inline const char *mpt_refusal_name(uint32_t number)
     case MPT_PARTS: return "PARTS";
     case MPT_BUDGET: return "BUDGET";
     case MPT_BATCH: return "BATCH";
+    case MPT_FULL: return "FULL";
+    case MPT_REGISTER: return "REGISTER";
+    case MPT_MISSING: return "MISSING";
     default: return "UNKNOWN";
     }
 }

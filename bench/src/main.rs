@@ -7,6 +7,7 @@
 //!
 //! bench [--quick]
 //! bench [--quick] --batches    (f) alone
+//! bench [--quick] --registers    (g) alone
 //! bench --lines    the line tool in plain Rust, for the comparison
 
 mod batches;
@@ -15,7 +16,9 @@ mod lines;
 mod matches;
 mod naive;
 mod plain;
+mod plain_registers;
 mod proved;
+mod registers;
 mod rounds;
 mod tables;
 
@@ -30,6 +33,9 @@ fn main() {
     if given("--batches") {
         return batches::batches(rounds);
     }
+    if given("--registers") {
+        return registers::registers(rounds);
+    }
     tables::compiling(rounds);
     tables::writing_back(rounds);
     if quick {
@@ -42,4 +48,5 @@ fn main() {
     }
     lines::lines(rounds);
     batches::batches(rounds);
+    registers::registers(rounds);
 }

@@ -216,7 +216,7 @@ struct Record {
 }
 
 /// A table by its atom count, records and pool.
-struct Table<'a> {
+pub struct Table<'a> {
     atoms: usize,
     records: &'a [[u8; 10]],
     pool: &'a [u8],
@@ -247,7 +247,7 @@ impl Table<'_> {
     }
 
     /// The number of top-level atoms.
-    fn tops(&self) -> usize {
+    pub fn tops(&self) -> usize {
         let mut tops = 1;
         let mut top = 0;
         while !self.record(top).last {
@@ -275,7 +275,7 @@ fn count_len(low: u16, high: u16) -> usize {
 }
 
 /// A good table with the length of its shortest source, or None.
-fn test(bytes: &[u8]) -> Option<(Table<'_>, usize)> {
+pub fn test(bytes: &[u8]) -> Option<(Table<'_>, usize)> {
     let (header, rest) = bytes.split_first_chunk::<8>()?;
     let atoms = usize::from(header[5]);
     let pool_len = usize::from(u16::from_le_bytes([header[6], header[7]]));
@@ -450,7 +450,7 @@ pub type Verdict = (bool, u64);
 
 /// The trials of one question on all stretches: `left` holds i to m in row i, `right` holds
 /// m to j in row j. Each trial adds one; None when the budget has none left for the next.
-trait Trials {
+pub trait Trials {
     fn join(
         left: &[u8],
         right: &[u8],
@@ -581,7 +581,7 @@ fn match_with<T: Trials, const PLACE: usize>(
 }
 
 /// The same with a good table and the bytes of its parts.
-fn match_tested<T: Trials, const PLACE: usize>(
+pub fn match_tested<T: Trials, const PLACE: usize>(
     table: &Table,
     part_bytes: usize,
     label: &[u8],

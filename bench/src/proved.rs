@@ -58,6 +58,38 @@ pub fn match_batch_at<const PLACE: usize>(batch: library::Batch) -> Result<(), p
     answered(number, &answer).map(|_| ())
 }
 
+pub fn register_init(register: &mut [u8]) -> Result<(), plain::Refusal> {
+    let mut answer = [0; 32];
+    let number = library::register_init(register, &mut answer);
+    answered(number, &answer).map(|_| ())
+}
+
+pub fn register_store(register: &mut [u8], number: u8, table: &[u8]) -> Result<(), plain::Refusal> {
+    let mut answer = [0; 32];
+    let refusal = library::register_store(register, number, table, &mut answer);
+    answered(refusal, &answer).map(|_| ())
+}
+
+pub fn register_remove(register: &mut [u8], number: u8) -> Result<(), plain::Refusal> {
+    let mut answer = [0; 32];
+    let refusal = library::register_remove(register, number, &mut answer);
+    answered(refusal, &answer).map(|_| ())
+}
+
+pub fn register_match(
+    register: &[u8],
+    number: u8,
+    label: &[u8],
+    scratch: &mut [u8],
+    parts: &mut [u8],
+    budget: u64,
+) -> Result<plain::Verdict, plain::Refusal> {
+    let mut answer = [0; 32];
+    let refusal =
+        library::register_match(register, number, label, scratch, parts, budget, &mut answer);
+    answered(refusal, &answer).map(|(verdict, trials)| (verdict == 1, trials))
+}
+
 /// Declares the copies of mpt_match and mpt_match_batch that build.rs links, by their placements.
 macro_rules! copies {
     ($($name:ident $batch:ident),*) => {

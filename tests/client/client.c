@@ -1,4 +1,5 @@
-/* A C client of libmpt.a: compiles, matches labels one by one and in batches, writes back, and exits 1 on any surprise.
+/* A C client of libmpt.a: compiles, matches labels one by one, in batches and by numbers of a register, writes back, and
+ * exits 1 on any surprise.
  * cc -std=c99 -pedantic -Wall -Wextra -Wconversion -Werror -I../../include client.c \
  *    ../../target/staticlib/libmpt.a -o client
  * A C++11 compiler takes it too. */
@@ -14,6 +15,7 @@ enum { DIRT = 0xA5 };
 
 static uint8_t table[MPT_TABLE_MAX], source[MPT_SOURCE_MAX], scratch[MPT_SCRATCH_MAX], parts[MPT_PARTS_MAX];
 static uint8_t verdicts[MPT_BATCH_MAX], all_parts[MPT_BATCH_MAX * MPT_PARTS_MAX], answer[MPT_ANSWER_SIZE];
+static uint8_t reg[MPT_REGISTER_SIZE(3)], reg_before[MPT_REGISTER_SIZE(3)];
 
 static void expect(int holds, const char *what)
 {
@@ -95,6 +97,49 @@ static void idle_batch(size_t table_len, struct batch lent, uint32_t number, con
     expect(all_are(all_parts, sizeof all_parts, DIRT), what);
 }
 
+/* What a call on the register other than a match returned and answered. */
+static void on_register(uint32_t found, uint32_t number, const char *what)
+{
+    printf("%s: %s\n", what, mpt_refusal_name(found));
+    expect(found == number, what);
+    answered(0, 0, 0, what);
+}
+
+/* Such a call that was refused, with the register as it was copied before. */
+static void refused_on_register(uint32_t found, uint32_t number, const char *what)
+{
+    on_register(found, number, what);
+    expect(memcmp(reg, reg_before, sizeof reg) == 0, what);
+}
+
+/* Compiles a text and stores its table; the table's length. */
+static size_t store(uint8_t number, const char *text)
+{
+    size_t len = compile(text, 0, 0);
+    on_register(mpt_register_store(reg, sizeof reg, number, table, len, answer, sizeof answer), 0, "a store");
+    return len;
+}
+
+static uint32_t match_number(uint8_t number, const char *label, size_t scratch_len, size_t parts_len, uint64_t budget)
+{
+    memset(scratch, DIRT, sizeof scratch);
+    memset(parts, DIRT, sizeof parts);
+    memcpy(reg_before, reg, sizeof reg);
+    uint32_t found = mpt_register_match(reg, sizeof reg, number, (const uint8_t *)label, strlen(label), scratch,
+                                        scratch_len, parts, parts_len, budget, answer, sizeof answer);
+    printf("match %.60s by number %u: %s, verdict %u\n", label, number, mpt_refusal_name(found),
+           (unsigned)mpt_answer_value(answer));
+    expect(memcmp(reg, reg_before, sizeof reg) == 0, "a register written by a match");
+    return found;
+}
+
+/* The verdict of a match that is lent enough. */
+static int fits_number(uint8_t number, const char *label)
+{
+    expect(match_number(number, label, sizeof scratch, sizeof parts, UINT64_MAX) == 0, "number of a match by number");
+    return mpt_answer_value(answer) == 1;
+}
+
 /* The header's readers, names and sizes on bytes that no call made. */
 static void reading(void)
 {
@@ -109,10 +154,10 @@ static void reading(void)
     expect(mpt_part_begin(three, 1) == 6 && mpt_part_end(three, 1) == 255, "the second part");
     expect(mpt_part_begin(three, 2) == 255 && mpt_part_end(three, 2) == 0xABCD, "a part of two bytes");
 
-    static const char *const names[18] = {"NONE",  "LONG",  "FORM",  "CODE",   "NUMBER",  "RANGE",
-                                          "ATOMS", "DEPTH", "ROOM",  "ANSWER", "UNKNOWN", "TABLE",
-                                          "LABEL", "WORK",  "PARTS", "BUDGET", "BATCH",   "UNKNOWN"};
-    for (uint32_t number = 0; number < 18; number++)
+    static const char *const names[21] = {"NONE",  "LONG",   "FORM",   "CODE",    "NUMBER",   "RANGE",   "ATOMS",
+                                          "DEPTH", "ROOM",   "ANSWER", "UNKNOWN", "TABLE",    "LABEL",   "WORK",
+                                          "PARTS", "BUDGET", "BATCH",  "FULL",    "REGISTER", "MISSING", "UNKNOWN"};
+    for (uint32_t number = 0; number < 21; number++)
         expect(strcmp(mpt_refusal_name(number), names[number]) == 0, "the name of a refusal");
     expect(strcmp(mpt_refusal_name(UINT32_MAX), "UNKNOWN") == 0, "the name of no refusal");
 
@@ -121,6 +166,7 @@ static void reading(void)
     expect(enough[0] == 1 && enough[1] == 1920, "small budgets");
     expect(enough[2] == UINT64_C(46351253504) && enough[3] == UINT64_C(185405014016), "the largest budgets");
     expect(MPT_SCRATCH_MAX == 8650752, "the largest scratch");
+    expect(MPT_REGISTER_SIZE(0) == MPT_REGISTER_MIN && MPT_REGISTER_MAX == 297992, "sizes of registers");
 }
 
 static void compiling(void)
@@ -264,6 +310,81 @@ static void refused_batches(void)
     expect(match_batch(len, lent) == 0 && all_are(verdicts, sizeof verdicts, 0), "96 labels");
 }
 
+static void starting_empty(void)
+{
+    memset(reg, DIRT, sizeof reg);
+    memcpy(reg_before, reg, sizeof reg);
+    const size_t len = compile("2N", 0, 0);
+    refused_on_register(mpt_register_init(reg, MPT_REGISTER_MIN - 1, answer, sizeof answer), MPT_REGISTER, "1,031 bytes");
+    refused_on_register(mpt_register_store(reg, sizeof reg, 0, table, len, answer, sizeof answer), MPT_REGISTER,
+                        "a store before the start");
+    refused_on_register(mpt_register_remove(reg, sizeof reg, 0, answer, sizeof answer), MPT_REGISTER,
+                        "a removal before the start");
+    expect(match_number(0, "42", 0, 0, 0) == MPT_REGISTER, "a match before the start");
+    on_register(mpt_register_init(reg, sizeof reg, answer, sizeof answer), 0, "the start");
+    expect(memcmp(reg, "MPR\1\0\0\0", 8) == 0 && all_are(reg + 8, MPT_REGISTER_MIN - 8, 0), "an empty register");
+    expect(all_are(reg + MPT_REGISTER_MIN, sizeof reg - MPT_REGISTER_MIN, DIRT), "bytes after an empty register");
+}
+
+/* Three patterns kept by number, one of them replaced and one removed. */
+static void registers(void)
+{
+    const uint64_t enough = MPT_BUDGET_ENOUGH(2, 7);
+    starting_empty();
+    store(255, "1U2N1\"-\"1.6N");
+    store(0, "2N");
+    size_t len = store(7, "1.6N1.2N");
+    expect(memcmp(reg + MPT_REGISTER_MIN + 18, table, len) == 0, "the second table of three");
+    expect(match(len, "1234567", MPT_SCRATCH_SIZE(2, 7), 4, enough) == 0, "a match without the register");
+    uint64_t trials = mpt_answer_trials(answer);
+    expect(match_number(7, "1234567", MPT_SCRATCH_SIZE(2, 7), 4, enough) == 0, "a match by number");
+    answered(0, 1, trials, "answer of a match by number");
+    expect(memcmp(parts, "\6\0\7\0", 4) == 0 && all_are(parts + 4, sizeof parts - 4, DIRT), "parts by number");
+    expect(all_are(scratch, MPT_SCRATCH_SIZE(2, 7), 0), "scratch of a match by number not zero");
+    expect(match_number(7, "1234567", MPT_SCRATCH_SIZE(2, 7), 4, trials - 1) == MPT_BUDGET, "a budget one short");
+    answered(0, 0, trials - 1, "answer of a budget one short");
+    expect(fits_number(255, "S24-012345") && fits_number(0, "42") && !fits_number(0, "421"), "three patterns");
+
+    store(0, "3N1\".\"");
+    expect(!fits_number(0, "42") && fits_number(0, "421."), "a pattern that was replaced");
+    expect(fits_number(7, "1234567") && fits_number(255, "S24-012345"), "the patterns beside it");
+
+    on_register(mpt_register_remove(reg, sizeof reg, 7, answer, sizeof answer), 0, "a removal");
+    memcpy(reg_before, reg, sizeof reg);
+    refused_on_register(mpt_register_remove(reg, sizeof reg, 7, answer, sizeof answer), MPT_MISSING, "removed twice");
+    expect(match_number(7, "1234567", 0, 0, 0) == MPT_MISSING, "a match of a number that was removed");
+    answered(0, 0, 0, "answer of a missing number");
+    expect(fits_number(0, "421.") && fits_number(255, "S24-012345"), "the patterns that are left");
+}
+
+/* A register with no byte to spare, and one that isn't good. */
+static void refused_registers(void)
+{
+    starting_empty();
+    size_t len = store(3, "2N"), full = MPT_REGISTER_MIN + len;
+    memcpy(reg_before, reg, sizeof reg);
+    refused_on_register(mpt_register_store(reg, full, 4, table, len, answer, sizeof answer), MPT_FULL, "a second table");
+    refused_on_register(mpt_register_store(reg, full, 4, table, len - 1, answer, sizeof answer), MPT_TABLE,
+                        "a table cut short and no room");
+    refused_on_register(mpt_register_store(reg, full - 1, 4, table, len - 1, answer, sizeof answer), MPT_REGISTER,
+                        "a register cut short");
+    expect(match_number(3, "42", 0, 0, 0) == MPT_WORK, "a match by number without scratch");
+    expect(match_number(3, "42", MPT_SCRATCH_SIZE(1, 2), 0, 0) == MPT_PARTS, "a match by number without parts");
+    len = compile("3A", 0, 0);
+    on_register(mpt_register_store(reg, full, 3, table, len, answer, sizeof answer), 0, "a table of the same length");
+    on_register(mpt_register_remove(reg, full, 3, answer, sizeof answer), 0, "a removal from a full register");
+    on_register(mpt_register_store(reg, full, 4, table, len, answer, sizeof answer), 0, "a store in freed room");
+
+    reg[MPT_REGISTER_MIN]++;
+    memcpy(reg_before, reg, sizeof reg);
+    refused_on_register(mpt_register_store(reg, sizeof reg, 4, table, len, answer, sizeof answer), MPT_REGISTER,
+                        "a bad table in the register");
+    refused_on_register(mpt_register_remove(reg, sizeof reg, 4, answer, sizeof answer), MPT_REGISTER,
+                        "a bad table in the register");
+    expect(match_number(5, "42", 0, 0, 0) == MPT_REGISTER, "a bad table in the register");
+    on_register(mpt_register_init(reg, sizeof reg, answer, sizeof answer), 0, "a start over a bad register");
+}
+
 /* 64 atoms in 512 bytes, a label of 255: the header's sizes suffice; source, scratch or parts a byte less don't. */
 static void largest(void)
 {
@@ -317,8 +438,14 @@ static void short_answers(void)
     memset(scratch, DIRT, sizeof scratch);
     memset(verdicts, DIRT, sizeof verdicts);
     memset(parts, DIRT, sizeof parts);
+    memset(reg, DIRT, sizeof reg);
     for (size_t len = 0; len < MPT_ANSWER_SIZE; len++) {
         memset(answer, DIRT, sizeof answer);
+        expect(mpt_register_init(reg, sizeof reg, answer, len) == MPT_ANSWER, "a short answer area");
+        expect(mpt_register_store(reg, sizeof reg, 0, table, 18, answer, len) == MPT_ANSWER, "a short answer area");
+        expect(mpt_register_remove(reg, sizeof reg, 0, answer, len) == MPT_ANSWER, "a short answer area");
+        expect(mpt_register_match(reg, sizeof reg, 0, NULL, 0, scratch, 6, parts, 2, 0, answer, len) == MPT_ANSWER,
+               "a short answer area");
         expect(mpt_compile((const uint8_t *)"2N", 2, table, 18, answer, len) == MPT_ANSWER, "a short answer area");
         expect(mpt_write_back(table, 18, source, 2, answer, len) == MPT_ANSWER, "a short answer area");
         expect(mpt_match(table, 18, NULL, 0, scratch, 6, parts, 2, 0, answer, len) == MPT_ANSWER,
@@ -328,6 +455,7 @@ static void short_answers(void)
         expect(all_are(answer, sizeof answer, DIRT), "a short answer area written");
         expect(all_are(table, sizeof table, DIRT), "a table written by refusal 9");
     }
+    expect(all_are(reg, sizeof reg, DIRT), "a register written by refusal 9");
     expect(all_are(scratch, sizeof scratch, DIRT), "scratch written by refusal 9");
     expect(all_are(verdicts, sizeof verdicts, DIRT) && all_are(parts, sizeof parts, DIRT), "outputs written by refusal 9");
 }
@@ -360,6 +488,12 @@ static void null_pointers(void)
            "no table for a batch");
     expect(mpt_match_batch(table, len, NULL, 0, NULL, 0, NULL, 0, NULL, 0, NULL, 0, 0, answer, sizeof answer) == 0,
            "a batch of nothing");
+    expect(mpt_register_init(NULL, 0, answer, sizeof answer) == MPT_REGISTER, "no register");
+    expect(mpt_register_store(NULL, 0, 0, NULL, 0, answer, sizeof answer) == MPT_REGISTER, "no register");
+    expect(mpt_register_remove(NULL, 0, 0, answer, sizeof answer) == MPT_REGISTER, "no register");
+    expect(mpt_register_match(NULL, 0, 0, NULL, 0, NULL, 0, NULL, 0, 0, answer, sizeof answer) == MPT_REGISTER,
+           "no register");
+    expect(mpt_register_init(NULL, 0, NULL, 0) == MPT_ANSWER, "no answer area");
     expect(mpt_compile(NULL, 0, NULL, 0, NULL, 0) == MPT_ANSWER, "no answer area");
     expect(mpt_write_back(NULL, 0, NULL, 0, NULL, 0) == MPT_ANSWER, "no answer area");
     expect(mpt_match(NULL, 0, NULL, 0, NULL, 0, NULL, 0, 0, NULL, 0) == MPT_ANSWER, "no answer area");
@@ -374,6 +508,8 @@ int main(void)
     matching();
     batches();
     refused_batches();
+    registers();
+    refused_registers();
     largest();
     writing_back();
     short_answers();

@@ -5,11 +5,15 @@
 use std::path::PathBuf;
 use std::process::Command;
 
-const FUNCTIONS: [&str; 4] = [
+const FUNCTIONS: [&str; 8] = [
     "mpt_compile",
     "mpt_write_back",
     "mpt_match",
     "mpt_match_batch",
+    "mpt_register_init",
+    "mpt_register_store",
+    "mpt_register_remove",
+    "mpt_register_match",
 ];
 
 fn run(command: &mut Command) {

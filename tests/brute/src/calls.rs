@@ -4,7 +4,7 @@ use crate::pattern::{from_table, read, size, to_source, to_table, Atom, Matcher,
 use std::slice::{from_raw_parts, from_raw_parts_mut};
 
 /// A lent input; null stands for no bytes.
-unsafe fn input<'a>(start: *const u8, len: usize) -> &'a [u8] {
+pub(crate) unsafe fn input<'a>(start: *const u8, len: usize) -> &'a [u8] {
     if len == 0 {
         &[]
     } else {
@@ -12,7 +12,7 @@ unsafe fn input<'a>(start: *const u8, len: usize) -> &'a [u8] {
     }
 }
 
-unsafe fn output<'a>(start: *mut u8, len: usize) -> &'a mut [u8] {
+pub(crate) unsafe fn output<'a>(start: *mut u8, len: usize) -> &'a mut [u8] {
     if len == 0 {
         &mut []
     } else {
@@ -21,7 +21,7 @@ unsafe fn output<'a>(start: *mut u8, len: usize) -> &'a mut [u8] {
 }
 
 /// Writes the answer area and gives the refusal number.
-fn answer(area: &mut [u8], number: u32, values: [u64; 3]) -> u32 {
+pub(crate) fn answer(area: &mut [u8], number: u32, values: [u64; 3]) -> u32 {
     for (at, value) in values.into_iter().chain([0]).enumerate() {
         area[8 * at..8 * at + 8].copy_from_slice(&value.to_le_bytes());
     }
@@ -121,7 +121,7 @@ pub unsafe extern "C" fn mpt_match(
 }
 
 /// Answers one label by its number and the values of its answer.
-fn match_one(
+pub(crate) fn match_one(
     pattern: &[Atom],
     label: &[u8],
     scratch: &mut [u8],

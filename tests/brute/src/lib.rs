@@ -3,5 +3,9 @@
 
 mod calls;
 mod pattern;
+mod registers;
 
 pub use calls::{mpt_compile, mpt_match, mpt_match_batch, mpt_write_back};
+pub use registers::{
+    mpt_register_init, mpt_register_match, mpt_register_remove, mpt_register_store,
+};

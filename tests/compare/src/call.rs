@@ -33,6 +33,26 @@ pub enum Call {
         budget: u64,
     },
     Batch(Batch),
+    Init {
+        register: Vec<u8>,
+    },
+    Store {
+        register: Vec<u8>,
+        number: u8,
+        table: Vec<u8>,
+    },
+    Remove {
+        register: Vec<u8>,
+        number: u8,
+    },
+    MatchNumber {
+        register: Vec<u8>,
+        number: u8,
+        label: Vec<u8>,
+        scratch_len: usize,
+        parts_len: usize,
+        budget: u64,
+    },
 }
 
 impl Call {
@@ -42,16 +62,50 @@ impl Call {
             Call::WriteBack { .. } => "write_back",
             Call::Match { .. } => "match",
             Call::Batch(_) => "batch",
+            Call::Init { .. } => "init",
+            Call::Store { .. } => "store",
+            Call::Remove { .. } => "remove",
+            Call::MatchNumber { .. } => "match_number",
         }
     }
 
-    /// The slices that are only read, in the order of the C call.
-    pub fn inputs(&self) -> Vec<&[u8]> {
+    /// The slices with given bytes, in the order of the C call: a register, which may be written,
+    /// and those that are only read.
+    pub fn inputs(&self) -> Vec<(&'static str, &[u8])> {
         match self {
-            Call::Compile { source, .. } => vec![source],
-            Call::WriteBack { table, .. } => vec![table],
-            Call::Match { table, label, .. } => vec![table, label],
-            Call::Batch(batch) => vec![&batch.table, &batch.labels, &batch.ends],
+            Call::Compile { source, .. } => vec![("source", source)],
+            Call::WriteBack { table, .. } => vec![("table", table)],
+            Call::Match { table, label, .. } => vec![("table", table), ("label", label)],
+            Call::Batch(batch) => vec![
+                ("table", &batch.table),
+                ("labels", &batch.labels),
+                ("ends", &batch.ends),
+            ],
+            Call::Init { register } | Call::Remove { register, .. } => {
+                vec![("register", register)]
+            }
+            Call::Store {
+                register, table, ..
+            } => vec![("register", register), ("table", table)],
+            Call::MatchNumber {
+                register, label, ..
+            } => vec![("register", register), ("label", label)],
+        }
+    }
+
+    /// The register lent.
+    pub fn register(&self) -> Option<&[u8]> {
+        let first = self.inputs()[0];
+        (first.0 == "register").then_some(first.1)
+    }
+
+    /// The number of a pattern in a register.
+    fn number(&self) -> Option<u8> {
+        match *self {
+            Call::Store { number, .. }
+            | Call::Remove { number, .. }
+            | Call::MatchNumber { number, .. } => Some(number),
+            _ => None,
         }
     }
 
@@ -64,18 +118,26 @@ impl Call {
                 scratch_len,
                 parts_len,
                 ..
+            }
+            | Call::MatchNumber {
+                scratch_len,
+                parts_len,
+                ..
             } => vec![("scratch", *scratch_len), ("parts", *parts_len)],
             Call::Batch(batch) => vec![
                 ("scratch", batch.scratch_len),
                 ("verdicts", batch.verdicts_len),
                 ("parts", batch.parts_len),
             ],
+            Call::Init { .. } | Call::Store { .. } | Call::Remove { .. } => Vec::new(),
         }
     }
 
     fn budget(&self) -> Option<u64> {
         match *self {
-            Call::Match { budget, .. } | Call::Batch(Batch { budget, .. }) => Some(budget),
+            Call::Match { budget, .. }
+            | Call::Batch(Batch { budget, .. })
+            | Call::MatchNumber { budget, .. } => Some(budget),
             _ => None,
         }
     }
@@ -83,7 +145,7 @@ impl Call {
     /// The labels that are matched, each by itself.
     pub fn labels(&self) -> Vec<&[u8]> {
         match self {
-            Call::Match { label, .. } => vec![label],
+            Call::Match { label, .. } | Call::MatchNumber { label, .. } => vec![label],
             Call::Batch(batch) => second::cut(&batch.labels, &batch.ends).unwrap_or_default(),
             _ => Vec::new(),
         }
@@ -118,8 +180,11 @@ fn from_hex(text: &str) -> Option<Vec<u8>> {
 impl fmt::Display for Case {
     fn fmt(&self, f: &mut fmt::Formatter) -> fmt::Result {
         write!(f, "{}", self.call.name())?;
-        for input in self.call.inputs() {
+        for (_, input) in self.call.inputs() {
             write!(f, " {}", hex(input))?;
+        }
+        if let Some(number) = self.call.number() {
+            write!(f, " {number}")?;
         }
         for (_, len) in self.call.outputs() {
             write!(f, " {len}")?;
@@ -169,6 +234,31 @@ impl Words<'_> {
                 parts_len: self.number()?,
                 budget: self.number()?,
             }),
+            name => return self.register_call(name),
+        })
+    }
+
+    fn register_call(&mut self, name: &str) -> Option<Call> {
+        let register = self.bytes()?;
+        Some(match name {
+            "init" => Call::Init { register },
+            "store" => Call::Store {
+                register,
+                table: self.bytes()?,
+                number: self.number()?,
+            },
+            "remove" => Call::Remove {
+                register,
+                number: self.number()?,
+            },
+            "match_number" => Call::MatchNumber {
+                register,
+                label: self.bytes()?,
+                number: self.number()?,
+                scratch_len: self.number()?,
+                parts_len: self.number()?,
+                budget: self.number()?,
+            },
             _ => return None,
         })
     }

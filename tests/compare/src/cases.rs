@@ -9,7 +9,7 @@ use generate::sources::{mutate, source};
 use generate::{Atom, Random};
 
 /// A length about the one needed: mostly enough, at times one short.
-fn about(random: &mut Random, needed: usize) -> usize {
+pub fn about(random: &mut Random, needed: usize) -> usize {
     match random.below(12) {
         0..=4 => needed,
         5..=6 => needed.saturating_sub(1),
@@ -47,7 +47,7 @@ fn atoms_of(tree: &[Atom]) -> Vec<&Atom> {
 }
 
 /// A label near the pattern, at most as long as `most` trials allow.
-fn near_label(random: &mut Random, tree: &[Atom], most: u64) -> Vec<u8> {
+pub fn near_label(random: &mut Random, tree: &[Atom], most: u64) -> Vec<u8> {
     let mut label = Vec::new();
     sample(random, tree, &mut label);
     if most > 200_000 {
@@ -72,13 +72,13 @@ fn shortened(mut label: Vec<u8>, tree: &[Atom], most: u64) -> Vec<u8> {
 }
 
 /// A label of 200 to 300 bytes.
-fn long_label(random: &mut Random) -> Vec<u8> {
+pub fn long_label(random: &mut Random) -> Vec<u8> {
     let len = random.between(200, 300);
     (0..len).map(|_| random.pick(b"12a")).collect()
 }
 
 /// A budget about the count of trials of one label.
-fn budget_about(random: &mut Random, table: &[u8], label: &[u8]) -> u64 {
+pub fn budget_about(random: &mut Random, table: &[u8], label: &[u8]) -> u64 {
     let exact = second::match_label(table, label, usize::MAX, usize::MAX, u64::MAX).trials;
     match random.below(12) {
         0..=4 => exact,

@@ -14,6 +14,9 @@ fn same<T: PartialEq + fmt::Display>(name: &str, found: T, wanted: T) -> Result<
 }
 
 fn make(call: &Call, inputs: &mut [Lent], outputs: &mut [Lent], answer: &mut [u8]) -> u32 {
+    if call.register().is_some() {
+        return make_on_register(call, inputs, outputs, answer);
+    }
     match (call, inputs, outputs) {
         (Call::Compile { .. }, [source], [table]) => {
             library::compile(source.bytes(), table.bytes(), answer)
@@ -40,6 +43,35 @@ fn make(call: &Call, inputs: &mut [Lent], outputs: &mut [Lent], answer: &mut [u8
                 budget: batch.budget,
             };
             library::match_batch(lent, answer)
+        }
+        _ => unreachable!("other slices than the call's"),
+    }
+}
+
+fn make_on_register(
+    call: &Call,
+    inputs: &mut [Lent],
+    outputs: &mut [Lent],
+    answer: &mut [u8],
+) -> u32 {
+    match (call, inputs, outputs) {
+        (Call::Init { .. }, [register], []) => library::register_init(register.bytes(), answer),
+        (Call::Store { number, .. }, [register, table], []) => {
+            library::register_store(register.bytes(), *number, table.bytes(), answer)
+        }
+        (Call::Remove { number, .. }, [register], []) => {
+            library::register_remove(register.bytes(), *number, answer)
+        }
+        (Call::MatchNumber { number, budget, .. }, [register, label], [scratch, parts]) => {
+            library::register_match(
+                register.bytes(),
+                *number,
+                label.bytes(),
+                scratch.bytes(),
+                parts.bytes(),
+                *budget,
+                answer,
+            )
         }
         _ => unreachable!("other slices than the call's"),
     }
@@ -106,7 +138,7 @@ fn check_in_turn(case: &Case, number: u32, left: &[Lent], margin: usize) -> Resu
 /// Makes the call on both sides; gives what both answer, or the first difference.
 pub fn compare(case: &Case, margin: usize) -> Result<Expected, String> {
     let wanted = expected(case);
-    let lend = |bytes: &[u8]| Lent::input(bytes, margin);
+    let lend = |input| Lent::input(input, margin);
     let mut inputs: Vec<Lent> = case.call.inputs().into_iter().map(lend).collect();
     let mut outputs = outputs_of(case, margin);
     let mut answer = Lent::output(("answer", case.answer_len), margin, case.dirt);
@@ -118,8 +150,9 @@ pub fn compare(case: &Case, margin: usize) -> Result<Expected, String> {
     for (at, output) in outputs.iter_mut().enumerate() {
         output.check(wanted.writes.get(at).unwrap_or(&nothing))?;
     }
-    for input in &mut inputs {
-        input.check(&nothing)?;
+    for (at, input) in inputs.iter_mut().enumerate() {
+        // A register is the first.
+        input.check(if at == 0 { &wanted.register } else { &nothing })?;
     }
     if number != second::ANSWER {
         check_in_turn(case, number, &outputs, margin)?;

@@ -13,6 +13,8 @@ pub struct Expected {
     pub trials: u64,
     /// What is written to each output, in their order; none for those that aren't named.
     pub writes: Vec<Writes>,
+    /// What is written to the register.
+    pub register: Writes,
     /// The answers to the labels of a batch.
     pub verdicts: Vec<u8>,
 }
@@ -23,6 +25,14 @@ impl Expected {
         [self.position as u64, self.result, self.trials, 0]
     }
 
+    fn refused(refusal: second::Refusal) -> Self {
+        Expected {
+            number: refusal.number,
+            position: refusal.position,
+            ..Self::default()
+        }
+    }
+
     fn of_bytes(result: Result<Vec<u8>, second::Refusal>) -> Self {
         match result {
             Ok(bytes) => Expected {
@@ -30,22 +40,33 @@ impl Expected {
                 writes: vec![vec![(0, bytes)]],
                 ..Self::default()
             },
-            Err(refusal) => Expected {
-                number: refusal.number,
-                position: refusal.position,
-                ..Self::default()
-            },
+            Err(refusal) => Self::refused(refusal),
         }
     }
 
-    fn of_match(matched: second::Matched) -> Self {
+    /// Of a call on a register that gives the bytes at its start afterwards.
+    fn of_register(result: Result<Vec<u8>, second::Refusal>) -> Self {
+        match result {
+            Ok(bytes) => Expected {
+                register: vec![(0, bytes)],
+                ..Self::default()
+            },
+            Err(refusal) => Self::refused(refusal),
+        }
+    }
+
+    pub fn of_match(matched: second::Matched) -> Self {
         let parts = matched.parts.map(|parts| (0, parts));
+        let writes = match matched.clears {
+            0 => Vec::new(),
+            len => vec![zeros(len), parts.into_iter().collect()],
+        };
         Expected {
             number: matched.number,
             position: matched.position,
             result: u64::from(matched.verdict),
             trials: matched.trials,
-            writes: vec![zeros(matched.clears), parts.into_iter().collect()],
+            writes,
             ..Self::default()
         }
     }
@@ -107,5 +128,36 @@ fn answered(call: &Call) -> Expected {
             batch.parts_len,
             batch.budget,
         )),
+        _ => on_register(call),
+    }
+}
+
+fn on_register(call: &Call) -> Expected {
+    match call {
+        Call::Init { register } => Expected::of_register(second::register_init(register)),
+        Call::Store {
+            register,
+            number,
+            table,
+        } => Expected::of_register(second::register_store(register, *number, table)),
+        Call::Remove { register, number } => {
+            Expected::of_register(second::register_remove(register, *number))
+        }
+        Call::MatchNumber {
+            register,
+            number,
+            label,
+            scratch_len,
+            parts_len,
+            budget,
+        } => Expected::of_match(second::register_match(
+            register,
+            *number,
+            label,
+            *scratch_len,
+            *parts_len,
+            *budget,
+        )),
+        _ => unreachable!("not a call on a register"),
     }
 }

@@ -3,6 +3,7 @@
 use crate::batches::{areas, batches};
 use crate::call::{Call, Case};
 use crate::long::{each_set, long_labels, wide_counts, wrapped_inputs, wrapped_rooms};
+use crate::registers::{register_areas, registers};
 use crate::tables::table_of;
 use generate::{Atom, Body};
 
@@ -64,7 +65,8 @@ fn each_count() -> Vec<Call> {
 }
 
 /// The examples of the papers and what is made of every byte, set, count, short source and changed
-/// table, the long calls and the batches; a quick run has fewer short sources and no count past 32 bits.
+/// table, the long calls, the batches and the registers; a quick run has fewer short sources and no
+/// count past 32 bits.
 pub fn fixed(quick: bool) -> Vec<Case> {
     let short = short_sources(if quick { 4 } else { 5 })
         .into_iter()
@@ -82,6 +84,7 @@ pub fn fixed(quick: bool) -> Vec<Case> {
         .chain(long_labels())
         .chain(wrapped_inputs())
         .chain(batches())
+        .chain(registers())
         .chain(if quick { Vec::new() } else { wide_counts() });
     calls
         .map(|call| Case {
@@ -91,6 +94,7 @@ pub fn fixed(quick: bool) -> Vec<Case> {
         })
         .chain(wrapped_rooms())
         .chain(areas())
+        .chain(register_areas())
         .collect()
 }
 

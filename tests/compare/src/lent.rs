@@ -34,9 +34,9 @@ impl Lent {
         }
     }
 
-    pub fn input(bytes: &[u8], margin: usize) -> Self {
+    pub fn input((name, bytes): (&'static str, &[u8]), margin: usize) -> Self {
         let edge = vec![0xA5; margin];
-        Self::new("input", [&edge, bytes, &edge].concat(), margin)
+        Self::new(name, [&edge, bytes, &edge].concat(), margin)
     }
 
     pub fn output((name, len): (&'static str, usize), margin: usize, dirt: u8) -> Self {
@@ -64,6 +64,9 @@ impl Lent {
     }
 
     fn same_as(&self, wanted: &[u8]) -> Result<(), String> {
+        if self.all == wanted {
+            return Ok(());
+        }
         let pairs = self.all.iter().zip(wanted);
         match pairs
             .enumerate()

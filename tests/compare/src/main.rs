@@ -1,7 +1,8 @@
 //! Compares libmpt.a with the second program, call by call.
 //!
-//! compare [COUNT] [--quick] [--seed N] [--dearest TRIALS] [--margin BYTES] [--lines] [--generated]
-//! compare --replay LINE
+//! compare [COUNT] [--sequences COUNT] [--quick] [--seed N] [--dearest TRIALS] [--margin BYTES] [--lines]
+//!         [--generated]
+//! compare --replay [LINE]    without LINE it is read from standard input
 
 mod batches;
 mod call;
@@ -11,13 +12,17 @@ mod expected;
 mod fixed;
 mod lent;
 mod long;
+mod registers;
+mod sequences;
 mod tables;
 
 use call::{Batch, Call, Case};
 use comparison::compare;
 use expected::Expected;
 use generate::Random;
+use sequences::Sequence;
 use std::collections::BTreeMap;
+use std::io::read_to_string;
 use std::process::exit;
 
 /// Odd, so that no lent slice is aligned.
@@ -25,6 +30,8 @@ const MARGIN: usize = 61;
 
 struct Options {
     count: u64,
+    /// How many calls are made on registers in sequences; if not named, a tenth of the count.
+    sequences: Option<u64>,
     seed: u64,
     /// The most trials of one match; if not named, the generated ones have a limit of their own.
     dearest: Option<u64>,
@@ -40,6 +47,7 @@ struct Options {
 fn options() -> Options {
     let mut options = Options {
         count: 1_000_000,
+        sequences: None,
         seed: 1,
         dearest: None,
         margin: MARGIN,
@@ -55,6 +63,7 @@ fn options() -> Options {
         };
         match word.as_str() {
             "--quick" => (options.count, options.quick) = (100_000, true),
+            "--sequences" => options.sequences = Some(number()),
             "--seed" => options.seed = number(),
             "--dearest" => options.dearest = Some(number()),
             "--margin" => options.margin = number() as usize,
@@ -76,8 +85,12 @@ fn fail(message: &str) -> ! {
     exit(2)
 }
 
-fn replay(line: &str) -> ! {
-    let case = Case::parse(line).unwrap_or_else(|| fail("not a line of a call"));
+fn replay(given: &str) -> ! {
+    let line = match given {
+        "" => read_to_string(std::io::stdin()).unwrap_or_default(),
+        _ => given.to_string(),
+    };
+    let case = Case::parse(&line).unwrap_or_else(|| fail("not a line of a call"));
     match compare(&case, MARGIN) {
         Ok(Expected { number, result, .. }) => println!("same: number {number}, result {result}"),
         Err(difference) => {
@@ -97,42 +110,22 @@ struct Tally {
 }
 
 impl Tally {
-    fn make(&mut self, case: &Case, options: &Options) {
+    /// Makes a call and gives what both sides answer; a difference ends the run.
+    fn make(&mut self, case: &Case, options: &Options) -> Expected {
         if options.lines {
             println!("{case}");
         }
-        match compare(case, options.margin) {
-            Ok(answered) => {
-                let number = answered.number;
-                let kind = match case.call {
-                    Call::Compile { .. } => "compile",
-                    Call::WriteBack { .. } => "write back",
-                    Call::Match { .. } if number > 0 => "match refused",
-                    Call::Match { .. } if answered.result == 1 => "match yes",
-                    Call::Match { .. } => "match no",
-                    Call::Batch(_) => "batch",
-                };
-                *self.calls.entry((kind, number)).or_default() += 1;
-                for verdict in answered.verdicts {
-                    *self.verdicts.entry(verdict).or_default() += 1;
-                }
-            }
-            Err(difference) => {
-                println!("difference: {difference}\n{case}");
-                exit(1)
-            }
+        let answered = compare(case, options.margin).unwrap_or_else(|found| differ(&found, case));
+        let kind = kind_of(&case.call, &answered);
+        *self.calls.entry((kind, answered.number)).or_default() += 1;
+        for verdict in &answered.verdicts {
+            *self.verdicts.entry(*verdict).or_default() += 1;
         }
+        answered
     }
 
     fn print(&self) {
-        for kind in [
-            "compile",
-            "write back",
-            "match yes",
-            "match no",
-            "match refused",
-            "batch",
-        ] {
+        for kind in KINDS {
             let counts = self.calls.iter().filter(|((of, _), _)| *of == kind);
             print_counts(kind, counts.map(|((_, number), count)| (*number, *count)));
         }
@@ -145,6 +138,44 @@ impl Tally {
     }
 }
 
+const KINDS: [&str; 12] = [
+    "compile",
+    "write back",
+    "match yes",
+    "match no",
+    "match refused",
+    "batch",
+    "init",
+    "store",
+    "remove",
+    "match by number yes",
+    "match by number no",
+    "match by number refused",
+];
+
+fn kind_of(call: &Call, answered: &Expected) -> &'static str {
+    let ending = match answered.number {
+        0 if answered.result == 1 => 0,
+        0 => 1,
+        _ => 2,
+    };
+    KINDS[match call {
+        Call::Compile { .. } => 0,
+        Call::WriteBack { .. } => 1,
+        Call::Match { .. } => 2 + ending,
+        Call::Batch(_) => 5,
+        Call::Init { .. } => 6,
+        Call::Store { .. } => 7,
+        Call::Remove { .. } => 8,
+        Call::MatchNumber { .. } => 9 + ending,
+    }]
+}
+
+fn differ(found: &str, case: &Case) -> ! {
+    println!("difference: {found}\n{case}");
+    exit(1)
+}
+
 fn print_counts(name: &str, counts: impl Iterator<Item = (u32, u64)>) {
     let text: Vec<String> = counts
         .map(|(number, count)| format!("{number}: {count}"))
@@ -154,13 +185,38 @@ fn print_counts(name: &str, counts: impl Iterator<Item = (u32, u64)>) {
 
 /// Whether a call matches a label in more trials than `most`.
 fn exceeds(case: &Case, most: u64) -> bool {
-    let (Call::Match { table, .. } | Call::Batch(Batch { table, .. })) = &case.call else {
-        return false;
-    };
+    let ample = usize::MAX;
     let over = |label: &&[u8]| {
-        second::match_label(table, label, usize::MAX, usize::MAX, most).number == second::BUDGET
+        let matched = match &case.call {
+            Call::Match { table, .. } | Call::Batch(Batch { table, .. }) => {
+                second::match_label(table, label, ample, ample, most)
+            }
+            Call::MatchNumber {
+                register, number, ..
+            } => second::register_match(register, *number, label, ample, ample, most),
+            _ => return false,
+        };
+        matched.number == second::BUDGET
     };
     case.call.labels().iter().any(over)
+}
+
+/// Makes calls on registers in sequences, each beside a plain map.
+fn make_sequences(tally: &mut Tally, options: &Options) {
+    let mut left = options.sequences.unwrap_or(options.count / 10);
+    let mut index = 0;
+    while left > 0 {
+        let mut sequence = Sequence::new(options.seed, index);
+        let len = left.min(sequence.len);
+        for _ in 0..len {
+            let case = sequence.next_case();
+            let answered = tally.make(&case, options);
+            let meant = sequence.take_over(&case, &answered);
+            meant.unwrap_or_else(|found| differ(&found, &case));
+        }
+        left -= len;
+        index += 1;
+    }
 }
 
 fn main() {
@@ -179,5 +235,6 @@ fn main() {
         let case = cases::case(&mut random, dearest);
         tally.make(&case, &options);
     }
+    make_sequences(&mut tally, &options);
     tally.print();
 }

@@ -1,5 +1,9 @@
 //! The C functions of libmpt.a, called on slices.
 
+mod registers;
+
+pub use registers::{register_init, register_match, register_remove, register_store};
+
 extern "C" {
     fn mpt_compile(
         source: *const u8,

@@ -1,14 +1,18 @@
-//! The second program: M patterns compiled, written back and matched,
+//! The second program: M patterns compiled, written back, matched and kept in registers,
 //! written from the papers alone to be compared with the main one.
 
 mod batch;
 pub mod line;
 mod matching;
+mod register;
 mod source;
 mod table;
 
 pub use batch::{cut, match_batch, Batch};
 pub use matching::{match_label, part_bytes, Matched};
+pub use register::{
+    register_init, register_match, register_remove, register_store, Register, REGISTER_LEAST,
+};
 pub use source::compile;
 pub use table::{good, write_back};
 
@@ -34,6 +38,9 @@ pub const WORK: u32 = 13;
 pub const PARTS: u32 = 14;
 pub const BUDGET: u32 = 15;
 pub const BATCH: u32 = 16;
+pub const FULL: u32 = 17;
+pub const REGISTER: u32 = 18;
+pub const MISSING: u32 = 19;
 
 pub const SOURCE_MOST: usize = 512;
 pub const ATOMS_MOST: usize = 64;

@@ -17,6 +17,20 @@ pub struct Matched {
     pub clears: usize,
 }
 
+impl Matched {
+    /// A refusal that writes nothing.
+    pub(crate) fn refused(number: u32) -> Self {
+        Matched {
+            number,
+            position: 0,
+            verdict: false,
+            trials: 0,
+            parts: None,
+            clears: 0,
+        }
+    }
+}
+
 /// A set of pairs of places; row i holds the places related to i, a bit each.
 #[derive(Clone)]
 struct Relation(Vec<[u64; 4]>);
@@ -263,36 +277,28 @@ pub fn match_label(
     parts_len: usize,
     budget: u64,
 ) -> Matched {
-    let refused = |number| Matched {
-        number,
-        position: 0,
-        verdict: false,
-        trials: 0,
-        parts: None,
-        clears: 0,
-    };
     if !good(table) {
-        return refused(TABLE);
+        return Matched::refused(TABLE);
     }
     if label.len() > LABEL_MOST {
-        return refused(LABEL);
+        return Matched::refused(LABEL);
     }
     let n = label.len();
     let (records, pool) = decode(table).unwrap();
     let clears = (2 * records.len() + 4) * (n + 1) * (n + 1);
     if scratch_len < clears {
-        return refused(WORK);
+        return Matched::refused(WORK);
     }
     let tops = top_level(&records);
     if parts_len < 2 * tops.len() {
-        return refused(PARTS);
+        return Matched::refused(PARTS);
     }
     let atoms = relations(&records, pool, label);
     let Some(trials) = count_trials(&records, &atoms, n, budget) else {
         return Matched {
             trials: budget,
             clears,
-            ..refused(BUDGET)
+            ..Matched::refused(BUDGET)
         };
     };
     let verdict = atoms[0].rest.has(0, n);

@@ -1,0 +1,389 @@
+//! Fixed calls on registers: every length about the least one, tables that just fit, each byte of
+//! the layout changed, all 256 numbers, what is lent to a match at each limit.
+
+use crate::call::{Call, Case};
+use crate::expected::expected;
+use crate::fixed::changed_tables;
+use crate::sequences::table_of_len;
+use second::{Register, REGISTER_LEAST};
+
+/// The bytes behind the tables.
+const SPARE: u8 = 165;
+
+fn table(source: &[u8]) -> Vec<u8> {
+    second::compile(source, usize::MAX).unwrap()
+}
+
+/// A register that keeps some tables and has some bytes to spare.
+fn register_of(tables: &[(u8, Vec<u8>)], spare: usize) -> Vec<u8> {
+    let map = Register {
+        capacity: usize::MAX,
+        tables: tables.iter().cloned().collect(),
+    };
+    [map.laid_out(), vec![SPARE; spare]].concat()
+}
+
+/// Six tables of different lengths, the least and the greatest number among theirs.
+fn six() -> Vec<(u8, Vec<u8>)> {
+    vec![
+        (0, table(b"1N")),
+        (1, table(b"1\"ab\"")),
+        (2, table(b".2(1N,1\"c\")1A")),
+        (7, table(b"1N")),
+        (128, table(b".E1\"\"")),
+        (255, table(b"1.3AN")),
+    ]
+}
+
+fn init(register: &[u8]) -> Call {
+    let register = register.to_vec();
+    Call::Init { register }
+}
+
+fn store(register: &[u8], number: u8, table: &[u8]) -> Call {
+    Call::Store {
+        register: register.to_vec(),
+        number,
+        table: table.to_vec(),
+    }
+}
+
+fn remove(register: &[u8], number: u8) -> Call {
+    let register = register.to_vec();
+    Call::Remove { register, number }
+}
+
+/// A match under what each of the six tables needs.
+fn matched(register: &[u8], number: u8, label: &[u8]) -> Call {
+    Call::MatchNumber {
+        register: register.to_vec(),
+        number,
+        label: label.to_vec(),
+        scratch_len: 400,
+        parts_len: 4,
+        budget: 5_000,
+    }
+}
+
+/// A store, a replacement, two removals and two matches, of numbers that six tables have or not.
+fn each_call(register: &[u8]) -> Vec<Call> {
+    let (good, longer) = (table(b"2N"), table(b"1\"abcdef\""));
+    vec![
+        init(register),
+        store(register, 3, &good),
+        store(register, 1, &longer),
+        store(register, 3, b"MPT"),
+        remove(register, 0),
+        remove(register, 6),
+        matched(register, 2, b"1ca"),
+        matched(register, 6, b"1"),
+    ]
+}
+
+/// One of the calls that look at a register, each in its turn.
+fn call_in_turn(turn: usize, register: &[u8]) -> Call {
+    match turn % 3 {
+        0 => store(register, 3, &table(b"2N")),
+        1 => remove(register, 1),
+        _ => matched(register, 255, b"a1"),
+    }
+}
+
+/// Buffers of every length about the least, zero, dirty or cut from a register; and lengths that
+/// 16 bits wrap to one too short.
+fn lengths() -> Vec<Call> {
+    let empty = register_of(&[], 200);
+    let mut calls = Vec::new();
+    for len in [
+        0, 1, 3, 7, 8, 9, 1_030, 1_031, 1_032, 1_033, 1_049, 1_050, 1_051,
+    ] {
+        for register in [&empty[..len], &vec![0; len], &vec![255; len]] {
+            calls.extend(each_call(register));
+        }
+    }
+    for more in [0, 1, 1_031, 1_032, 1_050] {
+        calls.extend(each_call(&register_of(&[], 65_536 + more - REGISTER_LEAST)));
+        calls.push(init(&vec![SPARE; 65_536 + more]));
+    }
+    calls
+}
+
+/// Every cut of a register.
+fn cuts() -> Vec<Call> {
+    let register = register_of(&six(), 3);
+    let mut calls = Vec::new();
+    for len in 0..register.len() {
+        for turn in 0..3 {
+            calls.push(call_in_turn(turn, &register[..len]));
+        }
+    }
+    calls
+}
+
+/// Each byte of the opening with each value; each byte of the directory and of the tables with
+/// some others.
+fn changed_bytes() -> Vec<Call> {
+    let register = register_of(&six(), 30);
+    let mut calls = Vec::new();
+    for at in 0..register.len() {
+        let old = register[at];
+        let near = [old.wrapping_add(1), old.wrapping_sub(1), old ^ 128];
+        let values: Vec<u8> = match at {
+            0..8 => (0..=255).collect(),
+            _ => [&near[..], &[0, 1, 2, 18, 127, 255]].concat(),
+        };
+        for (turn, &value) in values.iter().enumerate() {
+            let mut changed = register.clone();
+            changed[at] = value;
+            calls.push(call_in_turn(at + turn, &changed));
+            if turn == 0 {
+                calls.extend(each_call(&changed));
+            }
+        }
+    }
+    calls
+}
+
+/// Lengths of two or three numbers that end before, at or past the end of the buffer, or whose sum
+/// 32 bits wrap to one that fits; each set in a register of two tables of 18 bytes.
+fn summed_lengths() -> Vec<Call> {
+    let small = [0, 1, 17, 18, 19, 35, 36, 37, 40, 41, 54];
+    let large = [1 << 8, 1 << 16, 1 << 24, 1 << 31].map(|more| more + 18);
+    let wrapped = small.map(|len: u32| len.wrapping_neg());
+    let lens = [&small[..], &large, &wrapped, &[65_536, 1 << 31, 1 << 24]].concat();
+    let register = register_of(&[(0, table(b"1N")), (255, table(b"2N"))], 4);
+    let mut calls = Vec::new();
+    let mut with = |fields: &[(usize, u32)]| {
+        let mut changed = register.clone();
+        for (number, len) in fields {
+            changed[8 + 4 * number..][..4].copy_from_slice(&len.to_le_bytes());
+        }
+        (0..3).for_each(|turn| calls.push(call_in_turn(turn, &changed)));
+    };
+    for &first in &lens {
+        for &last in &lens {
+            with(&[(0, first), (255, last)]);
+            with(&[(0, 18), (100, first), (255, last)]);
+        }
+        with(&[(7, first)]);
+    }
+    // 256 times 2^24 is 2^32.
+    for len in [1 << 24, u32::MAX, 18, 1] {
+        let all: Vec<(usize, u32)> = (0..256).map(|number| (number, len)).collect();
+        with(&all);
+        with(&all[1..]);
+    }
+    calls
+}
+
+/// Tables that aren't good or are others, stored and lying in a register.
+fn tables() -> Vec<Call> {
+    let mut calls = Vec::new();
+    for (turn, table) in changed_tables().into_iter().step_by(7).enumerate() {
+        calls.push(store(&register_of(&six(), 100), 4, &table));
+        // A length of 0 stands for no table.
+        let register = register_of(&[six(), vec![(4, table)]].concat(), 20);
+        calls.push(call_in_turn(turn, &register));
+    }
+    let register = register_of(&six(), 70_000);
+    for len in [0, 1, 7, 8, 65_536, 65_554] {
+        let mut table = table(b"1N");
+        table.resize(len, 0);
+        calls.push(store(&register, 4, &table));
+    }
+    calls
+}
+
+/// Tables for a number before, at and after a kept one, in buffers that they just fit and in those
+/// of a byte less or more.
+fn fits() -> Vec<Call> {
+    let lens = [18, 19, 40, 257, 518];
+    let mut calls = Vec::new();
+    for (kept, stored) in lens
+        .iter()
+        .flat_map(|&kept| lens.map(|stored| (kept, stored)))
+    {
+        let alone = register_of(&[(9, table_of_len(kept))], 600);
+        for capacity in [kept.max(stored), kept + stored] {
+            for len in [capacity - 1, capacity, capacity + 1] {
+                let register = &alone[..REGISTER_LEAST + len];
+                for number in [0, 9, 255] {
+                    calls.push(store(register, number, &table_of_len(stored)));
+                }
+            }
+        }
+    }
+    calls
+}
+
+/// A store of a table of some length, or a removal.
+enum Step {
+    Store(u8, usize),
+    Remove(u8),
+}
+
+/// Calls made in turn on one register.
+fn in_turn(mut register: Vec<u8>, steps: &[Step]) -> Vec<Call> {
+    let mut calls = Vec::new();
+    for step in steps {
+        let call = match *step {
+            Step::Store(number, len) => store(&register, number, &table_of_len(len)),
+            Step::Remove(number) => remove(&register, number),
+        };
+        let case = fixed_case(call);
+        for (at, bytes) in expected(&case).register {
+            register[at..][..bytes.len()].copy_from_slice(&bytes);
+        }
+        calls.push(case.call);
+    }
+    calls
+}
+
+/// Room that a removal or a shorter table frees, used again to the last byte.
+fn freed_room() -> Vec<Call> {
+    use Step::{Remove, Store};
+    let steps = [
+        Store(5, 100),
+        Store(200, 100),
+        Store(80, 100),
+        Store(0, 18),
+        Remove(80),
+        Store(0, 101),
+        Store(0, 100),
+        Store(255, 18),
+        Store(200, 30),
+        Store(255, 70),
+        Store(7, 18),
+        Remove(5),
+        Store(7, 100),
+        Remove(5),
+        Store(6, 18),
+        Remove(0),
+        Remove(200),
+        Remove(255),
+        Remove(7),
+        Remove(7),
+        Store(1, 301),
+        Store(1, 300),
+        Store(1, 299),
+        Store(2, 18),
+    ];
+    in_turn(register_of(&[], 300), &steps)
+}
+
+/// All 256 numbers: each stored beside all others, replaced, removed and matched; once with small
+/// tables and no byte to spare, and some of them with tables far past 16 bits.
+fn all_numbers() -> Vec<Call> {
+    let (mut calls, mut small, mut large) = (Vec::new(), Vec::new(), Vec::new());
+    for number in 0..=255 {
+        small.push((number, table(format!("{}N", number % 4).as_bytes())));
+        large.push((number, table_of_len(400 + usize::from(number % 99))));
+    }
+    let (register, far) = (register_of(&small, 0), register_of(&large, 10));
+    for number in 0..=255 {
+        let mut others = small.clone();
+        others.remove(usize::from(number));
+        calls.push(store(&register_of(&others, 18), number, &table(b"2N")));
+        calls.push(store(&register, number, &table(b"1A")));
+        calls.push(store(&register, number, &table(b"1\"a\"")));
+        calls.push(remove(&register, number));
+        calls.push(matched(&register, number, b"12"));
+        if [0, 1, 127, 128, 200, 254, 255].contains(&number) {
+            calls.push(store(&far, number, &table_of_len(18)));
+            calls.push(store(
+                &far,
+                number,
+                &table_of_len(410 + usize::from(number % 99)),
+            ));
+            calls.push(store(
+                &far,
+                number,
+                &table_of_len(411 + usize::from(number % 99)),
+            ));
+            calls.push(remove(&far, number));
+            calls.push(matched(&far, number, b"xx"));
+        }
+    }
+    calls
+}
+
+/// Labels, scratch, parts and budgets about each limit, of numbers that are kept or missing, on
+/// registers that are good or not.
+fn limits_of_matches() -> Vec<Call> {
+    let good = register_of(&six(), 9);
+    let bad = [b"MPS", &good[3..]].concat();
+    let mut calls = Vec::new();
+    for (register, number) in [(&good, 1), (&good, 3), (&good, 255), (&bad, 1)] {
+        for label in [
+            &b""[..],
+            b"ab",
+            b"a1b",
+            &[b'a'; 255],
+            &[b'a'; 256],
+            &[b'a'; 300],
+        ] {
+            let places = label.len() + 1;
+            let work = 6 * places * places;
+            for scratch_len in [0, work - 1, work, work + 9] {
+                for parts_len in [0, 1, 2, 7] {
+                    for budget in [0, 7, 10_000] {
+                        calls.push(Call::MatchNumber {
+                            register: register.to_vec(),
+                            number,
+                            label: label.to_vec(),
+                            scratch_len,
+                            parts_len,
+                            budget,
+                        });
+                    }
+                }
+            }
+        }
+    }
+    calls
+}
+
+fn fixed_case(call: Call) -> Case {
+    Case {
+        call,
+        answer_len: 32,
+        dirt: 1,
+    }
+}
+
+/// Answer areas of every length about the one needed, of calls that are refused or not.
+pub fn register_areas() -> Vec<Case> {
+    let good = register_of(&six(), 30);
+    let full = register_of(&six(), 0);
+    let calls = [
+        each_call(&good),
+        each_call(&full),
+        each_call(&good[..good.len() - 31]),
+    ];
+    let calls = calls.concat();
+    let mut cases = Vec::new();
+    for answer_len in (0..=40).chain([65_536, 65_567, 65_568]) {
+        for call in calls.clone() {
+            cases.push(Case {
+                answer_len,
+                ..fixed_case(call)
+            });
+        }
+    }
+    cases
+}
+
+pub fn registers() -> Vec<Call> {
+    let lists = [
+        lengths(),
+        cuts(),
+        changed_bytes(),
+        summed_lengths(),
+        tables(),
+        fits(),
+        freed_room(),
+        all_numbers(),
+        limits_of_matches(),
+    ];
+    lists.concat()
+}

@@ -1,0 +1,322 @@
+//! Generated calls on a register in sequences, with the plain map that it must mean kept beside.
+
+use crate::call::{Call, Case};
+use crate::cases::{about, budget_about, long_label, near_label};
+use crate::expected::Expected;
+use crate::tables::{table, table_of, work};
+use generate::patterns::{codes, pattern, repeat};
+use generate::{Atom, Body, Random};
+use second::{Register, REGISTER_LEAST};
+use std::collections::BTreeMap;
+
+/// The most trials of a label that is made for a pattern.
+const DEAREST: u64 = 20_000;
+
+type Map = BTreeMap<u8, Vec<u8>>;
+
+pub struct Sequence {
+    /// How many calls it has.
+    pub len: u64,
+    random: Random,
+    register: Vec<u8>,
+    /// What the register means; None before it is started.
+    map: Option<Map>,
+    /// The numbers that are mostly used.
+    numbers: Vec<u8>,
+    /// Numbers that get a table before all else.
+    unfilled: Vec<u8>,
+    /// Labels near the pattern last offered for each number.
+    labels: BTreeMap<u8, Vec<Vec<u8>>>,
+}
+
+/// The bytes of a sequence's register and the number of its calls. Every other sequence is short, at
+/// times on too few bytes; the others have little, some or much room, or a table for every number.
+fn lens(random: &mut Random, index: u64) -> (usize, u64) {
+    let (capacity, calls) = match index % 8 {
+        1 => (random.between(40, 400), 2_000),
+        3 => (random.between(400, 3_000), 2_000),
+        5 => (random.between(3_000, 20_000), 2_000),
+        7 => (random.pick(&[5_000, 20_000, 296_960]), 600),
+        _ if random.once_in(4) => return (random.pick(&[0, 1, 8, 1_031]), 10),
+        _ => (random.pick(&[0, 17, 18, 19, 36, 100, 700, 3_000]), 50),
+    };
+    (REGISTER_LEAST + capacity, calls)
+}
+
+/// A table of `len` bytes, 18 to 518.
+pub fn table_of_len(len: usize) -> Vec<u8> {
+    let body = Body::Literal(vec![b'x'; len - 18]);
+    let (low, high) = (1, Some(1));
+    table_of(&[Atom { low, high, body }])
+}
+
+fn one_atom(random: &mut Random) -> Vec<Atom> {
+    let (low, high) = repeat(random);
+    let body = Body::Codes(codes(random));
+    vec![Atom { low, high, body }]
+}
+
+/// Changes a byte of the opening, of a length or of a table, or the length of the whole.
+fn damage_register(random: &mut Random, register: &mut Vec<u8>, numbers: &[u8]) {
+    if register.len() < REGISTER_LEAST {
+        return register.resize(random.below(1_100), 0);
+    }
+    let field = 8 + 4 * usize::from(random.pick(numbers));
+    let at = random.below(register.len());
+    match random.below(10) {
+        0 => register[random.between(0, 7)] = random.bits() as u8,
+        1..=2 => register[field + random.below(4)] ^= 1 << random.below(8),
+        3 => {
+            let step = random.pick(&[1, 255]);
+            register[field] = register[field].wrapping_add(step);
+        }
+        4 => register[field..field + 4].fill(random.pick(&[0, 255])),
+        5 => register.swap(field, random.between(8, REGISTER_LEAST - 1)),
+        6 => register[at] = random.bits() as u8,
+        7 => register.truncate(at),
+        8 => register.resize(register.len() + random.between(1, 60), 165),
+        _ => {
+            let end = register.len().min(at + random.between(1, 20));
+            register[at..end].rotate_left(1);
+        }
+    }
+}
+
+/// The answer of a call that writes no output.
+fn numbered(number: u32) -> Expected {
+    Expected {
+        number,
+        ..Expected::default()
+    }
+}
+
+/// Stores a table in a plain map if there is room; the refusal number.
+fn store(map: &mut Map, capacity: usize, number: u8, table: &[u8]) -> u32 {
+    if !second::good(table) {
+        return second::TABLE;
+    }
+    let mut then = map.clone();
+    then.insert(number, table.to_vec());
+    if then.values().map(Vec::len).sum::<usize>() > capacity {
+        return second::FULL;
+    }
+    *map = then;
+    0
+}
+
+impl Sequence {
+    pub fn new(seed: u64, index: u64) -> Self {
+        let mut random = Random::new(seed << 40 ^ index << 2 ^ 1);
+        let (register_len, len) = lens(&mut random, index);
+        let count = random.pick(&[3, 8, 40]);
+        let some = (0..count).map(|_| random.bits() as u8);
+        let mut numbers: Vec<u8> = some.chain([0, 255]).collect();
+        let mut unfilled = Vec::new();
+        if index % 8 == 7 {
+            numbers = (0..=255).collect();
+            unfilled = numbers.clone();
+        }
+        for at in 1..unfilled.len() {
+            unfilled.swap(at, random.below(at + 1));
+        }
+        Sequence {
+            len,
+            register: (0..register_len).map(|_| random.bits() as u8).collect(),
+            map: None,
+            numbers,
+            unfilled,
+            labels: BTreeMap::new(),
+            random,
+        }
+    }
+
+    /// A number that is mostly used, at times any.
+    fn number(&mut self) -> u8 {
+        if self.random.once_in(20) {
+            return self.random.bits() as u8;
+        }
+        self.random.pick(&self.numbers)
+    }
+
+    /// A number that has a table, if any has one; once in `others` another one.
+    fn kept_number(&mut self, others: usize) -> u8 {
+        let kept: Vec<u8> = self.map.iter().flat_map(BTreeMap::keys).copied().collect();
+        if kept.is_empty() || self.random.once_in(others) {
+            return self.number();
+        }
+        self.random.pick(&kept)
+    }
+
+    /// The table of a pattern for a number, with labels for it.
+    fn table_of(&mut self, number: u8, tree: &[Atom]) -> Vec<u8> {
+        let near = (0..3).map(|_| near_label(&mut self.random, tree, DEAREST));
+        let labels = near.collect();
+        self.labels.insert(number, labels);
+        table_of(tree)
+    }
+
+    /// A table as long as the room that is left for it, or a byte longer.
+    fn fitted(&mut self, number: u8) -> Vec<u8> {
+        let others = self.map.iter().flatten().filter(|kept| *kept.0 != number);
+        let kept: usize = others.map(|(_, table)| table.len()).sum();
+        let room = self.register.len().saturating_sub(REGISTER_LEAST + kept);
+        let len = (room + self.random.below(2)).clamp(18, 518);
+        self.labels
+            .insert(number, vec![b"x".repeat(len.min(30) - 18)]);
+        table_of_len(len)
+    }
+
+    /// A store of a table of one atom, of a pattern, of one that just fits, or of one that may not
+    /// be good, by a number below 20.
+    fn store(&mut self, register: Vec<u8>, number: u8, kind: usize) -> Call {
+        let tree = match kind {
+            0..=5 => one_atom(&mut self.random),
+            6..=12 => pattern(&mut self.random),
+            _ => Vec::new(),
+        };
+        let table = match kind {
+            0..=12 => self.table_of(number, &tree),
+            13..=16 => self.fitted(number),
+            _ => table(&mut self.random),
+        };
+        Call::Store {
+            register,
+            number,
+            table,
+        }
+    }
+
+    fn label(&mut self, number: u8) -> Vec<u8> {
+        match self.labels.get(&number) {
+            _ if self.random.once_in(12) => long_label(&mut self.random),
+            Some(labels) => labels[self.random.below(labels.len())].clone(),
+            None => b"x".repeat(self.random.below(9)),
+        }
+    }
+
+    fn match_number(&mut self, register: Vec<u8>) -> Call {
+        let number = self.kept_number(12);
+        let label = self.label(number);
+        let random = &mut self.random;
+        let kept = self.map.as_ref().and_then(|map| map.get(&number));
+        let table = kept.map_or(&[][..], |table| table);
+        let atoms = usize::from(*table.get(5).unwrap_or(&1));
+        let parts = second::part_bytes(table).unwrap_or(2);
+        let mut lens = [work(atoms, label.len().min(255)), parts];
+        if random.once_in(3) {
+            let at = random.below(2);
+            lens[at] = about(random, lens[at]);
+        }
+        let budget = if label.len() > 60 {
+            random.below(10_000) as u64
+        } else {
+            budget_about(random, table, &label)
+        };
+        Call::MatchNumber {
+            register,
+            number,
+            label,
+            scratch_len: lens[0],
+            parts_len: lens[1],
+            budget,
+        }
+    }
+
+    fn call(&mut self) -> Call {
+        let mut register = self.register.clone();
+        if self.map.is_none() && self.random.once_in(4) {
+            return Call::Init { register };
+        }
+        if let Some(number) = self.unfilled.pop_if(|_| self.map.is_some()) {
+            return self.store(register, number, 0);
+        }
+        // Now and then a call on a damaged copy, which isn't taken over.
+        if self.random.once_in(10) {
+            damage_register(&mut self.random, &mut register, &self.numbers);
+        }
+        match self.random.below(500) {
+            0 => Call::Init { register },
+            1..=219 => {
+                let (number, kind) = (self.number(), self.random.below(20));
+                self.store(register, number, kind)
+            }
+            220..=319 => {
+                let number = self.kept_number(5);
+                Call::Remove { register, number }
+            }
+            _ => self.match_number(register),
+        }
+    }
+
+    pub fn next_case(&mut self) -> Case {
+        let call = self.call();
+        let random = &mut self.random;
+        let answer_len = if random.once_in(20) {
+            random.pick(&[0, 1, 31, 33, 40])
+        } else {
+            32
+        };
+        Case {
+            call,
+            answer_len,
+            dirt: random.bits() as u8 % 16,
+        }
+    }
+
+    /// What a plain map answers, and what it becomes.
+    fn answer_of_map(&mut self, call: &Call) -> Expected {
+        let capacity = self.register.len().checked_sub(REGISTER_LEAST);
+        if let Call::Init { .. } = call {
+            self.map = capacity.map(|_| BTreeMap::new());
+        }
+        let (Some(map), Some(capacity)) = (&mut self.map, capacity) else {
+            return numbered(second::REGISTER);
+        };
+        match call {
+            Call::Store { number, table, .. } => numbered(store(map, capacity, *number, table)),
+            Call::Remove { number, .. } => match map.remove(number) {
+                Some(_) => numbered(0),
+                None => numbered(second::MISSING),
+            },
+            Call::MatchNumber {
+                number,
+                label,
+                scratch_len,
+                parts_len,
+                budget,
+                ..
+            } => match map.get(number) {
+                Some(table) => Expected::of_match(second::match_label(
+                    table,
+                    label,
+                    *scratch_len,
+                    *parts_len,
+                    *budget,
+                )),
+                None => numbered(second::MISSING),
+            },
+            _ => numbered(0),
+        }
+    }
+
+    /// Looks whether a call answered as the plain map does and left a register that means it.
+    pub fn take_over(&mut self, case: &Case, answered: &Expected) -> Result<(), String> {
+        if case.answer_len < 32 || case.call.register() != Some(&self.register) {
+            return Ok(());
+        }
+        let wanted = self.answer_of_map(&case.call);
+        let same = answered.number == wanted.number
+            && answered.values() == wanted.values()
+            && answered.writes == wanted.writes;
+        if !same {
+            return Err(format!("a plain map answers number {}", wanted.number));
+        }
+        for (at, bytes) in &answered.register {
+            self.register[*at..][..bytes.len()].copy_from_slice(bytes);
+        }
+        if Register::read(&self.register).map(|register| register.tables) != self.map {
+            return Err("the register means another map afterwards".to_string());
+        }
+        Ok(())
+    }
+}
