@@ -9,3 +9,4 @@ pub mod Putting
 pub mod Calls
 pub mod Registers
 pub mod Turns
+pub mod Examples

@@ -6,26 +6,22 @@ use mathlib.Core.Option.{Option, none, some}
 use Prim.Native.Nat.{ℕ, zero, suc, _+_, _≤_, _<_}
 use native.Mathlib.Omega.{arith}
 use lib.Dec.{T, eqb, eqb→eq}
-use lib.ListN.{length, getD, take, drop, set, replicate, length-append, length-set, length-replicate}
+use lib.ListN.{length, take, drop, set, replicate, length-append, length-set, length-replicate}
 use lib.Seq.{split-at, set-split, getD-set-same, getD-set-other, take-suc}
 use Rattle.pattern.specs.Numbers.{table-room}
 use Rattle.pattern.specs.Bytes.{Bytes}
 use Rattle.pattern.specs.Syntax.{pattern, Syntax}
 use Rattle.pattern.specs.Print.{print}
+use Rattle.pattern.specs.Table.{header, encode}
 use Rattle.pattern.specs.Decode.{decode}
 use Rattle.pattern.proofs.Calls.{print-accepted, decoded-encode}
 use Rattle.pattern.proofs.Rooms.{table-fits}
-use Rattle.register.specs.Maps.{numbers, Map, table-of, empty, tables, total, is-table}
-use Rattle.register.specs.Layout.{kept}
+use Rattle.register.specs.Maps.{numbers, Map, table-of, empty, tables, total, is-table, missing}
+use Rattle.register.specs.Layout.{kept, Proper}
 
 -- each table is none or a good one
 abbrev pub Kept : Map → Type 0
 Kept m = (k : ℕ) → kept (table-of m k) ≡ true
-
--- a map: a table, or none, for each number, and each table good
-pub record Proper (m : Map) : Type 0 where
-  pub count : length m ≡ numbers
-  pub each : Kept m
 
 -- ---- tables are short
 
@@ -47,6 +43,19 @@ kept-short t e = go (eqb (length t) 0) refl
     go : (b : Bool) → eqb (length t) 0 ≡ b → length t ≤ table-room
     go true f = omega (arith, eqb→eq (length t) 0 (to-T _ f))
     go false f = table-short t (ap (λ (x : Bool). x || is-table t) (sym f) ∙ e)
+
+-- no bytes are no table, so a number has one just where it isn't missing
+pub no-bytes-no-table : is-table [] ≡ false
+unfolding is-table encode header
+no-bytes-no-table = go (decode []) refl
+  where
+    go : (o : Option (Syntax pattern)) → decode [] ≡ o → (elim o [ none ↦ false | some _ ↦ true ]) ≡ false
+    go none d = refl
+    go (some x) d = absurd (omega (arith, ap length (decoded-encode [] x d)))
+
+pub there-is-table : (m : Map) → Proper m → (k : ℕ) → missing m k ≡ false → is-table (table-of m k) ≡ true
+unfolding kept
+there-is-table m p k h = ap (λ (x : Bool). x || is-table (table-of m k)) (sym h) ∙ p .each k
 
 -- ---- maps that are changed
 
@@ -81,7 +90,16 @@ pub proper-empty : Proper empty
 unfolding empty
 proper-empty = record { count = length-replicate {A = Bytes} numbers []; each = kept-empty numbers }
 
--- a stored table is found again, and every other is what it was
+-- an empty map has no tables, a stored one is found again, and every other is what it was
+pub empty-none : (k : ℕ) → table-of empty k ≡ []
+unfolding empty
+empty-none = none-there numbers
+  where
+    none-there : (n k : ℕ) → table-of (replicate n []) k ≡ []
+    none-there zero k = refl
+    none-there (suc n) zero = refl
+    none-there (suc n) (suc k) = none-there n k
+
 pub stored-found : (m : Map) (k : ℕ) (t : Bytes) → k < length m → table-of (set m k t) k ≡ t
 stored-found m k t h = getD-set-same m k t [] h
 

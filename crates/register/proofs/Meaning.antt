@@ -15,9 +15,9 @@ use Rattle.pattern.proofs.Agree.{equal-decides}
 use Rattle.pattern.proofs.Tests.{and-both, passed, if-true}
 use Rattle.pattern.proofs.Stores.{take-overwrite, drop-overwrite}
 use Rattle.register.specs.Maps.{numbers, Map, tables, total}
-use Rattle.register.specs.Layout.{preamble, preamble-size, slot-size, directory-size, directory, section, laid-out, overhead, cut, kept, all-kept, registerOf}
+use Rattle.register.specs.Layout.{preamble, preamble-size, slot-size, directory-size, directory, section, laid-out, overhead, cut, kept, all-kept, registerOf, Proper, Meant}
 use Rattle.register.specs.Sections.{first-table, intact, held, only-if, section-of, found}
-use Rattle.register.proofs.Maps.{Kept, Proper, to-T}
+use Rattle.register.proofs.Maps.{Kept, to-T}
 use Rattle.register.proofs.Sections.{length-directory, cons-is, held-is, is-held}
 
 pub only-is : (b : Bool) (o : Option Map) (m : Map) → only-if b o ≡ some m → (b ≡ true) × (o ≡ some m)
@@ -73,11 +73,6 @@ unfolding found
 marked-is lent m e =
     let (b, o) = only-is (equal (take preamble-size lent) preamble) (section-of (drop preamble-size lent)) m e in
     (equal-decides (take preamble-size lent) preamble .sound (to-T _ b), o)
-
--- the lent bytes begin with the map laid out
-pub record Meant (lent : Bytes) (m : Map) : Type 0 where
-  pub proper : Proper m
-  pub bytes : lent ≡ overwrite (laid-out m) lent
 
 pub length-laid-out : (m : Map) → Proper m → length (laid-out m) ≡ overhead + total m
 unfolding laid-out

@@ -5,16 +5,17 @@ use mathlib.Core.List.{[], _∷_}
 use mathlib.Core.Option.{Option, none, some}
 use Prim.Native.Nat.{ℕ, zero, suc, _+_, _*_, _-_, _≤_, _<_}
 use native.Mathlib.Omega.{arith}
-use borrow.Author.Tests.{le-leb, lt-leb}
+use borrow.Author.Tests.{le-leb, lt-leb, ne-eqb}
 use lib.ListN.{length, getD, take, drop, length-append, length-drop}
 use lib.Seq.{length-take-le, drop-drop, getD-drop}
 use Rattle.pattern.specs.Bytes.{Bytes}
 use Rattle.stores.specs.Little.{little, value}
 use Rattle.stores.proofs.Little.{little-value}
 use Rattle.register.specs.declared.locate.TablesEnd.the-variants as ending
-use Rattle.register.specs.Maps.{numbers, Map, tables}
+use Rattle.register.specs.Maps.{numbers, Map, tables, is-table}
 use Rattle.register.specs.Layout.{slot-size, slot, directory-size, kept}
 use Rattle.register.specs.Sections.{first-size, first-table, intact, cons-if, held, tables-end}
+use Rattle.register.proofs.Maps.{kept-none, kept-table}
 use Rattle.register.proofs.Sections.{is-intact}
 
 -- each is a byte
@@ -94,14 +95,16 @@ module _ {s : Bytes} {a b at k end : ℕ} (w : Passing s a b at k end) where
       first-is : take (end + n - end) (drop end s) ≡ first-table slots bytes
       first-is = let e : end + n - end ≡ first-size slots = omega (arith, sized) in ap (λ x. take x bytes) e
 
-      pub pass-bad : false ≡ kept (take (end + n - end) (drop end s)) → ending.Bad ≡ tables-end at (held-from s a b at)
-      unfolding intact
-      pass-bad h = not-intact (rw (le-leb (first-size slots) (length bytes) there, ← first-is, ← h))
+      pub pass-bad : (n ≡ 0 → ⊥) → false ≡ is-table (take (end + n - end) (drop end s)) → ending.Bad ≡ tables-end at (held-from s a b at)
+      unfolding intact kept
+      pass-bad z h =
+          let l : length (first-table slots bytes) ≡ n = length-take-le (first-size slots) bytes there ∙ sym sized in
+          not-intact (rw (le-leb (first-size slots) (length bytes) there, ne-eqb (length (first-table slots bytes)) 0 (λ e. z (sym l ∙ e)), ← first-is, ← h))
 
-      pub pass-on : Octets s → directory-size ≤ length s → b ≤ numbers → true ≡ kept (take (end + n - end) (drop end s)) → Passing s a b at (k + 1) (end + n)
-      pass-on f long few h =
+      pub pass-kept : Octets s → directory-size ≤ length s → b ≤ numbers → kept (first-table slots bytes) ≡ true → Passing s a b at (k + 1) (end + n)
+      pass-kept f long few h =
           let wide : slot-size ≤ length slots = omega (arith, length-drop (slot-size * k) s) in
-          let g : intact slots bytes ≡ true = is-intact slots bytes (record { there = there; keeps = ap kept (sym first-is) ∙ sym h; told = slot-told slots bytes (octets-drop (slot-size * k) s f) wide there }) in
+          let g : intact slots bytes ≡ true = is-intact slots bytes (record { there = there; keeps = h; told = slot-told slots bytes (octets-drop (slot-size * k) s f) wide there }) in
           let size : end + length (first-table slots bytes) ≡ end + n = omega (arith, sized, length-take-le (first-size slots) bytes there) in
           let rest : Option Map = held-from s (k + 1) b (end + n) in
           record {
@@ -110,3 +113,11 @@ module _ {s : Bytes} {a b at k end : ℕ} (w : Passing s a b at k end) where
             inside = omega (arith, w .inside);
             left = w .left ∙ ap (tables-end end) (one-more ∙ ap (λ x. cons-if x (first-table slots bytes) rest) g) ∙ tables-end-cons end (first-table slots bytes) rest ∙ ap (λ x. tables-end x rest) size;
           }
+
+      pub pass-table : Octets s → directory-size ≤ length s → b ≤ numbers → true ≡ is-table (take (end + n - end) (drop end s)) → Passing s a b at (k + 1) (end + n)
+      pass-table f long few h = pass-kept f long few (kept-table (first-table slots bytes) (ap is-table (sym first-is) ∙ sym h))
+
+    pub pass-none : n ≡ 0 → Octets s → directory-size ≤ length s → b ≤ numbers → Passing s a b at (k + 1) end
+    pass-none z f long few =
+        let e : end + n ≡ end = omega arith in
+        rw e at (pass-kept (omega arith) f long few (ap (λ x. kept (take x bytes)) (sym sized ∙ z) ∙ kept-none))

@@ -110,7 +110,7 @@ module _ (t : Bytes) (m : Map) (x y : Bytes) (f : kept t ≡ true) where
   takes = take-at (slot t) (directory m ++ x) slot-size (length-slot t)
 
   sized : first-size d ≡ length t
-  unfolding first-size slot
+  unfolding slot
   sized = ap value takes ∙ value-little (length t) (omega (arith, kept-short t f))
 
   here : first-table d s ≡ t

@@ -14,16 +14,10 @@ use Rattle.pattern.proofs.Tests.{le-or-lt}
 use Rattle.register.specs.Maps.{Map, empty, total, is-table, Changed, change}
 use Rattle.register.specs.Layout.{overhead, capacity, registerOf}
 use Rattle.register.specs.Register.{initOf, storeOf}
-use Rattle.register.specs.Turns.{Call, init, store, remove, match, Reply, numbered, matched, refusal-of, Step, changed, map-step, register-step, replies, after-all}
+use Rattle.register.specs.Turns.{Call, init, store, remove, match, Reply, numbered, matched, refusal-of, changed, map-step, register-step, replies, after-all, Simulates}
+use Rattle.register.proofs.Meaning.{means}
 use Rattle.register.proofs.Locating.{after}
 use Rattle.register.proofs.Registers.{meant-within, init-means, store-refused, remove-refused, match-refused, init-refused, Follows, store-follows, remove-follows, match-follows, full-exactly}
-
--- the same reply, and as many lent bytes as before, which mean what the plain map became
-pub record Simulates (lent : Bytes) (p : Step Map) (o : Step Bytes) : Type 0 where
-  pub reply : o .reply ≡ p .reply
-  pub means : registerOf (o .next) ≡ some (p .next)
-  pub long : length (o .next) ≡ length lent
-  pub refused-leaves : ¬ (refusal-of (o .reply) ≡ 0) → o .next ≡ lent
 
 changed-simulates : (lent : Bytes) (c : Changed Map) (o : Changed Bytes) → Follows lent c o → Simulates lent (changed c) (changed o)
 unfolding refusal-of

@@ -1,13 +1,14 @@
 -- How a map lies in lent bytes, and the map that lent bytes mean (docs/REGISTER.md). To be believed.
+use mathlib.Core.Path.{_≡_}
 use mathlib.Core.Bool.{Bool, true, false, _&&_, _||_}
 use mathlib.Core.List.{[], _∷_, _++_}
 use mathlib.Core.Option.{Option, none, some}
 use Prim.Native.Nat.{ℕ, zero, suc, _+_, _*_, _-_}
 use lib.Dec.{eqb}
 use lib.ListN.{length, take, drop}
-use Rattle.pattern.specs.Bytes.{Bytes, equal, le16}
+use Rattle.pattern.specs.Bytes.{Bytes, equal, le16, overwrite}
 use Rattle.stores.specs.Little.{little, value}
-use Rattle.register.specs.Maps.{numbers, Map, tables, is-table}
+use Rattle.register.specs.Maps.{numbers, Map, table-of, tables, is-table}
 
 -- "mark MPR and version 1", and zeros up to 8 bytes
 abbrev pub preamble : Bytes
@@ -65,3 +66,15 @@ unfoldable pub registerOf : Bytes → Option Map
 registerOf lent =
     let m : Map = cut numbers (drop preamble-size lent) (drop overhead lent) in
     elim (all-kept m && equal (take (length (laid-out m)) lent) (laid-out m)) [ true ↦ some m | false ↦ none ]
+
+-- ---- what the theorems say
+
+-- a map that lent bytes can mean: no table or a good one for each number
+pub record Proper (m : Map) : Type 0 where
+  pub count : length m ≡ numbers
+  pub each : (k : ℕ) → kept (table-of m k) ≡ true
+
+-- the lent bytes begin with the map laid out
+pub record Meant (lent : Bytes) (m : Map) : Type 0 where
+  pub proper : Proper m
+  pub bytes : lent ≡ overwrite (laid-out m) lent

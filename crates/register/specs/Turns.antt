@@ -1,9 +1,13 @@
 -- Calls in turn, on a plain map and on a register. To be believed.
+use mathlib.Core.Path.{_≡_}
 use mathlib.Core.List.{List, [], _∷_}
+use mathlib.Core.Option.{some}
 use Prim.Native.Nat.{ℕ}
+use lib.ListN.{length}
 use Rattle.pattern.specs.Bytes.{Bytes}
 use Rattle.pattern.specs.Answers.{MatchOutput}
 use Rattle.register.specs.Maps.{Map, empty, Changed, store-in, remove-in, match-in}
+use Rattle.register.specs.Layout.{registerOf}
 use Rattle.register.specs.Register.{initOf, storeOf, removeOf, matchNumberOf}
 
 -- "start empty, store or replace, remove, match by number"
@@ -52,3 +56,12 @@ replies step s (c ∷ cs) = step s c .reply ∷ replies step (step s c .next) cs
 unfoldable pub after-all : {State : Type 0} → (State → Call → Step State) → State → List Call → State
 after-all step s [] = s
 after-all step s (c ∷ cs) = after-all step (step s c .next) cs
+
+-- ---- what the theorems say
+
+-- the same reply, and as many lent bytes as before, which mean what the plain map became; a refusal leaves each of them
+pub record Simulates (lent : Bytes) (p : Step Map) (o : Step Bytes) : Type 0 where
+  pub reply : o .reply ≡ p .reply
+  pub means : registerOf (o .next) ≡ some (p .next)
+  pub long : length (o .next) ≡ length lent
+  pub refused-leaves : ¬ (refusal-of (o .reply) ≡ 0) → o .next ≡ lent

@@ -4,8 +4,8 @@ use table::Tested;
 ghost use mathlib.Core.Path.{_≡_};
 ghost use Prim.Native.Nat.{_*_, _-_, _≤_, _<_};
 ghost use lib.ListN.{length, drop};
-ghost use Rattle.register.specs.Maps.{numbers};
-ghost use Rattle.register.specs.Layout.{slot-size, directory-size, kept};
+ghost use Rattle.register.specs.Maps.{numbers, is-table};
+ghost use Rattle.register.specs.Layout.{slot-size, directory-size};
 ghost use Rattle.register.specs.Sections.{held, section-of, tables-end, located};
 
 pub const NUMBERS: usize = 256;
@@ -33,14 +33,11 @@ pub enum Located {
     At(Location),
 }
 
-// No table, or a good one.
-fn is_kept(table: &[u8]) -> bool
-    ensures { λ r. ⌜ r ≡ kept (now (table .entry)) ⌝ }
+// A good table.
+fn is_table(bytes: &[u8]) -> bool
+    ensures { λ r. ⌜ r ≡ is-table (now (bytes .entry)) ⌝ }
 {
-    if table.len() == 0 {
-        return true;
-    }
-    match table::test(table) {
+    match table::test(bytes) {
         Tested::Bad => false,
         Tested::Good(_) => true,
     }
@@ -55,15 +52,19 @@ fn pass_tables(section: &[u8], a: usize, b: usize, at: usize) -> TablesEnd
     let mut end = at;
     while k < b {
         let n = read32(section, SLOT_SIZE * k) as usize;
-        if section.len() - end < n {
-            return TablesEnd::Bad;
-        }
-        let next = end + n;
-        if is_kept(&section[end..next]) {
-            end = next;
+        if n == 0 {
             k += 1;
         } else {
-            return TablesEnd::Bad;
+            if section.len() - end < n {
+                return TablesEnd::Bad;
+            }
+            let next = end + n;
+            if is_table(&section[end..next]) {
+                end = next;
+                k += 1;
+            } else {
+                return TablesEnd::Bad;
+            }
         }
     }
     TablesEnd::At(end)
