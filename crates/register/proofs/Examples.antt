@@ -1,7 +1,7 @@
 -- A layout byte by byte. Assumes nothing.
 use mathlib.Core.Path.{_≡_, refl}
 use mathlib.Core.List.{[], _∷_, _++_}
-use lib.ListN.{length, take, drop, set, replicate}
+use lib.ListN.{take, drop, set, replicate}
 use Rattle.register.specs.Maps.{empty, tables}
 use Rattle.register.specs.Layout.{slot, directory, section, laid-out}
 use Rattle.stores.specs.Little.{little}

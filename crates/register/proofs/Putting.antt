@@ -17,7 +17,6 @@ use Rattle.register.specs.Sections.{section-of, location-in, located, pl
 use Rattle.register.proofs.Maps.{tables-split, tables-set, total-split}
 use Rattle.register.proofs.Sections.{length-slot, length-directory}
 use Rattle.register.proofs.Meaning.{SectionIs, section-meant, directory-whole}
-use Rattle.register.proofs.Locating.{after}
 
 directory-append : (m n : Map) → directory (m ++ n) ≡ directory m ++ directory n
 unfolding directory

@@ -14,13 +14,12 @@ use Rattle.pattern.specs.Scan.{refuse}
 use Rattle.pattern.specs.Answers.{untried, ended, matchOf}
 use Rattle.pattern.proofs.Stores.{length-overwrite}
 use Rattle.pattern.proofs.Tests.{le-or-lt, if-false}
-use Rattle.register.specs.Maps.{Map, table-of, empty, tables, total, is-table, missing, Changed, change, store-in, remove-in, match-in}
-use Rattle.register.specs.Layout.{laid-out, overhead, capacity, kept, registerOf, Proper, Meant}
+use Rattle.register.specs.Maps.{Map, table-of, empty, total, is-table, missing, Changed, change, store-in, remove-in, match-in}
+use Rattle.register.specs.Layout.{laid-out, overhead, capacity, registerOf, Proper, Meant}
 use Rattle.register.specs.Register.{initOf, in-register, storeOf, removeOf, matchNumberOf}
-use Rattle.register.specs.Turns.{store, match}
 use Rattle.register.proofs.Maps.{kept-none, kept-table, proper-set, proper-empty, total-removed, total-empty}
 use Rattle.register.proofs.Cases.{store-full, store-done, store-cases, remove-cases}
-use Rattle.register.proofs.Meaning.{length-laid-out, meant, exactly, laid}
+use Rattle.register.proofs.Meaning.{length-laid-out, meant, laid}
 use Rattle.register.proofs.Locating.{after}
 
 -- the tables that lent bytes mean are within them

@@ -11,7 +11,7 @@ use Rattle.pattern.specs.Numbers.{FULL, REGISTER}
 use Rattle.pattern.specs.Bytes.{Bytes}
 use Rattle.pattern.specs.Answers.{MatchOutput, ended}
 use Rattle.pattern.proofs.Tests.{le-or-lt}
-use Rattle.register.specs.Maps.{Map, empty, total, is-table, Changed, change}
+use Rattle.register.specs.Maps.{Map, empty, total, is-table, Changed}
 use Rattle.register.specs.Layout.{overhead, capacity, registerOf}
 use Rattle.register.specs.Register.{initOf, storeOf}
 use Rattle.register.specs.Turns.{Call, init, store, remove, match, Reply, numbered, matched, refusal-of, changed, map-step, register-step, replies, after-all, Simulates}

@@ -5,7 +5,7 @@ use mathlib.Core.List.{[], _∷_}
 use Prim.Native.Nat.{ℕ, suc, _+_, _-_, _≤_, _<_}
 use native.Mathlib.Omega.{arith}
 use lib.ListN.{length, getD, take, drop, set, length-drop, drop-of-length-le}
-use lib.Seq.{sets, getD-set-other, length-take-le, getD-take, getD-drop, drop-cons, take-all}
+use lib.Seq.{sets, getD-set-other, length-take-le, getD-take, getD-drop, take-all}
 use Rattle.pattern.specs.Bytes.{Bytes}
 use Rattle.pattern.specs.Stores.{store-at}
 use Rattle.pattern.proofs.Stores.{length-store-at, store-at-none, store-at-one, store-at-before, copied}

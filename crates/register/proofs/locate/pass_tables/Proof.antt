@@ -2,7 +2,6 @@
 use mathlib.Core.Path.{sym, _∙_}
 use Prim.Native.Nat.{_-_}
 use native.Mathlib.Omega.{arith}
-use borrow.Author.Needs.{needs}
 use Rattle.register.proofs.Passing.{Passing, pass-start, pass-end, pass-long, pass-bad, pass-table, pass-none}
 use Rattle.register.proofs.locate.pass_tables.Statement.{statement}
 use Rattle.register.proofs.locate.pass_tables.Tie as tie

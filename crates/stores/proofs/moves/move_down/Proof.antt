@@ -1,5 +1,4 @@
 -- `move_down` meets its contract: the first i bytes are moved. Assumes nothing.
-use mathlib.Core.Path.{_≡_}
 use Prim.Native.Nat.{_-_}
 use native.Mathlib.Omega.{arith}
 use Rattle.stores.proofs.Moving.{Down, down-start, down-length, down-more, down-end}

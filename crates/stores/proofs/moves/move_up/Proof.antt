@@ -1,5 +1,4 @@
 -- `move_up` meets its contract: the bytes from i on are moved. Assumes nothing.
-use mathlib.Core.Path.{_≡_}
 use native.Mathlib.Omega.{arith}
 use Rattle.stores.proofs.Moving.{Up, up-start, up-length, up-more, up-end}
 use Rattle.stores.proofs.moves.move_up.Statement.{statement}
