@@ -3,7 +3,7 @@ use mathlib.Core.Path.{_≡_, refl, sym, ap, _∙_}
 use mathlib.Core.Bool.{Bool, true, false, _||_}
 use mathlib.Core.List.{[], _∷_, _++_, append-assoc}
 use mathlib.Core.Option.{Option, none, some}
-use Prim.Native.Nat.{ℕ, zero, suc, _+_, _≤_, _<_}
+use Prim.Native.Nat.{ℕ, zero, suc, _+_, _*_, _≤_, _<_}
 use native.Mathlib.Omega.{arith}
 use lib.Dec.{T, eqb, eqb→eq}
 use lib.ListN.{length, take, drop, set, replicate, length-append, length-set, length-replicate}
@@ -17,7 +17,7 @@ use Rattle.pattern.specs.Decode.{decode}
 use Rattle.pattern.proofs.Calls.{print-accepted, decoded-encode}
 use Rattle.pattern.proofs.Rooms.{table-fits}
 use Rattle.register.specs.Maps.{numbers, Map, table-of, empty, tables, total, is-table, missing}
-use Rattle.register.specs.Layout.{kept, Proper}
+use Rattle.register.specs.Layout.{kept, Proper, kept-count}
 
 -- each table is none or a good one
 abbrev pub Kept : Map → Type 0
@@ -156,3 +156,13 @@ none-total (suc n) = none-total n
 pub total-empty : total empty ≡ 0
 unfolding empty
 total-empty = none-total numbers
+
+-- a table of each number that has one
+pub total-bounded : (m : Map) → Kept m → total m ≤ table-room * kept-count m
+unfolding tables kept-count
+total-bounded [] f = omega arith
+total-bounded (t ∷ m) f = go (total-bounded m (λ k. f (suc k))) (eqb (length t) 0) refl
+  where
+    go : total m ≤ table-room * kept-count m → (b : Bool) → eqb (length t) 0 ≡ b → length (t ++ tables m) ≤ table-room * (elim b [ true ↦ kept-count m | false ↦ suc (kept-count m) ])
+    go rest true e = omega (arith, length-append t (tables m), eqb→eq (length t) 0 (to-T _ e), rest)
+    go rest false e = omega (arith, length-append t (tables m), kept-short t (f 0), rest)

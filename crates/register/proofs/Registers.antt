@@ -4,22 +4,23 @@ use mathlib.Core.Logic.{_↔_, ⊎-elim}
 use mathlib.Core.Bool.{true, false}
 use mathlib.Core.List.{[]}
 use mathlib.Core.Option.{Option, none, some}
-use Prim.Native.Nat.{ℕ, _+_, _≤_, _<_}
+use Prim.Native.Nat.{ℕ, _+_, _*_, _≤_, _<_}
 use native.Mathlib.Omega.{arith}
 use borrow.Author.Tests.{lt-ltb, le-ltb}
 use lib.ListN.{length, drop, set, length-append}
-use Rattle.pattern.specs.Numbers.{FULL, REGISTER}
+use Rattle.pattern.specs.Numbers.{table-room, FULL, REGISTER}
 use Rattle.pattern.specs.Bytes.{Bytes, overwrite}
 use Rattle.pattern.specs.Scan.{refuse}
 use Rattle.pattern.specs.Answers.{untried, ended, matchOf}
 use Rattle.pattern.proofs.Stores.{length-overwrite}
 use Rattle.pattern.proofs.Tests.{le-or-lt, if-false}
-use Rattle.register.specs.Maps.{Map, table-of, empty, total, is-table, missing, Changed, change, store-in, remove-in, match-in}
-use Rattle.register.specs.Layout.{laid-out, overhead, capacity, registerOf, Proper, Meant}
+use Rattle.register.specs.Maps.{Map, table-of, empty, tables, total, is-table, missing, Changed, change, store-in, remove-in, match-in}
+use Rattle.register.specs.Layout.{laid-out, overhead, capacity, kept, registerOf, Proper, Meant, kept-count}
 use Rattle.register.specs.Register.{initOf, in-register, storeOf, removeOf, matchNumberOf}
-use Rattle.register.proofs.Maps.{kept-none, kept-table, proper-set, proper-empty, total-removed, total-empty}
+use Rattle.register.specs.Turns.{store, match}
+use Rattle.register.proofs.Maps.{kept-none, kept-table, proper-set, proper-empty, total-removed, total-empty, total-bounded}
 use Rattle.register.proofs.Cases.{store-full, store-done, store-cases, remove-cases}
-use Rattle.register.proofs.Meaning.{length-laid-out, meant, laid}
+use Rattle.register.proofs.Meaning.{length-laid-out, meant, exactly, laid}
 use Rattle.register.proofs.Locating.{after}
 
 -- the tables that lent bytes mean are within them
@@ -127,3 +128,9 @@ module _ (lent : Bytes) (m : Map) (e : registerOf lent ≡ some m) where
           λ f. ⊎-elim (λ r. absurd (let z : _≡_ {A = ℕ} 0 FULL = sym (n ∙ ap (λ (c : Changed Map). c .number) (store-done (capacity lent) m k t g r)) ∙ f in omega arith)) (λ r. r) (le-or-lt (total (set m k t)) (capacity lent)),
           λ r. n ∙ ap (λ (c : Changed Map). c .number) (store-full (capacity lent) m k t g r),
         )
+
+    -- a buffer with room for as many of the longest tables as are then kept is never full
+    pub roomy : (t : Bytes) → is-table t ≡ true → overhead + table-room * kept-count (set m k t) ≤ length lent → storeOf lent k t .number ≡ 0
+    roomy t g r =
+        let n = total-bounded (set m k t) (proper-set m k t (h .proper) (kept-table t g) .each) in
+        store-follows t .number ∙ ap (λ (c : Changed Map). c .number) (store-done (capacity lent) m k t g (omega (arith, n, r)))

@@ -78,3 +78,8 @@ pub record Proper (m : Map) : Type 0 where
 pub record Meant (lent : Bytes) (m : Map) : Type 0 where
   pub proper : Proper m
   pub bytes : lent ≡ overwrite (laid-out m) lent
+
+-- how many tables a map has
+unfoldable pub kept-count : Map → ℕ
+kept-count [] = 0
+kept-count (t ∷ m) = elim (eqb (length t) 0) [ true ↦ kept-count m | false ↦ suc (kept-count m) ]
