@@ -25,7 +25,7 @@ unfolding only-if
 only-is true o m e = (refl, e)
 only-is false o m e = absurd (let z : _≡_ {A = ℕ} 0 1 = cc in omega arith)
 
--- ---- shelves
+-- ---- sections
 
 pub record SectionIs (s : Bytes) (m : Map) : Type 0 where
   pub proper : Proper m
