@@ -106,9 +106,9 @@ pub extern "C" fn mpt_register_init(reg: &mut [u8], answer: &mut [u8]) -> u32
     if answer.len() < AREA_SIZE {
         return refusal::ANSWER;
     }
-    let number = init(reg);
+    let refused = init(reg);
     put_answer(answer, 0, 0, 0);
-    number
+    refused
 }
 
 #[no_mangle]

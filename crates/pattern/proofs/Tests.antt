@@ -27,7 +27,10 @@ pub neither : (a b : Bool) → (a || b) ≡ false → (a ≡ false) × (b ≡ fa
 neither false b e = (refl, e)
 neither true b e = absurd (subst T e tt)
 
--- a test that passes
+-- a test that passes, both ways
+pub true-T : (b : Bool) → b ≡ true → T b
+true-T b e = subst T (sym e) tt
+
 pub passed : (b : Bool) → T b → b ≡ true
 passed true t = refl
 passed false t = absurd t

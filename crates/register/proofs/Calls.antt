@@ -5,9 +5,9 @@ use mathlib.Core.List.{[], _++_, append-nil}
 use mathlib.Core.Option.{Option, none, some}
 use Prim.Native.Nat.{ℕ, zero, suc, _+_, _*_, _-_, _≤_, _<_}
 use native.Mathlib.Omega.{arith}
-use borrow.Author.Tests.{lt-ltb, le-ltb, lt-leb, eq-eqb, ne-eqb}
+use borrow.Author.Tests.{le-ltb, lt-leb, eq-eqb, ne-eqb}
 use borrow.Rule.Slice.PartMut.{putMid}
-use lib.ListN.{length, take, drop, set, replicate, length-drop, length-replicate, drop-of-length-le}
+use lib.ListN.{length, take, drop, set, replicate, length-drop, length-replicate, replicate-append-replicate, drop-of-length-le}
 use lib.Seq.{take-all, drop-drop}
 use Rattle.pattern.specs.Numbers.{TABLE, FULL, REGISTER, MISSING}
 use Rattle.pattern.specs.Bytes.{Bytes, equal, overwrite, zeroed}
@@ -15,20 +15,20 @@ use Rattle.pattern.specs.Stores.{store-at}
 use Rattle.pattern.specs.Scan.{refuse}
 use Rattle.pattern.specs.Answers.{Answer, MatchOutput, untried, ended, matchOf}
 use Rattle.pattern.proofs.Stores.{store-at-overwrite, length-zeroed}
-use Rattle.pattern.proofs.Tests.{if-true, if-false}
+use Rattle.pattern.proofs.Tests.{if-true}
 use Rattle.stores.specs.Little.{little}
 use Rattle.register.specs.declared.locate.Location.{Location}
 use Rattle.register.specs.declared.locate.Located.{Located}
 use Rattle.register.specs.declared.locate.Located.the-variants as location
 use Rattle.register.specs.Maps.{numbers, Map, table-of, empty, tables, total, is-table, missing, Changed, change, match-in}
-use Rattle.register.specs.Layout.{preamble, preamble-size, slot-size, slot, directory-size, directory, section, laid-out, overhead, capacity, kept, registerOf}
+use Rattle.register.specs.Layout.{preamble, preamble-size, slot-size, slot, directory-size, directory, section, laid-out, overhead, capacity, allowed, registerOf}
 use Rattle.register.specs.Register.{initOf, in-register, storeOf, removeOf, matchNumberOf}
 use Rattle.register.specs.Sections.{only-if, section-of, found, location-in, located, placed, PutTablePre}
-use Rattle.register.proofs.Maps.{total-set}
+use Rattle.register.proofs.Maps.{tables-empty, total-set}
 use Rattle.register.proofs.Cases.{store-bad, store-full, store-done, remove-missing, remove-done}
-use Rattle.register.proofs.Meaning.{section-meant, marked-is, meant, found-is}
-use Rattle.register.proofs.Locating.{after}
-use Rattle.register.proofs.Putting.{old-is, in-order, Lies, lies-in}
+use Rattle.register.proofs.Meaning.{section-meant, found-split, meant, found-is}
+use Rattle.register.proofs.Registers.{store-refused, remove-refused, match-refused, match-follows, match-means}
+use Rattle.register.proofs.Putting.{old-is, in-order, LocatedIn, located-in}
 
 -- ---- where a number's table lies
 
@@ -47,7 +47,7 @@ unfolding section-of only-if
 section-short s h = rw (lt-leb directory-size (length s) h)
 
 -- the part of lent bytes that is the section
-abbrev pub section-part : Bytes → Bytes
+abbrev section-part : Bytes → Bytes
 section-part lent = take (length lent - preamble-size) (drop preamble-size lent)
 
 section-part-is : (lent : Bytes) → section-part lent ≡ drop preamble-size lent
@@ -75,12 +75,9 @@ module _ (lent : Bytes) (k : ℕ) where
 directory-empty : (c : ℕ) → directory (replicate c []) ≡ replicate (slot-size * c) 0
 unfolding directory slot little
 directory-empty zero = refl
-directory-empty (suc c) = let e : slot-size * suc c ≡ suc (suc (suc (suc (slot-size * c)))) = omega arith in rw (e, directory-empty c)
-
-tables-empty : (c : ℕ) → tables (replicate c []) ≡ []
-unfolding tables
-tables-empty zero = refl
-tables-empty (suc c) = tables-empty c
+directory-empty (suc c) =
+    let e : slot-size + slot-size * c ≡ slot-size * suc c = omega arith in
+    ap (λ (x : Bytes). replicate slot-size 0 ++ x) (directory-empty c) ∙ replicate-append-replicate slot-size (slot-size * c) 0 ∙ ap (λ n. replicate n 0) e
 
 -- zeros with the first bytes over them are an empty map laid out, of any count
 empty-laid : (lent : Bytes) (c n : ℕ) → n ≡ slot-size * c → preamble-size + n ≤ length lent
@@ -89,16 +86,13 @@ unfolding overwrite
 empty-laid lent c n e h =
     let v : Bytes = directory (replicate c []) ++ tables (replicate c []) in
     let z : v ≡ replicate n 0 = ap (λ (x : Bytes). directory (replicate c []) ++ x) (tables-empty c) ∙ append-nil _ ∙ directory-empty c ∙ ap (λ j. replicate j 0) (sym e) in
-    let l : preamble-size + n ≡ suc (suc (suc (suc (suc (suc (suc (suc n))))))) = omega arith in
+    let l : replicate (preamble-size + n) 0 ++ drop (preamble-size + n) lent ≡ replicate preamble-size 0 ++ (replicate n 0 ++ drop (preamble-size + n) lent) =
+    ap (λ (x : Bytes). x ++ drop (preamble-size + n) lent) (sym (replicate-append-replicate {A = ℕ} preamble-size n 0)) in
     let r : preamble-size + n ≡ length (preamble ++ v) = omega (arith, ap length z, length-replicate {A = ℕ} n 0) in
     store-at-overwrite (zeroed (preamble-size + n) lent) preamble (omega (arith, length-zeroed (preamble-size + n) lent h))
-    ∙ ap (λ j. preamble ++ drop preamble-size (_++_ {A = ℕ} (replicate j 0) (drop (preamble-size + n) lent))) l
+    ∙ ap (λ (x : Bytes). preamble ++ drop preamble-size x) l
     ∙ ap (λ (x : Bytes). preamble ++ (x ++ drop (preamble-size + n) lent)) (sym z)
     ∙ ap (λ j. preamble ++ (v ++ drop j lent)) r
-
-pub init-short : (lent : Bytes) → length lent < overhead → record { number = REGISTER; after = lent } ≡ initOf lent
-unfolding initOf change refuse
-init-short lent h = sym (rw (lt-ltb (length lent) overhead h))
 
 pub init-done : (lent x y first : Bytes) → overhead ≤ length lent → first ≡ preamble → y ≡ zeroed overhead lent → x ≡ store-at y 0 (take preamble-size first) → record { number = 0; after = x } ≡ initOf lent
 unfolding initOf change refuse laid-out section empty
@@ -134,45 +128,45 @@ back lent m h o =
     ap (λ (x : Bytes). take preamble-size lent ++ (y ++ x)) b ∙ ap (λ (x : Bytes). take preamble-size lent ++ x) (append-nil y) ∙ ap (λ (x : Bytes). x ++ y) o ∙ ap (λ (x : Bytes). preamble ++ (section m ++ x)) d
 
 -- the table of number k lies there
-pub record Sited (lent : Bytes) (k : ℕ) (at : Location) : Type 0 where
+pub record NumberAt (lent : Bytes) (k : ℕ) (at : Location) : Type 0 where
   pub lies : location.At at ≡ located k (registerOf lent)
   pub small : k < numbers
 
-module _ {lent : Bytes} {k : ℕ} {at : Location} (w : Sited lent k at) where
-  lying : (m : Map) × Lies (registerOf lent) k at m
-  lying = lies-in (registerOf lent) k at (w .lies)
+module _ {lent : Bytes} {k : ℕ} {at : Location} (w : NumberAt lent k at) where
+  in-map : (m : Map) × LocatedIn (registerOf lent) k at m
+  in-map = located-in (registerOf lent) k at (w .lies)
 
-  marked : (m : Map) → registerOf lent ≡ some m → (take preamble-size lent ≡ preamble) × (section-of (drop preamble-size lent) ≡ some m)
-  marked m e = marked-is lent m (found-is lent ∙ e)
+  lent-split : (m : Map) → registerOf lent ≡ some m → (take preamble-size lent ≡ preamble) × (section-of (drop preamble-size lent) ≡ some m)
+  lent-split m e = found-split lent m (found-is lent ∙ e)
 
   -- the places are in order
   pub lent-places : (at .start ≤ at .end) × (at .end ≤ at .used) × (at .used + preamble-size ≤ length lent) × (directory-size ≤ at .used)
   lent-places =
-      let (m, l) = lying in
+      let (m, l) = in-map in
       let s : Bytes = drop preamble-size lent in
-      let (a, b, c) = in-order s m (section-meant s m (marked m (l .holds) .1)) k (w .small) in
+      let (a, b, c) = in-order s m (section-meant s m (lent-split m (l .holds) .1)) k (w .small) in
       let there : (location-in m k .start ≤ location-in m k .end) × (location-in m k .end ≤ location-in m k .used) × (location-in m k .used + preamble-size ≤ length lent) × (directory-size ≤ location-in m k .used) =
       (a, b, omega (arith, a, b, c, length-drop preamble-size lent), omega arith) in
       rw (l .place) there
 
-  pub lent-put : (t : Bytes) → kept t ≡ true → length t ≤ length lent - preamble-size - at .used + (at .end - at .start) → PutTablePre (section-part lent) k at t
+  pub lent-put : (t : Bytes) → allowed t ≡ true → length t ≤ length lent - preamble-size - at .used + (at .end - at .start) → PutTablePre (section-part lent) k at t
   lent-put t kt r =
-      let (m, l) = lying in
+      let (m, l) = in-map in
       let (a, b, c, d) = lent-places in
-      let same : registerOf lent ≡ section-of (section-part lent) = l .holds ∙ sym (ap section-of (section-part-is lent) ∙ marked m (l .holds) .1) in
-      record { small = w .small; lies = w .lies ∙ ap (located k) same; keeps = kt; room = omega (arith, a, b, c, r, ap length (section-part-is lent), length-drop preamble-size lent) }
+      let same : registerOf lent ≡ section-of (section-part lent) = l .holds ∙ sym (ap section-of (section-part-is lent) ∙ lent-split m (l .holds) .1) in
+      record { small = w .small; lies = w .lies ∙ ap (located k) same; allows = kt; room = omega (arith, a, b, c, r, ap length (section-part-is lent), length-drop preamble-size lent) }
 
   -- the lent bytes after the table t took the place
   replaced : (m : Map) → registerOf lent ≡ some m → (t x : Bytes) → x ≡ placed (section-of (section-part lent)) (section-part lent) k t
       → putMid preamble-size (length lent - preamble-size) lent x ≡ overwrite (laid-out (set m k t)) lent
   unfolding placed
   replaced m e t x f =
-      let (o, r) = marked m e in
+      let (o, r) = lent-split m e in
       let (a, b, c, d) = lent-places in
       let g : placed (section-of (section-part lent)) (section-part lent) k t ≡ overwrite (section (set m k t)) (drop preamble-size lent) = rw (section-part-is lent, r) in
       ap (putMid preamble-size (length lent - preamble-size) lent) (f ∙ g) ∙ back lent (set m k t) (omega (arith, c)) o
 
-  sizes : (m : Map) → Lies (registerOf lent) k at m → (t : Bytes) → total (set m k t) + (at .end - at .start) ≡ at .used - directory-size + length t
+  sizes : (m : Map) → LocatedIn (registerOf lent) k at m → (t : Bytes) → total (set m k t) + (at .end - at .start) ≡ at .used - directory-size + length t
   sizes m l t =
       let n : k < length m = omega (arith, w .small, meant lent m (l .holds) .proper .count) in
       let there : total (set m k t) + (location-in m k .end - location-in m k .start) ≡ location-in m k .used - directory-size + length t = omega (arith, total-set m k n t) in
@@ -182,13 +176,13 @@ module _ {lent : Bytes} {k : ℕ} {at : Location} (w : Sited lent k at) where
   module _ (t : Bytes) where
     pub stored-bad : is-table t ≡ false → record { number = TABLE; after = lent } ≡ storeOf lent k t
     unfolding storeOf
-    stored-bad g = let (m, l) = lying in call-refused lent m (l .holds) _ TABLE (store-bad (capacity lent) m k t g)
+    stored-bad g = let (m, l) = in-map in call-refused lent m (l .holds) _ TABLE (store-bad (capacity lent) m k t g)
 
     module _ (g : is-table t ≡ true) where
       pub stored-full : length lent - preamble-size - at .used + (at .end - at .start) < length t → record { number = FULL; after = lent } ≡ storeOf lent k t
       unfolding storeOf
       stored-full h =
-          let (m, l) = lying in
+          let (m, l) = in-map in
           let (a, b, c, d) = lent-places in
           call-refused lent m (l .holds) _ FULL (store-full (capacity lent) m k t g (omega (arith, sizes m l t, a, b, c, d, h)))
 
@@ -196,64 +190,56 @@ module _ {lent : Bytes} {k : ℕ} {at : Location} (w : Sited lent k at) where
           → record { number = 0; after = putMid preamble-size (length lent - preamble-size) lent x } ≡ storeOf lent k t
       unfolding storeOf
       stored-done h x e =
-          let (m, l) = lying in
+          let (m, l) = in-map in
           let (a, b, c, d) = lent-places in
           call-done lent m (l .holds) _ (set m k t) _ (store-done (capacity lent) m k t g (omega (arith, sizes m l t, a, b, c, d, h))) (replaced m (l .holds) t x e)
 
   -- remove: 19, and no table
-  is-missing : (m : Map) → Lies (registerOf lent) k at m → at .start ≡ at .end → missing m k ≡ true
+  is-missing : (m : Map) → LocatedIn (registerOf lent) k at m → at .start ≡ at .end → missing m k ≡ true
   is-missing m l e = eq-eqb (length (table-of m k)) 0 (let z : location-in m k .start ≡ location-in m k .end = rw (l .place) at e in omega (arith, z))
 
-  not-missing : (m : Map) → Lies (registerOf lent) k at m → (at .start ≡ at .end → ⊥) → missing m k ≡ false
+  not-missing : (m : Map) → LocatedIn (registerOf lent) k at m → (at .start ≡ at .end → ⊥) → missing m k ≡ false
   not-missing m l n = ne-eqb (length (table-of m k)) 0 (λ e. n (let z : location-in m k .start ≡ location-in m k .end = omega (arith, e) in rw (l .place) z))
 
   pub removed-missing : at .start ≡ at .end → record { number = MISSING; after = lent } ≡ removeOf lent k
   unfolding removeOf
-  removed-missing e = let (m, l) = lying in call-refused lent m (l .holds) _ MISSING (remove-missing m k (is-missing m l e))
+  removed-missing e = let (m, l) = in-map in call-refused lent m (l .holds) _ MISSING (remove-missing m k (is-missing m l e))
 
   pub removed-done : (at .start ≡ at .end → ⊥) → (x : Bytes) → x ≡ placed (section-of (section-part lent)) (section-part lent) k []
       → record { number = 0; after = putMid preamble-size (length lent - preamble-size) lent x } ≡ removeOf lent k
   unfolding removeOf
-  removed-done n x e = let (m, l) = lying in call-done lent m (l .holds) _ (set m k []) _ (remove-done m k (not-missing m l n)) (replaced m (l .holds) [] x e)
+  removed-done n x e = let (m, l) = in-map in call-done lent m (l .holds) _ (set m k []) _ (remove-done m k (not-missing m l n)) (replaced m (l .holds) [] x e)
 
   -- match: 19, and the bytes of the table
-  table-there : (m : Map) → Lies (registerOf lent) k at m → take (preamble-size + at .end - (preamble-size + at .start)) (drop (preamble-size + at .start) lent) ≡ table-of m k
+  table-there : (m : Map) → LocatedIn (registerOf lent) k at m → take (preamble-size + at .end - (preamble-size + at .start)) (drop (preamble-size + at .start) lent) ≡ table-of m k
   table-there m l =
       let s : Bytes = drop preamble-size lent in
       let n : preamble-size + at .end - (preamble-size + at .start) ≡ at .end - at .start = omega arith in
-      let there : take (location-in m k .end - location-in m k .start) (drop (location-in m k .start) s) ≡ table-of m k = old-is s m (section-meant s m (marked m (l .holds) .1)) k (w .small) in
+      let there : take (location-in m k .end - location-in m k .start) (drop (location-in m k .start) s) ≡ table-of m k = old-is s m (section-meant s m (lent-split m (l .holds) .1)) k (w .small) in
       ap (λ x. take x (drop (preamble-size + at .start) lent)) n ∙ ap (take (at .end - at .start)) (sym (drop-drop (at .start) preamble-size lent)) ∙ ap (λ (x : Location). take (x .end - x .start) (drop (x .start) s)) (l .place) ∙ there
 
   module _ (label scratch parts : Bytes) (budget : ℕ) where
-    in-map : (m : Map) → registerOf lent ≡ some m → matchNumberOf lent k label scratch parts budget ≡ match-in m k label scratch parts budget
-    unfolding matchNumberOf
-    in-map m e = ap (λ (o : Option Map). elim o [ none ↦ ended (untried REGISTER) scratch parts | some m ↦ match-in m k label scratch parts budget ]) e
-
     pub matched-missing : at .start ≡ at .end → ended (untried MISSING) scratch parts ≡ matchNumberOf lent k label scratch parts budget
     unfolding match-in
-    matched-missing e = let (m, l) = lying in sym (in-map m (l .holds) ∙ if-true (missing m k) _ _ (is-missing m l e))
+    matched-missing e = let (m, l) = in-map in sym (match-follows lent m (l .holds) k label scratch parts budget ∙ if-true (missing m k) _ _ (is-missing m l e))
 
     pub matched-there : (at .start ≡ at .end → ⊥) → matchOf (take (preamble-size + at .end - (preamble-size + at .start)) (drop (preamble-size + at .start) lent)) label scratch parts budget ≡ matchNumberOf lent k label scratch parts budget
     unfolding match-in
     matched-there n =
-        let (m, l) = lying in
-        ap (λ (t : Bytes). matchOf t label scratch parts budget) (table-there m l) ∙ sym (in-map m (l .holds) ∙ if-false (missing m k) _ _ (not-missing m l n))
+        let (m, l) = in-map in
+        ap (λ (t : Bytes). matchOf t label scratch parts budget) (table-there m l) ∙ sym (match-means lent m (l .holds) k (not-missing m l n) label scratch parts budget)
 
 -- ---- no register
 
 module _ (lent : Bytes) (k : ℕ) (e : location.Bad ≡ located k (registerOf lent)) where
   pub stored-none : (t : Bytes) → record { number = REGISTER; after = lent } ≡ storeOf lent k t
-  unfolding storeOf in-register
-  stored-none t = sym (rw (none-located k (registerOf lent) e))
+  stored-none t = sym (store-refused lent (none-located k (registerOf lent) e) k t)
 
   pub removed-none : record { number = REGISTER; after = lent } ≡ removeOf lent k
-  unfolding removeOf in-register
-  removed-none = sym (rw (none-located k (registerOf lent) e))
+  removed-none = sym (remove-refused lent (none-located k (registerOf lent) e) k)
 
   pub matched-none : (label scratch parts : Bytes) (budget : ℕ) → ended (untried REGISTER) scratch parts ≡ matchNumberOf lent k label scratch parts budget
-  unfolding matchNumberOf
-  matched-none label scratch parts budget =
-      sym (ap (λ (o : Option Map). elim o [ none ↦ ended (untried REGISTER) scratch parts | some m ↦ match-in m k label scratch parts budget ]) (none-located k (registerOf lent) e))
+  matched-none label scratch parts budget = sym (match-refused lent (none-located k (registerOf lent) e) k label scratch parts budget)
 
 pub same-numbers : (a b : Answer) (scratch parts : Bytes) → a ≡ b → _≡_ {A = MatchOutput} (record { answer = a; scratch = scratch; parts = parts }) (record { answer = b; scratch = scratch; parts = parts })
 same-numbers a b scratch parts e = rw e

@@ -28,13 +28,15 @@ module _ (capacity : ℕ) (m : Map) (k : ℕ) (t : Bytes) where
 
   -- whatever holds in each case holds
   pub store-cases : (P : Changed Map → Type 0)
-      → P (record { number = TABLE; after = m }) → P (record { number = FULL; after = m }) → (is-table t ≡ true → total (set m k t) ≤ capacity → P (record { number = 0; after = set m k t }))
+      → (is-table t ≡ false → P (record { number = TABLE; after = m }))
+      → (is-table t ≡ true → capacity < total (set m k t) → P (record { number = FULL; after = m }))
+      → (is-table t ≡ true → total (set m k t) ≤ capacity → P (record { number = 0; after = set m k t }))
       → P (store-in capacity m k t)
   store-cases P bad full done = tested (is-table t) refl
     where
       tested : (b : Bool) → is-table t ≡ b → P (store-in capacity m k t)
-      tested true g = ⊎-elim (λ h. subst P (sym (store-done g h)) (done g h)) (λ h. subst P (sym (store-full g h)) full) (le-or-lt (total (set m k t)) capacity)
-      tested false g = subst P (sym (store-bad g)) bad
+      tested true g = ⊎-elim (λ h. subst P (sym (store-done g h)) (done g h)) (λ h. subst P (sym (store-full g h)) (full g h)) (le-or-lt (total (set m k t)) capacity)
+      tested false g = subst P (sym (store-bad g)) (bad g)
 
 module _ (m : Map) (k : ℕ) where
   pub remove-missing : missing m k ≡ true → remove-in m k ≡ record { number = MISSING; after = m }
@@ -45,9 +47,12 @@ module _ (m : Map) (k : ℕ) where
   unfolding remove-in change refuse
   remove-done h = rw h
 
-  pub remove-cases : (P : Changed Map → Type 0) → P (record { number = MISSING; after = m }) → P (record { number = 0; after = set m k [] }) → P (remove-in m k)
+  pub remove-cases : (P : Changed Map → Type 0)
+      → (missing m k ≡ true → P (record { number = MISSING; after = m }))
+      → (missing m k ≡ false → P (record { number = 0; after = set m k [] }))
+      → P (remove-in m k)
   remove-cases P none done = tested (missing m k) refl
     where
       tested : (b : Bool) → missing m k ≡ b → P (remove-in m k)
-      tested true h = subst P (sym (remove-missing h)) none
-      tested false h = subst P (sym (remove-done h)) done
+      tested true h = subst P (sym (remove-missing h)) (none h)
+      tested false h = subst P (sym (remove-done h)) (done h)

@@ -3,10 +3,10 @@ pub mod Testing
 pub mod Cases
 pub mod Sections
 pub mod Meaning
+pub mod Registers
+pub mod Turns
 pub mod Passing
 pub mod Locating
 pub mod Putting
 pub mod Calls
-pub mod Registers
-pub mod Turns
 pub mod Examples

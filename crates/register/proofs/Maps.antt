@@ -5,7 +5,7 @@ use mathlib.Core.List.{[], _∷_, _++_, append-assoc}
 use mathlib.Core.Option.{Option, none, some}
 use Prim.Native.Nat.{ℕ, zero, suc, _+_, _*_, _≤_, _<_}
 use native.Mathlib.Omega.{arith}
-use lib.Dec.{T, eqb, eqb→eq}
+use lib.Dec.{eqb, eqb→eq}
 use lib.ListN.{length, take, drop, set, replicate, length-append, length-set, length-replicate}
 use lib.Seq.{split-at, set-split, getD-set-same, getD-set-other, take-suc}
 use Rattle.pattern.specs.Numbers.{table-room}
@@ -14,34 +14,32 @@ use Rattle.pattern.specs.Syntax.{pattern, Syntax}
 use Rattle.pattern.specs.Print.{print}
 use Rattle.pattern.specs.Table.{header, encode}
 use Rattle.pattern.specs.Decode.{decode}
+use Rattle.pattern.proofs.Tests.{true-T}
 use Rattle.pattern.proofs.Calls.{print-accepted, decoded-encode}
 use Rattle.pattern.proofs.Rooms.{table-fits}
 use Rattle.register.specs.Maps.{numbers, Map, table-of, empty, tables, total, is-table, missing}
-use Rattle.register.specs.Layout.{kept, Proper, kept-count}
+use Rattle.register.specs.Layout.{allowed, Proper, table-count}
 
 -- each table is none or a good one
-abbrev pub Kept : Map → Type 0
-Kept m = (k : ℕ) → kept (table-of m k) ≡ true
+abbrev pub AllAllowed : Map → Type 0
+AllAllowed m = (k : ℕ) → allowed (table-of m k) ≡ true
 
 -- ---- tables are short
 
-pub to-T : (b : Bool) → b ≡ true → T b
-to-T b e = rw e tt
-
-pub table-short : (t : Bytes) → is-table t ≡ true → length t ≤ table-room
+table-short : (t : Bytes) → is-table t ≡ true → length t ≤ table-room
 unfolding is-table
 table-short t = go (decode t) refl
   where
     go : (o : Option (Syntax pattern)) → decode t ≡ o → (elim o [ none ↦ false | some _ ↦ true ]) ≡ true → length t ≤ table-room
-    go none d e = absurd (to-T false e)
+    go none d e = absurd (true-T false e)
     go (some x) d e = let n = table-fits (print x) x (print-accepted t x d) in rw (decoded-encode t x d) at n
 
-pub kept-short : (t : Bytes) → kept t ≡ true → length t ≤ table-room
-unfolding kept
-kept-short t e = go (eqb (length t) 0) refl
+pub allowed-short : (t : Bytes) → allowed t ≡ true → length t ≤ table-room
+unfolding allowed
+allowed-short t e = go (eqb (length t) 0) refl
   where
     go : (b : Bool) → eqb (length t) 0 ≡ b → length t ≤ table-room
-    go true f = omega (arith, eqb→eq (length t) 0 (to-T _ f))
+    go true f = omega (arith, eqb→eq (length t) 0 (true-T _ f))
     go false f = table-short t (ap (λ (x : Bool). x || is-table t) (sym f) ∙ e)
 
 -- no bytes are no table, so a number has one just where it isn't missing
@@ -54,41 +52,32 @@ no-bytes-no-table = go (decode []) refl
     go (some x) d = absurd (omega (arith, ap length (decoded-encode [] x d)))
 
 pub there-is-table : (m : Map) → Proper m → (k : ℕ) → missing m k ≡ false → is-table (table-of m k) ≡ true
-unfolding kept
+unfolding allowed
 there-is-table m p k h = ap (λ (x : Bool). x || is-table (table-of m k)) (sym h) ∙ p .each k
 
 -- ---- maps that are changed
 
-pub kept-none : kept [] ≡ true
-unfolding kept
-kept-none = refl
+pub none-allowed : allowed [] ≡ true
+unfolding allowed
+none-allowed = refl
 
-pub kept-table : (t : Bytes) → is-table t ≡ true → kept t ≡ true
-unfolding kept
-kept-table t e = go (eqb (length t) 0)
+pub table-allowed : (t : Bytes) → is-table t ≡ true → allowed t ≡ true
+unfolding allowed
+table-allowed t e = go (eqb (length t) 0)
   where
     go : (b : Bool) → (b || is-table t) ≡ true
     go true = refl
     go false = e
 
-kept-set : (m : Map) (k : ℕ) (t : Bytes) → Kept m → kept t ≡ true → Kept (set m k t)
-kept-set [] k t f h j = f j
-kept-set (x ∷ m) zero t f h zero = h
-kept-set (x ∷ m) zero t f h (suc j) = f (suc j)
-kept-set (x ∷ m) (suc k) t f h zero = f zero
-kept-set (x ∷ m) (suc k) t f h (suc j) = kept-set m k t (λ i. f (suc i)) h j
+allowed-set : (m : Map) (k : ℕ) (t : Bytes) → AllAllowed m → allowed t ≡ true → AllAllowed (set m k t)
+allowed-set [] k t f h j = f j
+allowed-set (x ∷ m) zero t f h zero = h
+allowed-set (x ∷ m) zero t f h (suc j) = f (suc j)
+allowed-set (x ∷ m) (suc k) t f h zero = f zero
+allowed-set (x ∷ m) (suc k) t f h (suc j) = allowed-set m k t (λ i. f (suc i)) h j
 
-pub proper-set : (m : Map) (k : ℕ) (t : Bytes) → Proper m → kept t ≡ true → Proper (set m k t)
-proper-set m k t p h = record { count = length-set m k t ∙ p .count; each = kept-set m k t (p .each) h }
-
-kept-empty : (n : ℕ) → Kept (replicate n [])
-kept-empty zero k = kept-none
-kept-empty (suc n) zero = kept-none
-kept-empty (suc n) (suc k) = kept-empty n k
-
-pub proper-empty : Proper empty
-unfolding empty
-proper-empty = record { count = length-replicate {A = Bytes} numbers []; each = kept-empty numbers }
+pub proper-set : (m : Map) (k : ℕ) (t : Bytes) → Proper m → allowed t ≡ true → Proper (set m k t)
+proper-set m k t p h = record { count = length-set m k t ∙ p .count; each = allowed-set m k t (p .each) h }
 
 -- an empty map has no tables, a stored one is found again, and every other is what it was
 pub empty-none : (k : ℕ) → table-of empty k ≡ []
@@ -99,6 +88,10 @@ empty-none = none-there numbers
     none-there zero k = refl
     none-there (suc n) zero = refl
     none-there (suc n) (suc k) = none-there n k
+
+pub proper-empty : Proper empty
+unfolding empty
+proper-empty = record { count = length-replicate {A = Bytes} numbers []; each = λ k. ap allowed (empty-none k) ∙ none-allowed }
 
 pub stored-found : (m : Map) (k : ℕ) (t : Bytes) → k < length m → table-of (set m k t) k ≡ t
 stored-found m k t h = getD-set-same m k t [] h
@@ -148,21 +141,21 @@ total-removed [] k = omega arith
 total-removed (t ∷ m) zero = omega (arith, length-append t (tables m))
 total-removed (t ∷ m) (suc k) = omega (arith, length-append t (tables m), length-append t (tables (set m k [])), total-removed m k)
 
-none-total : (n : ℕ) → total (replicate n []) ≡ 0
+pub tables-empty : (c : ℕ) → tables (replicate c []) ≡ []
 unfolding tables
-none-total zero = refl
-none-total (suc n) = none-total n
+tables-empty zero = refl
+tables-empty (suc c) = tables-empty c
 
 pub total-empty : total empty ≡ 0
 unfolding empty
-total-empty = none-total numbers
+total-empty = ap length (tables-empty numbers)
 
 -- a table of each number that has one
-pub total-bounded : (m : Map) → Kept m → total m ≤ table-room * kept-count m
-unfolding tables kept-count
+pub total-bounded : (m : Map) → AllAllowed m → total m ≤ table-room * table-count m
+unfolding tables table-count
 total-bounded [] f = omega arith
 total-bounded (t ∷ m) f = go (total-bounded m (λ k. f (suc k))) (eqb (length t) 0) refl
   where
-    go : total m ≤ table-room * kept-count m → (b : Bool) → eqb (length t) 0 ≡ b → length (t ++ tables m) ≤ table-room * (elim b [ true ↦ kept-count m | false ↦ suc (kept-count m) ])
-    go rest true e = omega (arith, length-append t (tables m), eqb→eq (length t) 0 (to-T _ e), rest)
-    go rest false e = omega (arith, length-append t (tables m), kept-short t (f 0), rest)
+    go : total m ≤ table-room * table-count m → (b : Bool) → eqb (length t) 0 ≡ b → length (t ++ tables m) ≤ table-room * (elim b [ true ↦ table-count m | false ↦ suc (table-count m) ])
+    go rest true e = omega (arith, length-append t (tables m), eqb→eq (length t) 0 (true-T _ e), rest)
+    go rest false e = omega (arith, length-append t (tables m), allowed-short t (f 0), rest)

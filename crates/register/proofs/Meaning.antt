@@ -12,15 +12,15 @@ use lib.ListN.{length, take, drop, length-append, length-drop, take-append-drop}
 use lib.Seq.{drop-drop, drop-at}
 use Rattle.pattern.specs.Bytes.{Bytes, equal, overwrite}
 use Rattle.pattern.proofs.Agree.{equal-decides}
-use Rattle.pattern.proofs.Tests.{and-both, passed, if-true}
+use Rattle.pattern.proofs.Tests.{true-T, and-both, passed, if-true}
 use Rattle.pattern.proofs.Stores.{take-overwrite, drop-overwrite}
 use Rattle.register.specs.Maps.{numbers, Map, tables, total}
-use Rattle.register.specs.Layout.{preamble, preamble-size, slot-size, directory-size, directory, section, laid-out, overhead, cut, kept, all-kept, registerOf, Proper, Meant}
+use Rattle.register.specs.Layout.{preamble, preamble-size, slot-size, directory-size, directory, section, laid-out, overhead, cut, allowed, all-allowed, registerOf, Proper, Meant}
 use Rattle.register.specs.Sections.{first-table, intact, held, only-if, section-of, found}
-use Rattle.register.proofs.Maps.{Kept, to-T}
+use Rattle.register.proofs.Maps.{AllAllowed}
 use Rattle.register.proofs.Sections.{length-directory, cons-is, held-is, is-held}
 
-pub only-is : (b : Bool) (o : Option Map) (m : Map) → only-if b o ≡ some m → (b ≡ true) × (o ≡ some m)
+only-is : (b : Bool) (o : Option Map) (m : Map) → only-if b o ≡ some m → (b ≡ true) × (o ≡ some m)
 unfolding only-if
 only-is true o m e = (refl, e)
 only-is false o m e = absurd (let z : _≡_ {A = ℕ} 0 1 = cc in omega arith)
@@ -68,11 +68,11 @@ module _ (m : Map) (p : Proper m) where
 
 -- ---- buffers
 
-pub marked-is : (lent : Bytes) (m : Map) → found lent ≡ some m → (take preamble-size lent ≡ preamble) × (section-of (drop preamble-size lent) ≡ some m)
+pub found-split : (lent : Bytes) (m : Map) → found lent ≡ some m → (take preamble-size lent ≡ preamble) × (section-of (drop preamble-size lent) ≡ some m)
 unfolding found
-marked-is lent m e =
+found-split lent m e =
     let (b, o) = only-is (equal (take preamble-size lent) preamble) (section-of (drop preamble-size lent)) m e in
-    (equal-decides (take preamble-size lent) preamble .sound (to-T _ b), o)
+    (equal-decides (take preamble-size lent) preamble .sound (true-T _ b), o)
 
 pub length-laid-out : (m : Map) → Proper m → length (laid-out m) ≡ overhead + total m
 unfolding laid-out
@@ -81,7 +81,7 @@ length-laid-out m p = omega (arith, length-section m p)
 found-meant : (lent : Bytes) (m : Map) → found lent ≡ some m → Meant lent m
 unfolding laid-out section overwrite
 found-meant lent m e =
-    let (o, r) = marked-is lent m e in
+    let (o, r) = found-split lent m e in
     let h = section-meant (drop preamble-size lent) m r in
     let d : length (directory m ++ tables m) ≡ directory-size + total m = omega (arith, length-append (directory m) (tables m), directory-whole m (h .proper)) in
     let l : preamble-size + (directory-size + total m) ≡ length (preamble ++ (directory m ++ tables m)) = omega (arith, d) in
@@ -115,7 +115,7 @@ read lent = cut numbers (drop preamble-size lent) (drop overhead lent)
 found-read : (lent : Bytes) (m : Map) → found lent ≡ some m → read lent ≡ m
 unfolding section-of
 found-read lent m e =
-    let (o, r) = marked-is lent m e in
+    let (o, r) = found-split lent m e in
     let s : Bytes = drop preamble-size lent in
     let (b, h) = only-is (leb directory-size (length s)) (held numbers s (drop directory-size s)) m r in
     ap (cut numbers s) (sym (drop-drop directory-size preamble-size lent)) ∙ held-cut numbers s (drop directory-size s) m h
@@ -125,36 +125,36 @@ unfolding cut
 cut-count zero slots bytes = refl
 cut-count (suc c) slots bytes = ap suc (cut-count c _ _)
 
-each-kept : (m : Map) → T (all-kept m) → Kept m
-unfolding all-kept kept
-each-kept [] t k = refl
-each-kept (x ∷ m) t zero = passed (kept x) (and-both (kept x) (all-kept m) t .0)
-each-kept (x ∷ m) t (suc k) = each-kept m (and-both (kept x) (all-kept m) t .1) k
+each-allowed : (m : Map) → T (all-allowed m) → AllAllowed m
+unfolding all-allowed allowed
+each-allowed [] t k = refl
+each-allowed (x ∷ m) t zero = passed (allowed x) (and-both (allowed x) (all-allowed m) t .0)
+each-allowed (x ∷ m) t (suc k) = each-allowed m (and-both (allowed x) (all-allowed m) t .1) k
 
-kept-each : (m : Map) → Kept m → all-kept m ≡ true
-unfolding all-kept
-kept-each [] f = refl
-kept-each (x ∷ m) f = rw (f 0, kept-each m (λ k. f (suc k)))
+allowed-each : (m : Map) → AllAllowed m → all-allowed m ≡ true
+unfolding all-allowed
+allowed-each [] f = refl
+allowed-each (x ∷ m) f = rw (f 0, allowed-each m (λ k. f (suc k)))
 
 -- what the definition tests
 abbrev right : Bytes → Map → Bool
-right lent m = all-kept m && equal (take (length (laid-out m)) lent) (laid-out m)
+right lent m = all-allowed m && equal (take (length (laid-out m)) lent) (laid-out m)
 
 right-meant : (lent : Bytes) → right lent (read lent) ≡ true → Meant lent (read lent)
 unfolding overwrite
 right-meant lent e =
     let m : Map = read lent in
-    let (a, b) = and-both (all-kept m) (equal (take (length (laid-out m)) lent) (laid-out m)) (to-T _ e) in
+    let (a, b) = and-both (all-allowed m) (equal (take (length (laid-out m)) lent) (laid-out m)) (true-T _ e) in
     let t : take (length (laid-out m)) lent ≡ laid-out m = equal-decides (take (length (laid-out m)) lent) (laid-out m) .sound b in
     record {
-      proper = record { count = cut-count numbers _ _; each = each-kept m a };
+      proper = record { count = cut-count numbers _ _; each = each-allowed m a };
       bytes = sym (take-append-drop (length (laid-out m)) lent) ∙ ap (λ (x : Bytes). x ++ drop (length (laid-out m)) lent) t;
     }
 
 meant-right : (lent : Bytes) (m : Map) → Meant lent m → right lent m ≡ true
 meant-right lent m h =
     let t : take (length (laid-out m)) lent ≡ laid-out m = ap (take (length (laid-out m))) (h .bytes) ∙ take-overwrite (laid-out m) lent in
-    ap₂ (λ a b. a && b) (kept-each m (h .proper .each)) (passed _ (equal-decides (take (length (laid-out m)) lent) (laid-out m) .complete t))
+    ap₂ (λ a b. a && b) (allowed-each m (h .proper .each)) (passed _ (equal-decides (take (length (laid-out m)) lent) (laid-out m) .complete t))
 
 pub meant : (lent : Bytes) (m : Map) → registerOf lent ≡ some m → Meant lent m
 unfolding registerOf
@@ -183,6 +183,15 @@ unfolding overwrite
 laid m lent p =
     let v : Bytes = laid-out m in
     means (overwrite v lent) m (record { proper = p; bytes = ap (λ (x : Bytes). v ++ x) (sym (drop-overwrite (length v) v lent (omega arith))) })
+
+-- bytes after the last table mean nothing: any other bytes that begin so mean the same
+pub rest-ignored : (lent other : Bytes) (m : Map) → registerOf lent ≡ some m → take (length (laid-out m)) other ≡ take (length (laid-out m)) lent → registerOf other ≡ some m
+unfolding overwrite
+rest-ignored lent other m e f =
+    let h = meant lent m e in
+    let n : ℕ = length (laid-out m) in
+    let t : take n other ≡ laid-out m = f ∙ ap (take n) (h .bytes) ∙ take-overwrite (laid-out m) lent in
+    means other m (record { proper = h .proper; bytes = sym (take-append-drop n other) ∙ ap (λ (x : Bytes). x ++ drop n other) t })
 
 -- ---- the code finds it
 

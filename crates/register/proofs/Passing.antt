@@ -13,9 +13,9 @@ use Rattle.stores.specs.Little.{little, value}
 use Rattle.stores.proofs.Little.{little-value}
 use Rattle.register.specs.declared.locate.TablesEnd.the-variants as ending
 use Rattle.register.specs.Maps.{numbers, Map, tables, is-table}
-use Rattle.register.specs.Layout.{slot-size, slot, directory-size, kept}
+use Rattle.register.specs.Layout.{slot-size, slot, directory-size, allowed}
 use Rattle.register.specs.Sections.{first-size, first-table, intact, cons-if, held, tables-end}
-use Rattle.register.proofs.Maps.{kept-none, kept-table}
+use Rattle.register.proofs.Maps.{none-allowed, table-allowed}
 use Rattle.register.proofs.Sections.{is-intact}
 
 -- each is a byte
@@ -50,19 +50,17 @@ held-from s k b at = held (b - k) (drop (slot-size * k) s) (drop at s)
 
 -- up to number k the tables were passed, and those that are left end where all do
 pub record Passing (s : Bytes) (a b at k end : ℕ) : Type 0 where
-  pub from : a ≤ k
-  pub upto : k ≤ b
   pub inside : end ≤ length s
   pub left : tables-end at (held-from s a b at) ≡ tables-end end (held-from s k b end)
 
-pub pass-start : (s : Bytes) (a b at : ℕ) → a ≤ b → at ≤ length s → Passing s a b at a at
-pass-start s a b at h k = record { from = omega arith; upto = h; inside = k; left = refl }
+pub pass-start : (s : Bytes) (a b at : ℕ) → at ≤ length s → Passing s a b at a at
+pass-start s a b at k = record { inside = k; left = refl }
 
 module _ {s : Bytes} {a b at k end : ℕ} (w : Passing s a b at k end) where
   pub pass-end : b ≤ k → ending.At end ≡ tables-end at (held-from s a b at)
   unfolding held tables-end tables
   pass-end h =
-      let e : b - k ≡ 0 = omega (arith, w .upto) in
+      let e : b - k ≡ 0 = omega arith in
       let z : end + 0 ≡ end = omega arith in
       sym (w .left ∙ ap (λ x. tables-end end (held x (drop (slot-size * k) s) (drop end s))) e ∙ ap ending.At z)
 
@@ -96,28 +94,26 @@ module _ {s : Bytes} {a b at k end : ℕ} (w : Passing s a b at k end) where
       first-is = let e : end + n - end ≡ first-size slots = omega (arith, sized) in ap (λ x. take x bytes) e
 
       pub pass-bad : (n ≡ 0 → ⊥) → false ≡ is-table (take (end + n - end) (drop end s)) → ending.Bad ≡ tables-end at (held-from s a b at)
-      unfolding intact kept
+      unfolding intact allowed
       pass-bad z h =
           let l : length (first-table slots bytes) ≡ n = length-take-le (first-size slots) bytes there ∙ sym sized in
           not-intact (rw (le-leb (first-size slots) (length bytes) there, ne-eqb (length (first-table slots bytes)) 0 (λ e. z (sym l ∙ e)), ← first-is, ← h))
 
-      pub pass-kept : Octets s → directory-size ≤ length s → b ≤ numbers → kept (first-table slots bytes) ≡ true → Passing s a b at (k + 1) (end + n)
-      pass-kept f long few h =
+      pass-allowed : Octets s → directory-size ≤ length s → b ≤ numbers → allowed (first-table slots bytes) ≡ true → Passing s a b at (k + 1) (end + n)
+      pass-allowed f long few h =
           let wide : slot-size ≤ length slots = omega (arith, length-drop (slot-size * k) s) in
-          let g : intact slots bytes ≡ true = is-intact slots bytes (record { there = there; keeps = h; told = slot-told slots bytes (octets-drop (slot-size * k) s f) wide there }) in
+          let g : intact slots bytes ≡ true = is-intact slots bytes (record { there = there; allows = h; told = slot-told slots bytes (octets-drop (slot-size * k) s f) wide there }) in
           let size : end + length (first-table slots bytes) ≡ end + n = omega (arith, sized, length-take-le (first-size slots) bytes there) in
           let rest : Option Map = held-from s (k + 1) b (end + n) in
           record {
-            from = omega (arith, w .from);
-            upto = omega arith;
             inside = omega (arith, w .inside);
             left = w .left ∙ ap (tables-end end) (one-more ∙ ap (λ x. cons-if x (first-table slots bytes) rest) g) ∙ tables-end-cons end (first-table slots bytes) rest ∙ ap (λ x. tables-end x rest) size;
           }
 
       pub pass-table : Octets s → directory-size ≤ length s → b ≤ numbers → true ≡ is-table (take (end + n - end) (drop end s)) → Passing s a b at (k + 1) (end + n)
-      pass-table f long few h = pass-kept f long few (kept-table (first-table slots bytes) (ap is-table (sym first-is) ∙ sym h))
+      pass-table f long few h = pass-allowed f long few (table-allowed (first-table slots bytes) (ap is-table (sym first-is) ∙ sym h))
 
     pub pass-none : n ≡ 0 → Octets s → directory-size ≤ length s → b ≤ numbers → Passing s a b at (k + 1) end
     pass-none z f long few =
         let e : end + n ≡ end = omega arith in
-        rw e at (pass-kept (omega arith) f long few (ap (λ x. kept (take x bytes)) (sym sized ∙ z) ∙ kept-none))
+        rw e at (pass-allowed (omega arith) f long few (ap (λ x. allowed (take x bytes)) (sym sized ∙ z) ∙ none-allowed))

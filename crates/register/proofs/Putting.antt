@@ -71,7 +71,7 @@ module _ (s : Bytes) (m : Map) (h : SectionIs s m) (k : ℕ) (small : k < number
   from-start : drop (at .start) s ≡ old ++ (tail ++ rest)
   from-start = ap (drop (at .start)) whole ∙ drop-at (directory m ++ front) (old ++ (tail ++ rest)) (at .start) upto-start
 
-  pub tail-is : take (at .used - at .end) (drop (at .end) s) ≡ tail
+  tail-is : take (at .used - at .end) (drop (at .end) s) ≡ tail
   tail-is =
       ap (λ (x : Bytes). take (at .used - at .end) x) (sym (drop-drop (length old) (at .start) s) ∙ ap (drop (length old)) from-start ∙ drop-at old (tail ++ rest) (length old) refl)
       ∙ take-at tail rest (at .used - at .end) (omega (arith, total-split m k there))
@@ -112,7 +112,7 @@ module _ (s : Bytes) (m : Map) (h : SectionIs s m) (k : ℕ) (small : k < number
           sets-eq (t ++ tail) s (at .start) l ∙ append-assoc (take (at .start) s) (t ++ tail) (drop (at .start + length (t ++ tail)) s)
           ∙ ap (λ (x : Bytes). x ++ ((t ++ tail) ++ drop (at .start + length (t ++ tail)) s)) a ∙ ap (λ n. (directory m ++ front) ++ ((t ++ tail) ++ drop n s)) new-size
 
-      pub put-is : store-at (store-at (store-at s (at .start + length t) (take (at .used - at .end) (drop (at .end) s))) (at .start) t) (slot-size * k) (slot t) ≡ overwrite (section (set m k t)) s
+      put-is : store-at (store-at (store-at s (at .start + length t) (take (at .used - at .end) (drop (at .end) s))) (at .start) t) (slot-size * k) (slot t) ≡ overwrite (section (set m k t)) s
       unfolding overwrite section
       put-is =
           let r : Bytes = drop (length (section (set m k t))) s in
@@ -132,14 +132,14 @@ module _ (s : Bytes) (m : Map) (h : SectionIs s m) (k : ℕ) (small : k < number
 -- ---- by where the table lies
 
 -- the map in which the table of number k lies there
-pub record Lies (o : Option Map) (k : ℕ) (at : Location) (m : Map) : Type 0 where
+pub record LocatedIn (o : Option Map) (k : ℕ) (at : Location) (m : Map) : Type 0 where
   pub holds : o ≡ some m
   pub place : at ≡ location-in m k
 
-pub lies-in : (o : Option Map) (k : ℕ) (at : Location) → location.At at ≡ located k o → (m : Map) × Lies o k at m
+pub located-in : (o : Option Map) (k : ℕ) (at : Location) → location.At at ≡ located k o → (m : Map) × LocatedIn o k at m
 unfolding located
-lies-in none k at e = absurd (let z : _≡_ {A = ℕ} 0 1 = cc in omega arith)
-lies-in (some m) k at e = (m, record { holds = refl; place = cc })
+located-in none k at e = absurd (let z : _≡_ {A = ℕ} 0 1 = cc in omega arith)
+located-in (some m) k at e = (m, record { holds = refl; place = cc })
 
 -- the places are in order, and a table of n bytes has room
 pub record Places (s : Bytes) (k : ℕ) (at : Location) (n : ℕ) : Type 0 where
@@ -150,21 +150,21 @@ pub record Places (s : Bytes) (k : ℕ) (at : Location) (n : ℕ) : Type 0 where
   pub slotted : slot-size * k + slot-size ≤ length s
 
 module _ {s : Bytes} {k : ℕ} {at : Location} {t : Bytes} (p : PutTablePre s k at t) where
-  lying : (m : Map) × Lies (section-of s) k at m
-  lying = lies-in (section-of s) k at (p .lies)
+  in-map : (m : Map) × LocatedIn (section-of s) k at m
+  in-map = located-in (section-of s) k at (p .lies)
 
   pub put-places : Places s k at (length t)
   put-places =
-      let (m, l) = lying in
+      let (m, l) = in-map in
       let (a, b, c) = in-order s m (section-meant s m (l .holds)) k (p .small) in
       let there : Places s k (location-in m k) (length t) = record { begins = a; ends = b; within = c; room = omega (arith, a, b, c, rw (l .place) at (p .room)); slotted = omega (arith, c, p .small) } in
       rw (l .place) there
 
-put-lies : (s : Bytes) (k : ℕ) (at : Location) (t : Bytes) (m : Map) → Lies (section-of s) k at m → SectionIs s m → k < numbers → at .used + length t ≤ length s + (at .end - at .start)
+put-lies : (s : Bytes) (k : ℕ) (at : Location) (t : Bytes) (m : Map) → LocatedIn (section-of s) k at m → SectionIs s m → k < numbers → at .used + length t ≤ length s + (at .end - at .start)
     → store-at (store-at (store-at s (at .start + length t) (take (at .used - at .end) (drop (at .end) s))) (at .start) t) (slot-size * k) (slot t) ≡ placed (section-of s) s k t
 unfolding placed
 put-lies s k at t m l h small room = rw (l .holds, l .place) (put-is s m h k small t (rw (l .place) at room))
 
 pub put-placed : {s : Bytes} {k : ℕ} {at : Location} {t : Bytes} → PutTablePre s k at t
     → store-at (store-at (store-at s (at .start + length t) (take (at .used - at .end) (drop (at .end) s))) (at .start) t) (slot-size * k) (slot t) ≡ placed (section-of s) s k t
-put-placed {s} {k} {at} {t} p = let (m, l) = lying p in put-lies s k at t m l (section-meant s m (l .holds)) (p .small) (p .room)
+put-placed {s} {k} {at} {t} p = let (m, l) = in-map p in put-lies s k at t m l (section-meant s m (l .holds)) (p .small) (p .room)

@@ -1,6 +1,6 @@
 -- What each call answers and leaves, by what the lent bytes mean. Assumes nothing.
 use mathlib.Core.Path.{_≡_, refl, sym, ap, _∙_}
-use mathlib.Core.Logic.{_↔_, ⊎-elim}
+use mathlib.Core.Logic.{_↔_}
 use mathlib.Core.Bool.{true, false}
 use mathlib.Core.List.{[]}
 use mathlib.Core.Option.{Option, none, some}
@@ -8,20 +8,18 @@ use Prim.Native.Nat.{ℕ, _+_, _*_, _≤_, _<_}
 use native.Mathlib.Omega.{arith}
 use borrow.Author.Tests.{lt-ltb, le-ltb}
 use lib.ListN.{length, drop, set, length-append}
-use Rattle.pattern.specs.Numbers.{table-room, FULL, REGISTER}
+use Rattle.pattern.specs.Numbers.{table-room, TABLE, FULL, REGISTER, MISSING}
 use Rattle.pattern.specs.Bytes.{Bytes, overwrite}
 use Rattle.pattern.specs.Scan.{refuse}
 use Rattle.pattern.specs.Answers.{untried, ended, matchOf}
 use Rattle.pattern.proofs.Stores.{length-overwrite}
-use Rattle.pattern.proofs.Tests.{le-or-lt, if-false}
-use Rattle.register.specs.Maps.{Map, table-of, empty, tables, total, is-table, missing, Changed, change, store-in, remove-in, match-in}
-use Rattle.register.specs.Layout.{laid-out, overhead, capacity, kept, registerOf, Proper, Meant, kept-count}
+use Rattle.pattern.proofs.Tests.{if-false}
+use Rattle.register.specs.Maps.{Map, table-of, empty, total, is-table, missing, Changed, change, store-in, remove-in, match-in}
+use Rattle.register.specs.Layout.{laid-out, overhead, capacity, registerOf, Proper, Meant, table-count}
 use Rattle.register.specs.Register.{initOf, in-register, storeOf, removeOf, matchNumberOf}
-use Rattle.register.specs.Turns.{store, match}
-use Rattle.register.proofs.Maps.{kept-none, kept-table, proper-set, proper-empty, total-removed, total-empty, total-bounded}
-use Rattle.register.proofs.Cases.{store-full, store-done, store-cases, remove-cases}
-use Rattle.register.proofs.Meaning.{length-laid-out, meant, exactly, laid}
-use Rattle.register.proofs.Locating.{after}
+use Rattle.register.proofs.Maps.{none-allowed, table-allowed, proper-set, proper-empty, total-removed, total-empty, total-bounded}
+use Rattle.register.proofs.Cases.{store-bad, store-full, store-done, store-cases, remove-missing, remove-cases}
+use Rattle.register.proofs.Meaning.{length-laid-out, meant, laid}
 
 -- the tables that lent bytes mean are within them
 pub meant-within : (lent : Bytes) (m : Map) → registerOf lent ≡ some m → overhead + total m ≤ length lent
@@ -77,40 +75,40 @@ pub record Follows (lent : Bytes) (c : Changed Map) (o : Changed Bytes) : Type 0
   pub refused-leaves : ¬ (c .number ≡ 0) → o .after ≡ lent
 
 -- a map that a plain map may become: proper, and within the capacity; a refusal changes nothing
-pub record Allowed (lent : Bytes) (m : Map) (c : Changed Map) : Type 0 where
+record Becomes (lent : Bytes) (m : Map) (c : Changed Map) : Type 0 where
   pub proper : Proper (c .after)
   pub fits : overhead + total (c .after) ≤ length lent
   pub refused-same : ¬ (c .number ≡ 0) → c .after ≡ m
 
 module _ (lent : Bytes) (m : Map) (e : registerOf lent ≡ some m) where
-  abbrev h : Meant lent m
-  h = meant lent m e
+  abbrev meaning : Meant lent m
+  meaning = meant lent m e
 
-  follows : (call : Map → Changed Map) → Allowed lent m (call m) → Follows lent (call m) (in-register (registerOf lent) call lent)
+  follows : (call : Map → Changed Map) → Becomes lent m (call m) → Follows lent (call m) (in-register (registerOf lent) call lent)
   unfolding in-register
   follows call a =
       rw e (record {
         number = refl;
         means = laid (call m .after) lent (a .proper);
         long = length-overwrite (laid-out (call m .after)) lent (omega (arith, length-laid-out (call m .after) (a .proper), a .fits));
-        refused-leaves = λ n. ap (λ (x : Map). overwrite (laid-out x) lent) (a .refused-same n) ∙ sym (h .bytes);
+        refused-leaves = λ n. ap (λ (x : Map). overwrite (laid-out x) lent) (a .refused-same n) ∙ sym (meaning .bytes);
       })
 
-  refusal-allowed : (n : ℕ) → Allowed lent m (record { number = n; after = m })
-  refusal-allowed n = record { proper = h .proper; fits = meant-within lent m e; refused-same = λ f. refl }
+  refusal-becomes : (n : ℕ) → Becomes lent m (record { number = n; after = m })
+  refusal-becomes n = record { proper = meaning .proper; fits = meant-within lent m e; refused-same = λ f. refl }
 
   module _ (k : ℕ) where
     pub store-follows : (t : Bytes) → Follows lent (store-in (capacity lent) m k t) (storeOf lent k t)
     unfolding storeOf
     store-follows t =
-        follows (λ m. store-in (capacity lent) m k t) (store-cases (capacity lent) m k t (Allowed lent m) (refusal-allowed _) (refusal-allowed _)
-        (λ g r. record { proper = proper-set m k t (h .proper) (kept-table t g); fits = omega (arith, r, meant-within lent m e); refused-same = λ f. absurd (f refl) }))
+        follows (λ m. store-in (capacity lent) m k t) (store-cases (capacity lent) m k t (Becomes lent m) (λ g. refusal-becomes _) (λ g r. refusal-becomes _)
+        (λ g r. record { proper = proper-set m k t (meaning .proper) (table-allowed t g); fits = omega (arith, r, meant-within lent m e); refused-same = λ f. absurd (f refl) }))
 
     pub remove-follows : Follows lent (remove-in m k) (removeOf lent k)
     unfolding removeOf
     remove-follows =
-        follows (λ m. remove-in m k) (remove-cases m k (Allowed lent m) (refusal-allowed _)
-        (record { proper = proper-set m k [] (h .proper) kept-none; fits = omega (arith, total-removed m k, meant-within lent m e); refused-same = λ f. absurd (f refl) }))
+        follows (λ m. remove-in m k) (remove-cases m k (Becomes lent m) (λ n. refusal-becomes _)
+        (λ n. record { proper = proper-set m k [] (meaning .proper) none-allowed; fits = omega (arith, total-removed m k, meant-within lent m e); refused-same = λ f. absurd (f refl) }))
 
     pub match-follows : (label scratch parts : Bytes) (budget : ℕ) → matchNumberOf lent k label scratch parts budget ≡ match-in m k label scratch parts budget
     unfolding matchNumberOf
@@ -121,16 +119,32 @@ module _ (lent : Bytes) (m : Map) (e : registerOf lent ≡ some m) where
     unfolding match-in
     match-means n label scratch parts budget = match-follows label scratch parts budget ∙ if-false (missing m k) _ _ n
 
-    -- "A store is refused with 17 exactly when the lengths of all tables then kept would exceed capacity"
-    pub full-exactly : (t : Bytes) → is-table t ≡ true → (storeOf lent k t .number ≡ FULL) ↔ (capacity lent < total (set m k t))
-    full-exactly t g =
+    -- 11 just for what is no table
+    pub bad-exactly : (t : Bytes) → (storeOf lent k t .number ≡ TABLE) ↔ (is-table t ≡ false)
+    bad-exactly t =
         let n = store-follows t .number in (
-          λ f. ⊎-elim (λ r. absurd (let z : _≡_ {A = ℕ} 0 FULL = sym (n ∙ ap (λ (c : Changed Map). c .number) (store-done (capacity lent) m k t g r)) ∙ f in omega arith)) (λ r. r) (le-or-lt (total (set m k t)) (capacity lent)),
-          λ r. n ∙ ap (λ (c : Changed Map). c .number) (store-full (capacity lent) m k t g r),
+          λ f. store-cases (capacity lent) m k t (λ c. c .number ≡ TABLE → is-table t ≡ false) (λ g z. g) (λ g r z. absurd (omega arith)) (λ g r z. absurd (omega arith)) (sym n ∙ f),
+          λ g. n ∙ ap (λ (c : Changed Map). c .number) (store-bad (capacity lent) m k t g),
+        )
+
+    -- "A store is refused with 17 exactly when the lengths of all tables then kept would exceed capacity", and 11 comes before it
+    pub full-exactly : (t : Bytes) → (storeOf lent k t .number ≡ FULL) ↔ ((is-table t ≡ true) × (capacity lent < total (set m k t)))
+    full-exactly t =
+        let n = store-follows t .number in (
+          λ f. store-cases (capacity lent) m k t (λ c. c .number ≡ FULL → (is-table t ≡ true) × (capacity lent < total (set m k t))) (λ g z. absurd (omega arith)) (λ g r z. (g, r)) (λ g r z. absurd (omega arith)) (sym n ∙ f),
+          λ (g, r). n ∙ ap (λ (c : Changed Map). c .number) (store-full (capacity lent) m k t g r),
+        )
+
+    -- "A missing number is 19"
+    pub missing-exactly : (removeOf lent k .number ≡ MISSING) ↔ (missing m k ≡ true)
+    missing-exactly =
+        let n = remove-follows .number in (
+          λ f. remove-cases m k (λ c. c .number ≡ MISSING → missing m k ≡ true) (λ h z. h) (λ h z. absurd (omega arith)) (sym n ∙ f),
+          λ h. n ∙ ap (λ (c : Changed Map). c .number) (remove-missing m k h),
         )
 
     -- a buffer with room for as many of the longest tables as are then kept is never full
-    pub roomy : (t : Bytes) → is-table t ≡ true → overhead + table-room * kept-count (set m k t) ≤ length lent → storeOf lent k t .number ≡ 0
+    pub roomy : (t : Bytes) → is-table t ≡ true → overhead + table-room * table-count (set m k t) ≤ length lent → storeOf lent k t .number ≡ 0
     roomy t g r =
-        let n = total-bounded (set m k t) (proper-set m k t (h .proper) (kept-table t g) .each) in
+        let n = total-bounded (set m k t) (proper-set m k t (meaning .proper) (table-allowed t g) .each) in
         store-follows t .number ∙ ap (λ (c : Changed Map). c .number) (store-done (capacity lent) m k t g (omega (arith, n, r)))

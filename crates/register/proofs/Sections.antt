@@ -11,13 +11,13 @@ use lib.ListN.{length, take, drop, length-append, length-drop}
 use lib.Seq.{length-take-le, take-add, take-at, drop-at}
 use Rattle.pattern.specs.Bytes.{Bytes, equal}
 use Rattle.pattern.proofs.Agree.{equal-decides}
-use Rattle.pattern.proofs.Tests.{and-both, passed}
+use Rattle.pattern.proofs.Tests.{true-T, and-both, passed}
 use Rattle.stores.specs.Little.{value}
 use Rattle.stores.proofs.Little.{length-little, value-little}
 use Rattle.register.specs.Maps.{Map, tables, total}
-use Rattle.register.specs.Layout.{slot-size, slot, directory, kept}
+use Rattle.register.specs.Layout.{slot-size, slot, directory, allowed}
 use Rattle.register.specs.Sections.{first-size, first-table, intact, cons-if, held}
-use Rattle.register.proofs.Maps.{Kept, to-T, kept-short}
+use Rattle.register.proofs.Maps.{AllAllowed, allowed-short}
 
 -- ---- the parts of a layout
 
@@ -37,7 +37,7 @@ pub record Holds (c : ℕ) (d s : Bytes) (m : Map) : Type 0 where
   pub slots : take (slot-size * c) d ≡ directory m
   pub bytes : take (total m) s ≡ tables m
   pub within : total m ≤ length s
-  pub each : Kept m
+  pub each : AllAllowed m
 
 pub cons-is : (b : Bool) (t : Bytes) (o : Option Map) (m : Map) → cons-if b t o ≡ some m
     → (b ≡ true) × ((n : Map) × (o ≡ some n) × (t ∷ n ≡ m))
@@ -48,25 +48,25 @@ cons-is false t o m e = absurd (let z : _≡_ {A = ℕ} 0 1 = cc in omega arith)
 
 pub record Intact (d s : Bytes) : Type 0 where
   pub there : first-size d ≤ length s
-  pub keeps : kept (first-table d s) ≡ true
+  pub allows : allowed (first-table d s) ≡ true
   pub told : take slot-size d ≡ slot (first-table d s)
 
 pub intact-is : (d s : Bytes) → intact d s ≡ true → Intact d s
 unfolding intact
 intact-is d s e =
-    let (a, b) = and-both (leb (first-size d) (length s)) _ (to-T _ e) in
-    let (k, q) = and-both (kept (first-table d s)) _ b in
-    record { there = leb→le _ _ a; keeps = passed _ k; told = equal-decides (take slot-size d) (slot (first-table d s)) .sound q }
+    let (a, b) = and-both (leb (first-size d) (length s)) _ (true-T _ e) in
+    let (k, q) = and-both (allowed (first-table d s)) _ b in
+    record { there = leb→le _ _ a; allows = passed _ k; told = equal-decides (take slot-size d) (slot (first-table d s)) .sound q }
 
 pub is-intact : (d s : Bytes) → Intact d s → intact d s ≡ true
 unfolding intact
 is-intact d s r =
     let q = passed (equal (take slot-size d) (slot (first-table d s))) (equal-decides (take slot-size d) (slot (first-table d s)) .complete (r .told)) in
-    rw (le-leb (first-size d) (length s) (r .there), r .keeps, q)
+    rw (le-leb (first-size d) (length s) (r .there), r .allows, q)
 
-kept-cons : (t : Bytes) (m : Map) → kept t ≡ true → Kept m → Kept (t ∷ m)
-kept-cons t m h f zero = h
-kept-cons t m h f (suc k) = f k
+allowed-cons : (t : Bytes) (m : Map) → allowed t ≡ true → AllAllowed m → AllAllowed (t ∷ m)
+allowed-cons t m h f zero = h
+allowed-cons t m h f (suc k) = f k
 
 held-cons : (c : ℕ) (d s : Bytes) (m : Map) → Intact d s → Holds c (drop slot-size d) (drop (first-size d) s) m → Holds (suc c) d s (first-table d s ∷ m)
 unfolding directory tables
@@ -81,11 +81,11 @@ held-cons c d s m r h =
       slots = ap (λ (x : ℕ). take x d) a ∙ take-add slot-size (slot-size * c) d ∙ ap (λ (x : Bytes). x ++ take (slot-size * c) (drop slot-size d)) (r .told) ∙ ap (λ (x : Bytes). slot t ++ x) (h .slots);
       bytes = ap (λ (x : ℕ). take x s) b ∙ take-add (first-size d) (total m) s ∙ ap (λ (x : Bytes). t ++ x) (h .bytes);
       within = omega arith;
-      each = kept-cons t m (r .keeps) (h .each);
+      each = allowed-cons t m (r .allows) (h .each);
     }
 
 pub held-is : (c : ℕ) (d s : Bytes) (m : Map) → held c d s ≡ some m → Holds c d s m
-unfolding held directory tables kept
+unfolding held directory tables allowed
 held-is zero d s m e =
     let n : [] ≡ m = cc in
     rw (← n) (record { count = refl; slots = refl; bytes = refl; within = omega arith; each = λ k. refl })
@@ -99,7 +99,7 @@ held-next : (c : ℕ) (d s : Bytes) (m : Map) → intact d s ≡ true → held c
 unfolding held cons-if
 held-next c d s m r e = rw (r, e)
 
-module _ (t : Bytes) (m : Map) (x y : Bytes) (f : kept t ≡ true) where
+module _ (t : Bytes) (m : Map) (x y : Bytes) (f : allowed t ≡ true) where
   abbrev d : Bytes
   d = slot t ++ (directory m ++ x)
 
@@ -111,13 +111,13 @@ module _ (t : Bytes) (m : Map) (x y : Bytes) (f : kept t ≡ true) where
 
   sized : first-size d ≡ length t
   unfolding slot
-  sized = ap value takes ∙ value-little (length t) (omega (arith, kept-short t f))
+  sized = ap value takes ∙ value-little (length t) (omega (arith, allowed-short t f))
 
   here : first-table d s ≡ t
   here = ap (λ (n : ℕ). take n s) sized ∙ take-at t (tables m ++ y) (length t) refl
 
   ok : intact d s ≡ true
-  ok = is-intact d s (record { there = omega (arith, sized, length-append t (tables m ++ y)); keeps = ap kept here ∙ f; told = takes ∙ ap slot (sym here) })
+  ok = is-intact d s (record { there = omega (arith, sized, length-append t (tables m ++ y)); allows = ap allowed here ∙ f; told = takes ∙ ap slot (sym here) })
 
   cons-held : held (length m) (directory m ++ x) (tables m ++ y) ≡ some m → held (suc (length m)) d s ≡ some (t ∷ m)
   cons-held h = held-next (length m) d s m ok rest ∙ ap (λ (u : Bytes). some (u ∷ m)) here
@@ -125,7 +125,7 @@ module _ (t : Bytes) (m : Map) (x y : Bytes) (f : kept t ≡ true) where
       rest : held (length m) (drop slot-size d) (drop (first-size d) s) ≡ some m
       rest = rw (drop-at (slot t) (directory m ++ x) slot-size (length-slot t), sized, drop-at t (tables m ++ y) (length t) refl) h
 
-pub is-held : (m : Map) (x y : Bytes) → Kept m → held (length m) (directory m ++ x) (tables m ++ y) ≡ some m
+pub is-held : (m : Map) (x y : Bytes) → AllAllowed m → held (length m) (directory m ++ x) (tables m ++ y) ≡ some m
 unfolding directory tables held
 is-held [] x y f = refl
 is-held (t ∷ m) x y f = rw (append-assoc (slot t) (directory m) x, append-assoc t (tables m) y) (cons-held t m x y (f 0) (is-held m x y (λ k. f (suc k))))

@@ -14,71 +14,69 @@ use Rattle.pattern.proofs.Tests.{le-or-lt}
 use Rattle.register.specs.Maps.{Map, empty, total, is-table, Changed}
 use Rattle.register.specs.Layout.{overhead, capacity, registerOf}
 use Rattle.register.specs.Register.{initOf, storeOf}
-use Rattle.register.specs.Turns.{Call, init, store, remove, match, Reply, numbered, matched, refusal-of, changed, map-step, register-step, replies, after-all, Simulates}
-use Rattle.register.proofs.Meaning.{means}
-use Rattle.register.proofs.Locating.{after}
+use Rattle.register.specs.Turns.{Call, init, store, remove, match, Response, answered, matched, response-number, changed, map-step, register-step, responses, after-all, Simulates}
 use Rattle.register.proofs.Registers.{meant-within, init-means, store-refused, remove-refused, match-refused, init-refused, Follows, store-follows, remove-follows, match-follows, full-exactly}
 
 changed-simulates : (lent : Bytes) (c : Changed Map) (o : Changed Bytes) → Follows lent c o → Simulates lent (changed c) (changed o)
-unfolding refusal-of
-changed-simulates lent c o f = record { reply = ap numbered (f .number); means = f .means; long = f .long; refused-leaves = λ n. f .refused-leaves (λ z. n (f .number ∙ z)) }
+unfolding response-number
+changed-simulates lent c o f = record { response = ap answered (f .number); means = f .means; long = f .long; refused-leaves = λ n. f .refused-leaves (λ z. n (f .number ∙ z)) }
 
 -- "It must answer as a plain map from number to table does", each call
 pub step-simulates : (lent : Bytes) (m : Map) → registerOf lent ≡ some m → (c : Call) → Simulates lent (map-step (capacity lent) m c) (register-step lent c)
-unfolding map-step register-step refusal-of
+unfolding map-step register-step response-number
 step-simulates lent m e init =
     let (n, f, l) = init-means lent (omega (arith, meant-within lent m e)) in
-    record { reply = ap numbered n; means = f; long = l; refused-leaves = λ z. absurd (z n) }
+    record { response = ap answered n; means = f; long = l; refused-leaves = λ z. absurd (z n) }
 step-simulates lent m e (store k t) = changed-simulates lent _ _ (store-follows lent m e k t)
 step-simulates lent m e (remove k) = changed-simulates lent _ _ (remove-follows lent m e k)
 step-simulates lent m e (match k label scratch parts budget) =
-    record { reply = ap matched (match-follows lent m e k label scratch parts budget); means = e; long = refl; refused-leaves = λ z. refl }
+    record { response = ap matched (match-follows lent m e k label scratch parts budget); means = e; long = refl; refused-leaves = λ z. refl }
 
 same-capacity : (a b : Bytes) → length a ≡ length b → capacity a ≡ capacity b
 same-capacity a b h = omega arith
 
--- and all calls in turn: the replies are the plain map's, and the lent bytes then mean what it then is
+-- and all calls in turn: the responses are the plain map's, and the lent bytes then mean what it then is
 pub simulation : (lent : Bytes) (m : Map) (calls : List Call) → registerOf lent ≡ some m
-    → (replies register-step lent calls ≡ replies (map-step (capacity lent)) m calls)
+    → (responses register-step lent calls ≡ responses (map-step (capacity lent)) m calls)
     × (registerOf (after-all register-step lent calls) ≡ some (after-all (map-step (capacity lent)) m calls))
     × (length (after-all register-step lent calls) ≡ length lent)
-unfolding replies after-all
+unfolding responses after-all
 simulation lent m [] e = (refl, e, refl)
 simulation lent m (c ∷ cs) e =
     let s = step-simulates lent m e c in
     let next : Bytes = register-step lent c .next in
     let (r, a, l) = simulation next (map-step (capacity lent) m c .next) cs (s .means) in
     let n : capacity next ≡ capacity lent = same-capacity next lent (s .long) in
-    (rw (s .reply, r, n), rw (a, n), l ∙ s .long)
+    (rw (s .response, r, n), rw (a, n), l ∙ s .long)
 
 -- from any bytes that are enough, whatever they hold
 pub simulation-from-init : (lent : Bytes) (calls : List Call) → overhead ≤ length lent
-    → (replies register-step lent (init ∷ calls) ≡ replies (map-step (capacity lent)) empty (init ∷ calls))
+    → (responses register-step lent (init ∷ calls) ≡ responses (map-step (capacity lent)) empty (init ∷ calls))
     × (registerOf (after-all register-step lent (init ∷ calls)) ≡ some (after-all (map-step (capacity lent)) empty (init ∷ calls)))
     × (length (after-all register-step lent (init ∷ calls)) ≡ length lent)
-unfolding replies after-all map-step register-step
+unfolding responses after-all map-step register-step
 simulation-from-init lent calls h =
     let (n, e, l) = init-means lent h in
     let next : Bytes = initOf lent .after in
     let (r, a, l′) = simulation next empty calls e in
     let c : capacity next ≡ capacity lent = same-capacity next lent l in
-    (ap₂ (λ (x : Reply) (xs : List Reply). x ∷ xs) (ap numbered n) (r ∙ ap (λ x. replies (map-step x) empty calls) c), a ∙ ap (λ x. some (after-all (map-step x) empty calls)) c, l′ ∙ l)
+    (ap₂ (λ (x : Response) (xs : List Response). x ∷ xs) (ap answered n) (r ∙ ap (λ x. responses (map-step x) empty calls) c), a ∙ ap (λ x. some (after-all (map-step x) empty calls)) c, l′ ∙ l)
 
 -- "so freed room is used again": after any stores and removals 17 asks for the lengths that are then kept, and for nothing else
-pub room-after : (lent : Bytes) (m : Map) (calls : List Call) → registerOf lent ≡ some m → (k : ℕ) (t : Bytes) → is-table t ≡ true
-    → (storeOf (after-all register-step lent calls) k t .number ≡ FULL) ↔ (capacity lent < total (set (after-all (map-step (capacity lent)) m calls) k t))
-room-after lent m calls e k t g =
+pub room-after : (lent : Bytes) (m : Map) (calls : List Call) → registerOf lent ≡ some m → (k : ℕ) (t : Bytes)
+    → (storeOf (after-all register-step lent calls) k t .number ≡ FULL) ↔ ((is-table t ≡ true) × (capacity lent < total (set (after-all (map-step (capacity lent)) m calls) k t)))
+room-after lent m calls e k t =
     let (r, a, l) = simulation lent m calls e in
     let now : Bytes = after-all register-step lent calls in
     let c : capacity now ≡ capacity lent = same-capacity now lent l in
-    rw c at (full-exactly now (after-all (map-step (capacity lent)) m calls) a k t g)
+    rw c at (full-exactly now (after-all (map-step (capacity lent)) m calls) a k t)
 
 -- ---- any lent bytes
 
 -- where they mean no map: 18 and all stays, or it is starting empty
 none-step : (lent : Bytes) → registerOf lent ≡ none → (c : Call)
-    → ((refusal-of (register-step lent c .reply) ≡ REGISTER) × (register-step lent c .next ≡ lent)) ⊎ ((refusal-of (register-step lent c .reply) ≡ 0) × (registerOf (register-step lent c .next) ≡ some empty))
-unfolding register-step refusal-of ended
+    → ((response-number (register-step lent c .response) ≡ REGISTER) × (register-step lent c .next ≡ lent)) ⊎ ((response-number (register-step lent c .response) ≡ 0) × (registerOf (register-step lent c .next) ≡ some empty))
+unfolding register-step response-number ended
 none-step lent e init = ⊎-elim (λ h. let (n, f, l) = init-means lent h in inr (n, f)) (λ h. inl (refused (init-refused lent h))) (le-or-lt overhead (length lent))
   where
     refused : initOf lent ≡ record { number = REGISTER; after = lent } → (initOf lent .number ≡ REGISTER) × (initOf lent .after ≡ lent)
@@ -88,8 +86,8 @@ none-step lent e (remove k) = let f = remove-refused lent e k in inl (ap (λ (o 
 none-step lent e (match k label scratch parts budget) = inl (ap (λ (o : MatchOutput). o .answer .number) (match-refused lent e k label scratch parts budget), refl)
 
 module _ (lent : Bytes) (c : Call) where
-  -- "Every call not refused with 9 or 18 leaves a good buffer"
-  pub good-after : ¬ (refusal-of (register-step lent c .reply) ≡ REGISTER) → (m : Map) × (registerOf (register-step lent c .next) ≡ some m)
+  -- "Every call not refused with" 18 "leaves a good buffer"; 9 is of the calls from C (mpt/proofs/Good)
+  pub good-after : ¬ (response-number (register-step lent c .response) ≡ REGISTER) → (m : Map) × (registerOf (register-step lent c .next) ≡ some m)
   good-after n = go (registerOf lent) refl
     where
       go : (o : Option Map) → registerOf lent ≡ o → (m : Map) × (registerOf (register-step lent c .next) ≡ some m)
@@ -97,7 +95,7 @@ module _ (lent : Bytes) (c : Call) where
       go none e = ⊎-elim (λ (r, l). absurd (n r)) (λ (r, f). (empty, f)) (none-step lent e c)
 
   -- "Refusals change nothing in the register"
-  pub refused-leaves : ¬ (refusal-of (register-step lent c .reply) ≡ 0) → register-step lent c .next ≡ lent
+  pub refused-leaves : ¬ (response-number (register-step lent c .response) ≡ 0) → register-step lent c .next ≡ lent
   refused-leaves n = go (registerOf lent) refl
     where
       go : (o : Option Map) → registerOf lent ≡ o → register-step lent c .next ≡ lent

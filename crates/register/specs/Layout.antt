@@ -54,25 +54,25 @@ cut (suc c) slots bytes =
     take n bytes ∷ cut c (drop slot-size slots) (drop n bytes)
 
 -- no table, or a good one
-unfoldable pub kept : Bytes → Bool
-kept t = eqb (length t) 0 || is-table t
+unfoldable pub allowed : Bytes → Bool
+allowed t = eqb (length t) 0 || is-table t
 
-unfoldable pub all-kept : Map → Bool
-all-kept [] = true
-all-kept (t ∷ m) = kept t && all-kept m
+unfoldable pub all-allowed : Map → Bool
+all-allowed [] = true
+all-allowed (t ∷ m) = allowed t && all-allowed m
 
 -- the map that lent bytes mean: "a buffer that doesn't meet" the layout, "or holds a bad table", means none
 unfoldable pub registerOf : Bytes → Option Map
 registerOf lent =
     let m : Map = cut numbers (drop preamble-size lent) (drop overhead lent) in
-    elim (all-kept m && equal (take (length (laid-out m)) lent) (laid-out m)) [ true ↦ some m | false ↦ none ]
+    elim (all-allowed m && equal (take (length (laid-out m)) lent) (laid-out m)) [ true ↦ some m | false ↦ none ]
 
 -- ---- what the theorems say
 
 -- a map that lent bytes can mean: no table or a good one for each number
 pub record Proper (m : Map) : Type 0 where
   pub count : length m ≡ numbers
-  pub each : (k : ℕ) → kept (table-of m k) ≡ true
+  pub each : (k : ℕ) → allowed (table-of m k) ≡ true
 
 -- the lent bytes begin with the map laid out
 pub record Meant (lent : Bytes) (m : Map) : Type 0 where
@@ -80,6 +80,6 @@ pub record Meant (lent : Bytes) (m : Map) : Type 0 where
   pub bytes : lent ≡ overwrite (laid-out m) lent
 
 -- how many tables a map has
-unfoldable pub kept-count : Map → ℕ
-kept-count [] = 0
-kept-count (t ∷ m) = elim (eqb (length t) 0) [ true ↦ kept-count m | false ↦ suc (kept-count m) ]
+unfoldable pub table-count : Map → ℕ
+table-count [] = 0
+table-count (t ∷ m) = elim (eqb (length t) 0) [ true ↦ table-count m | false ↦ suc (table-count m) ]

@@ -14,7 +14,7 @@ use Rattle.register.specs.declared.locate.TablesEnd.the-variants as endi
 use Rattle.register.specs.declared.locate.Located.{Located}
 use Rattle.register.specs.declared.locate.Located.the-variants as location
 use Rattle.register.specs.Maps.{numbers, Map, table-of, total}
-use Rattle.register.specs.Layout.{preamble, preamble-size, slot-size, slot, directory-size, section, kept}
+use Rattle.register.specs.Layout.{preamble, preamble-size, slot-size, slot, directory-size, section, allowed}
 
 -- the length in the first of these slots, and the table that it cuts from bytes
 abbrev pub first-size : (slots : Bytes) → ℕ
@@ -26,7 +26,7 @@ first-table slots bytes = take (first-size slots) bytes
 -- it is all there, none or good, and the slot is that of its length
 unfoldable pub intact : (slots bytes : Bytes) → Bool
 intact slots bytes =
-    leb (first-size slots) (length bytes) && (kept (first-table slots bytes) && equal (take slot-size slots) (slot (first-table slots bytes)))
+    leb (first-size slots) (length bytes) && (allowed (first-table slots bytes) && equal (take slot-size slots) (slot (first-table slots bytes)))
 
 unfoldable pub cons-if : Bool → Bytes → Option Map → Option Map
 cons-if true t (some m) = some (t ∷ m)
@@ -73,5 +73,5 @@ placed (some m) s k t = overwrite (section (set m k t)) s
 pub record PutTablePre (s : Bytes) (k : ℕ) (at : Location) (t : Bytes) : Type 0 where
   pub small : k < numbers
   pub lies : location.At at ≡ located k (section-of s)
-  pub keeps : kept t ≡ true
+  pub allows : allowed t ≡ true
   pub room : at .used + length t ≤ length s + (at .end - at .start)

@@ -17,41 +17,41 @@ pub data Call : Type 0 where
   remove : (number : ℕ) → Call
   match : (number : ℕ) → (label scratch parts : Bytes) → (budget : ℕ) → Call
 
--- what the caller hears: a refusal number, or all of a match
-pub data Reply : Type 0 where
-  numbered : (number : ℕ) → Reply
-  matched : MatchOutput → Reply
+-- what a call answers: a refusal number, or all of a match
+pub data Response : Type 0 where
+  answered : (number : ℕ) → Response
+  matched : MatchOutput → Response
 
 -- its refusal number, 0 for none
-unfoldable pub refusal-of : Reply → ℕ
-refusal-of (numbered number) = number
-refusal-of (matched o) = o .answer .number
+unfoldable pub response-number : Response → ℕ
+response-number (answered number) = number
+response-number (matched o) = o .answer .number
 
 pub record Step (State : Type 0) : Type 0 where
-  pub reply : Reply
+  pub response : Response
   pub next : State
 
 abbrev pub changed : {State : Type 0} → Changed State → Step State
-changed c = record { reply = numbered (c .number); next = c .after }
+changed c = record { response = answered (c .number); next = c .after }
 
 -- a call on a plain map with a capacity
 unfoldable pub map-step : (capacity : ℕ) → Map → Call → Step Map
-map-step capacity m init = record { reply = numbered 0; next = empty }
+map-step capacity m init = record { response = answered 0; next = empty }
 map-step capacity m (store k t) = changed (store-in capacity m k t)
 map-step capacity m (remove k) = changed (remove-in m k)
-map-step capacity m (match k label scratch parts budget) = record { reply = matched (match-in m k label scratch parts budget); next = m }
+map-step capacity m (match k label scratch parts budget) = record { response = matched (match-in m k label scratch parts budget); next = m }
 
 -- a call on lent bytes
 unfoldable pub register-step : Bytes → Call → Step Bytes
 register-step lent init = changed (initOf lent)
 register-step lent (store k t) = changed (storeOf lent k t)
 register-step lent (remove k) = changed (removeOf lent k)
-register-step lent (match k label scratch parts budget) = record { reply = matched (matchNumberOf lent k label scratch parts budget); next = lent }
+register-step lent (match k label scratch parts budget) = record { response = matched (matchNumberOf lent k label scratch parts budget); next = lent }
 
--- the replies to calls in turn, and what there is after them
-unfoldable pub replies : {State : Type 0} → (State → Call → Step State) → State → List Call → List Reply
-replies step s [] = []
-replies step s (c ∷ cs) = step s c .reply ∷ replies step (step s c .next) cs
+-- what calls in turn answer, and what there is after them
+unfoldable pub responses : {State : Type 0} → (State → Call → Step State) → State → List Call → List Response
+responses step s [] = []
+responses step s (c ∷ cs) = step s c .response ∷ responses step (step s c .next) cs
 
 unfoldable pub after-all : {State : Type 0} → (State → Call → Step State) → State → List Call → State
 after-all step s [] = s
@@ -59,9 +59,9 @@ after-all step s (c ∷ cs) = after-all step (step s c .next) cs
 
 -- ---- what the theorems say
 
--- the same reply, and as many lent bytes as before, which mean what the plain map became; a refusal leaves each of them
+-- the same response, and as many lent bytes as before, which mean what the plain map became; a refusal leaves each of them
 pub record Simulates (lent : Bytes) (p : Step Map) (o : Step Bytes) : Type 0 where
-  pub reply : o .reply ≡ p .reply
+  pub response : o .response ≡ p .response
   pub means : registerOf (o .next) ≡ some (p .next)
   pub long : length (o .next) ≡ length lent
-  pub refused-leaves : ¬ (refusal-of (o .reply) ≡ 0) → o .next ≡ lent
+  pub refused-leaves : ¬ (response-number (o .response) ≡ 0) → o .next ≡ lent

@@ -31,18 +31,18 @@ const PREAMBLE: [u8; PREAMBLE_SIZE] = *b"MPR\x01\x00\x00\x00\x00";
 const OVERHEAD: usize = PREAMBLE_SIZE + DIRECTORY_SIZE;
 
 // The first bytes of every register.
-fn first_bytes() -> [u8; PREAMBLE_SIZE]
+fn preamble() -> [u8; PREAMBLE_SIZE]
     ensures { λ r. ⌜ r ≡ preamble ⌝ }
 {
     PREAMBLE
 }
 
 // Whether lent bytes begin as a register does.
-fn is_marked(lent: &[u8]) -> bool
+fn has_preamble(lent: &[u8]) -> bool
     requires { ⌜ preamble-size ≤ length (now lent) ⌝ }
     ensures { λ r. ⌜ r ≡ equal (take preamble-size (now (lent .entry))) preamble ⌝ }
 {
-    let first = first_bytes();
+    let first = preamble();
     equal(lent, 0, &first, 0, PREAMBLE_SIZE)
 }
 
@@ -53,7 +53,7 @@ fn find(lent: &[u8], number: u8) -> Located
     if lent.len() < OVERHEAD {
         return Located::Bad;
     }
-    if is_marked(lent) {
+    if has_preamble(lent) {
         let k = number as usize;
         return locate(&lent[PREAMBLE_SIZE..], k);
     }
@@ -68,7 +68,7 @@ pub fn init(lent: &mut [u8]) -> u32
         return refusal::REGISTER;
     }
     clear(lent, OVERHEAD);
-    let first = first_bytes();
+    let first = preamble();
     copy(&first, PREAMBLE_SIZE, lent, 0);
     0
 }

@@ -45,7 +45,7 @@ fn is_table(bytes: &[u8]) -> bool
 
 // The tables of the numbers from a on and below b, the first one at a place.
 fn pass_tables(section: &[u8], a: usize, b: usize, at: usize) -> TablesEnd
-    requires { ⌜ (a ≤ b) × (b ≤ numbers) × (directory-size ≤ length (now section)) × (at ≤ length (now section)) ⌝ }
+    requires { ⌜ (b ≤ numbers) × (directory-size ≤ length (now section)) × (at ≤ length (now section)) ⌝ }
     ensures { λ r. ⌜ r ≡ tables-end at (held (b - a) (drop (slot-size * a) (now (section .entry))) (drop at (now (section .entry)))) ⌝ }
 {
     let mut k = a;

@@ -16,15 +16,11 @@ use Rattle.pattern.specs.Within.{Small, Fits, InLimits}
 use Rattle.pattern.specs.Print.{print-count, double, print}
 use Rattle.pattern.specs.Table.{high-field}
 use Rattle.pattern.specs.Decode.{high-of}
-use Rattle.pattern.proofs.Tests.{passed}
+use Rattle.pattern.proofs.Tests.{true-T, passed}
 use Rattle.pattern.proofs.Printed.{count-printed, Printable, quoted-printed, letters-printed, letters-some, quoted-printable}
 use Rattle.table.specs.Checked.{all-plain, ordered}
 use Rattle.table.proofs.Standing.{Clean}
 use Rattle.table.proofs.Options.{and-true, true-and}
-
-pub true-T : (b : Bool) → b ≡ true → T b
-true-T true h = tt
-true-T false h = absurd (mathlib.Core.Bool.false≢true h)
 
 plain-printable : (v : Bytes) → all-plain v ≡ true → Printable v
 unfolding all-plain Printable

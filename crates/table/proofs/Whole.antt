@@ -16,7 +16,7 @@ use Rattle.pattern.specs.Within.{InLimits, Limited}
 use Rattle.pattern.specs.Print.{print}
 use Rattle.pattern.specs.Table.{pool, records, record-bytes, header, encode}
 use Rattle.pattern.specs.Decode.{decode}
-use Rattle.pattern.proofs.Tests.{le-or-lt}
+use Rattle.pattern.proofs.Tests.{true-T, le-or-lt}
 use Rattle.pattern.proofs.Agree.{equal-decides}
 use Rattle.pattern.proofs.Accepted.{accepted-exactly}
 use Rattle.pattern.proofs.Records.{count-records, next-there, after-there}
@@ -27,7 +27,7 @@ use Rattle.table.specs.Checked.{bind, only-if, read-pattern, read-table,
 use Rattle.table.proofs.Standing.{Clean, Set}
 use Rattle.table.proofs.Options.{inside, after-some, only-some, kept, dropped, going-on, and-true, true-and}
 use Rattle.table.proofs.Places.{step, pair}
-use Rattle.table.proofs.Clean.{true-T, clean-derives, derives-clean}
+use Rattle.table.proofs.Clean.{clean-derives, derives-clean}
 use Rattle.table.proofs.Sound.{Laid, sound}
 use Rattle.table.proofs.Complete.{found}
 

@@ -1,25 +1,21 @@
 -- `mpt_register_remove` meets its contract. Assumes nothing.
-use mathlib.Core.Path.{refl}
-use Rattle.pattern.specs.Bytes.{Bytes}
-use Rattle.pattern.specs.Answers.{refusal}
-use Rattle.register.specs.Maps.{Changed}
 use Rattle.mpt.specs.Area.{area}
-use Rattle.mpt.specs.Calls.{change-call, remove-call}
-use Rattle.mpt.proofs.Returns.{short-area, long-area}
+use Rattle.mpt.specs.Calls.{remove-call}
+use Rattle.mpt.proofs.Returns.{short-change, long-change}
 use borrow.Author.Needs.{needs}
 use Rattle.mpt.proofs.mpt_register_remove.Statement.{statement}
 use Rattle.mpt.proofs.mpt_register_remove.Tie as tie
 
 returns : tie.Need-returns
-unfolding change-call remove-call
-returns c = short-area _ _ _ _ (c .if1 .taken)
+unfolding remove-call
+returns c = short-change _ _ _ (c .if1 .taken)
 
 returns-2 : tie.Need-returns-2
-unfolding change-call remove-call area
+unfolding remove-call area
 returns-2 c =
     let after-put-answer = c .before .before in
     let after-remove = after-put-answer .before .before .before .before in
-    long-area (λ (o : Changed Bytes). refusal (o .number) 0) (λ (o : Changed Bytes). o .after) _ _ (refusal (after-remove .remove .result) 0) (after-remove .before .before .if1 .left) (after-remove .remove .ensures) refl (after-put-answer .put-answer .ensures)
+    long-change _ _ _ _ _ (after-remove .before .before .if1 .left) (after-remove .remove .ensures) (after-put-answer .put-answer .ensures)
 
 pub mpt-register-remove-spec : {M : Type 1} → statement M
 mpt-register-remove-spec = tie.close (tie.spec returns (λ c κs. search needs) (λ c κs. search needs) (search needs) (search needs) returns-2)

@@ -6,10 +6,10 @@ use Rattle.register.proofs.find.Statement.{statement}
 use Rattle.register.proofs.find.Tie as tie
 
 returns-2 : tie.Need-returns-2
-returns-2 c = find-on _ _ _ (sym (c .before .before .if2 .taken) ∙ c .before .before .before .is-marked .ensures) (c .locate .ensures)
+returns-2 c = find-on _ _ _ (sym (c .before .before .if2 .taken) ∙ c .before .before .before .has-preamble .ensures) (c .locate .ensures)
 
 returns-3 : tie.Need-returns-3
-returns-3 c = find-off _ _ (sym (c .if2 .left) ∙ c .before .is-marked .ensures)
+returns-3 c = find-off _ _ (sym (c .if2 .left) ∙ c .before .has-preamble .ensures)
 
 pub find-spec : {M : Type 1} → statement M
 find-spec =

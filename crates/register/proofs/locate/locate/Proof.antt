@@ -4,31 +4,31 @@ use mathlib.Core.List.{_++_}
 use Prim.Native.Nat.{_+_}
 use native.Mathlib.Omega.{arith}
 use Rattle.register.specs.Maps.{numbers, Map}
-use Rattle.register.proofs.Locating.{Sofar, sofar-start, sofar-on, sofar-within, locate-short, locate-bad, locate-at}
+use Rattle.register.proofs.Locating.{FirstTables, no-tables, more-tables, tables-within, locate-short, locate-bad, locate-at}
 use borrow.Author.Needs.{needs}
 use Rattle.register.proofs.locate.locate.Statement.{statement}
 use Rattle.register.proofs.locate.locate.Tie as tie
 
 -- the tables of the numbers below k, of k too, and of all
-below : (c : tie.After-known-told) → (n : Map) × Sofar (c .before .before .before .before .before .before .args .section .now) (c .before .before .before .before .before .before .args .k) (c .before .start .given .0 .0) n
-below c = sofar-on (sofar-start _) (omega arith) _ (sym (c .before .start .given .1) ∙ c .before .before .before .pass-tables .ensures)
+below : (c : tie.After-known-told) → (n : Map) × FirstTables (c .before .before .before .before .before .before .args .section .now) (c .before .before .before .before .before .before .args .k) (c .before .start .given .0 .0) n
+below c = more-tables (no-tables _) (omega arith) _ (sym (c .before .start .given .1) ∙ c .before .before .before .pass-tables .ensures)
 
-upto : (c : tie.After-known-told2) → (n : Map) × Sofar (c .before .before .before .before .before .before .before .before .before .before .args .section .now) (c .before .before .before .before .before .before .before .before .before .before .args .k + 1) (c .before .end .given .0 .0) (below (c .before .before .before .before) .0 ++ n)
-upto c = sofar-on (below (c .before .before .before .before) .1) (omega arith) _ (sym (c .before .end .given .1) ∙ c .before .before .before .pass-tables2 .ensures)
+upto : (c : tie.After-known-told2) → (n : Map) × FirstTables (c .before .before .before .before .before .before .before .before .before .before .args .section .now) (c .before .before .before .before .before .before .before .before .before .before .args .k + 1) (c .before .end .given .0 .0) (below (c .before .before .before .before) .0 ++ n)
+upto c = more-tables (below (c .before .before .before .before) .1) (omega arith) _ (sym (c .before .end .given .1) ∙ c .before .before .before .pass-tables2 .ensures)
 
-all : (c : tie.After-known-told3) → (n : Map) × Sofar (c .before .before .before .before .before .before .before .before .before .before .before .before .before .before .args .section .now) numbers (c .before .used .given .0 .0) ((below (c .before .before .before .before .before .before .before .before) .0 ++ upto (c .before .before .before .before) .0) ++ n)
-all c = sofar-on (upto (c .before .before .before .before) .1) (omega (arith, c .before .before .before .before .before .before .before .before .before .before .before .before .before .before .pre)) _ (sym (c .before .used .given .1) ∙ c .before .before .before .pass-tables3 .ensures)
+all : (c : tie.After-known-told3) → (n : Map) × FirstTables (c .before .before .before .before .before .before .before .before .before .before .before .before .before .before .args .section .now) numbers (c .before .used .given .0 .0) ((below (c .before .before .before .before .before .before .before .before) .0 ++ upto (c .before .before .before .before) .0) ++ n)
+all c = more-tables (upto (c .before .before .before .before) .1) (omega (arith, c .before .before .before .before .before .before .before .before .before .before .before .before .before .before .pre)) _ (sym (c .before .used .given .1) ∙ c .before .before .before .pass-tables3 .ensures)
 
 returns-2 : tie.Need-returns-2
 returns-2 c =
     let start = c .before .before .before .before .before in
-    locate-bad _ _ (c .before .before .before .if1 .left) (start .pre) (sofar-start _) (omega arith) (omega (arith, start .pre)) (sym (c .enum-told .given .1) ∙ c .before .before .pass-tables .ensures)
+    locate-bad _ _ (c .before .before .before .if1 .left) (start .pre) (no-tables _) (omega arith) (omega (arith, start .pre)) (sym (c .enum-told .given .1) ∙ c .before .before .pass-tables .ensures)
 
 pass-tables-requires-2 : tie.Need-pass-tables-requires-2
 pass-tables-requires-2 c κs =
     let start = c .before .before .before .before .before .before in
     let long = c .before .before .before .before .if1 .left in
-    (omega arith, omega (arith, start .pre), long, sofar-within (below c .1) long)
+    (omega (arith, start .pre), long, tables-within (below c .1) long)
 
 returns-3 : tie.Need-returns-3
 returns-3 c =
@@ -39,7 +39,7 @@ pass-tables-requires-3 : tie.Need-pass-tables-requires-3
 pass-tables-requires-3 c κs =
     let start = c .before .before .before .before .before .before .before .before .before .before in
     let long = c .before .before .before .before .before .before .before .before .if1 .left in
-    (omega (arith, start .pre), omega arith, long, sofar-within (upto c .1) long)
+    (omega arith, long, tables-within (upto c .1) long)
 
 returns-4 : tie.Need-returns-4
 returns-4 c =

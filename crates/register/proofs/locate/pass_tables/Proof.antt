@@ -13,13 +13,13 @@ abbrev μ-loop : tie.MeasureT-loop
 μ-loop section a b at k₀ end₀ k end = b - k
 
 read32-requires : tie.Need-read32-requires Inv-loop μ-loop
-read32-requires c κs = omega (arith, c .before .before .before .pre, c .before .loop .inv .upto)
+read32-requires c κs = omega (arith, c .before .before .before .pre)
 
 loop-again : tie.Need-loop-again Inv-loop μ-loop
 loop-again c =
     let in-loop = c .before .before in
     let pre = in-loop .before .before .before .pre in
-    pass-none (in-loop .before .loop .inv) _ (c .before .read32 .ensures) (in-loop .loop-test .taken) (c .if1 .taken) (λ k. in-loop .before .before .shared-slice-known .given k .fits) (pre .2) (pre .1)
+    pass-none (in-loop .before .loop .inv) _ (c .before .read32 .ensures) (in-loop .loop-test .taken) (c .if1 .taken) (λ k. in-loop .before .before .shared-slice-known .given k .fits) (pre .1) (pre .0)
 
 returns : tie.Need-returns Inv-loop μ-loop
 returns c =
@@ -32,7 +32,7 @@ loop-again-2 c =
     let after-read32 = after-if2 .before .before in
     let in-loop = after-read32 .before in
     let pre = in-loop .before .before .before .pre in
-    pass-table (in-loop .before .loop .inv) _ (after-read32 .read32 .ensures) (in-loop .loop-test .taken) (after-if2 .if2 .left) (λ k. in-loop .before .before .shared-slice-known .given k .fits) (pre .2) (pre .1) (sym (c .if3 .taken) ∙ c .before .is-table .ensures)
+    pass-table (in-loop .before .loop .inv) _ (after-read32 .read32 .ensures) (in-loop .loop-test .taken) (after-if2 .if2 .left) (λ k. in-loop .before .before .shared-slice-known .given k .fits) (pre .1) (pre .0) (sym (c .if3 .taken) ∙ c .before .is-table .ensures)
 
 returns-2 : tie.Need-returns-2 Inv-loop μ-loop
 returns-2 c =
@@ -46,7 +46,7 @@ pass-tables-spec =
     (tie.spec
     Inv-loop
     μ-loop
-    (λ c. pass-start _ _ _ _ (c .before .pre .0) (c .before .pre .3))
+    (λ c. pass-start _ _ _ _ (c .before .pre .2))
     (λ c. omega (arith, c .before .before .before .pre))
     read32-requires
     (λ c. omega arith)

@@ -7,7 +7,7 @@ use lib.Seq.{take-all}
 use Rattle.pattern.specs.Bytes.{Bytes}
 use Rattle.pattern.specs.Stores.{store-at}
 use Rattle.register.specs.Layout.{slot-size, slot}
-use Rattle.register.proofs.Maps.{kept-short}
+use Rattle.register.proofs.Maps.{allowed-short}
 use Rattle.register.proofs.Putting.{put-places, put-placed}
 use borrow.Author.Needs.{needs}
 use Rattle.register.proofs.put.put_table.Statement.{statement}
@@ -25,7 +25,7 @@ copy-requires c κs =
     (omega arith, omega (arith, p .room, c .before .before .before .move-bytes .kept .0))
 
 cast-put32 : tie.Need-cast-put32
-cast-put32 c = omega (arith, kept-short _ (c .before .before .before .before .before .before .before .before .before .before .before .before .pre .keeps))
+cast-put32 c = omega (arith, allowed-short _ (c .before .before .before .before .before .before .before .before .before .before .before .before .pre .allows))
 
 put32-requires : tie.Need-put32-requires
 put32-requires c κs =
