@@ -105,6 +105,7 @@ uint32_t mpt_register_init(uint8_t *reg, size_t reg_len, uint8_t *answer, size_t
 uint32_t mpt_register_store(uint8_t *reg, size_t reg_len, uint8_t number, const uint8_t *table, size_t table_len,
                             uint8_t *answer, size_t answer_len);
 
+/* The number has no table any more; MPT_MISSING if it had none. */
 uint32_t mpt_register_remove(uint8_t *reg, size_t reg_len, uint8_t number, uint8_t *answer, size_t answer_len);
 
 /* As mpt_match with the table of the number; the register stays as it is. */
