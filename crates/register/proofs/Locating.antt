@@ -70,7 +70,7 @@ held-none (suc a) b d s e =
     let z : suc a + b ≡ suc (a + b) = omega arith in
     rw z (cons-none (intact d s) (first-table d s) (held a (drop slot-size d) (drop (first-size d) s)) (held (a + b) (drop slot-size d) (drop (first-size d) s)) e (held-none a b (drop slot-size d) (drop (first-size d) s)))
 
--- ---- one stretch of numbers followed-by the other
+-- ---- one stretch of numbers after the other
 
 ended-at : (at e : ℕ) (o : Option Map) → ending.At e ≡ tables-end at o → (m : Map) × (o ≡ some m) × (e ≡ at + total m)
 unfolding tables-end

@@ -129,7 +129,7 @@ module _ (m : Map) (k : ℕ) (there : k < length m) where
   pub total-split : total m ≡ total (take k m) + (length (table-of m k) + total (drop (suc k) m))
   total-split = ap length tables-split ∙ length-append (tables (take k m)) (table-of m k ++ tables (drop (suc k) m)) ∙ ap (λ n. total (take k m) + n) (length-append (table-of m k) (tables (drop (suc k) m)))
 
-  -- "Replacing" frees the old table: "freed room is used again"
+  -- replacing frees the old table: "freed room is used again"
   pub total-set : (t : Bytes) → total (set m k t) + length (table-of m k) ≡ total m + length t
   total-set t =
       omega (arith, total-split, ap length (tables-set t), length-append (tables (take k m)) (t ++ tables (drop (suc k) m)), length-append t (tables (drop (suc k) m)))
