@@ -1,4 +1,4 @@
--- "Every call not refused with 9 or 18 leaves a good buffer", of the calls from C. Assumes nothing.
+-- "Every call not refused with 9 or 18 leaves a good buffer" and "refusals change nothing in the register", of the calls from C. Assumes nothing.
 use mathlib.Core.Path.{_≡_, refl}
 use mathlib.Core.Bool.{Bool, true, false}
 use mathlib.Core.Option.{some}
@@ -12,7 +12,7 @@ use Rattle.register.specs.Maps.{Map, Changed}
 use Rattle.register.specs.Layout.{registerOf}
 use Rattle.register.specs.Register.{initOf, storeOf, removeOf}
 use Rattle.register.specs.Turns.{init, store, remove, response-number, register-step}
-use Rattle.register.proofs.Turns.{good-after}
+use Rattle.register.proofs.Turns.{good-after, refused-leaves}
 use Rattle.mpt.specs.Area.{area-size}
 use Rattle.mpt.specs.Calls.{Called, called-if, called, change-call, init-call, store-call, remove-call}
 
@@ -28,6 +28,18 @@ change-good c lent answer good = go (leb area-size (length answer))
     go true not-9 not-18 = good not-18
     go false not-9 not-18 = absurd (not-9 refl)
 
+-- refused, with 9 too, every byte of the register is as it was
+abbrev pub RefusalLeaves : (lent : Bytes) → Called Bytes → Type 0
+RefusalLeaves lent o = ¬ (o .number ≡ 0) → o .lent ≡ lent
+
+change-same : (c : Changed Bytes) (lent answer : Bytes) → (¬ (c .number ≡ 0) → c .after ≡ lent) → RefusalLeaves lent (change-call c lent answer)
+unfolding change-call called called-if
+change-same c lent answer same = go (leb area-size (length answer))
+  where
+    go : (b : Bool) → RefusalLeaves lent (called-if b (refusal (c .number) 0) (c .after) lent answer)
+    go true n = same n
+    go false n = refl
+
 module _ (lent : Bytes) where
   pub init-good : (answer : Bytes) → LeavesGood (init-call lent answer)
   unfolding init-call register-step response-number
@@ -40,3 +52,15 @@ module _ (lent : Bytes) where
   pub remove-good : (number : ℕ) (answer : Bytes) → LeavesGood (remove-call lent number answer)
   unfolding remove-call register-step response-number
   remove-good number answer = change-good (removeOf lent number) lent answer (good-after lent (remove number))
+
+  pub init-same : (answer : Bytes) → RefusalLeaves lent (init-call lent answer)
+  unfolding init-call register-step response-number
+  init-same answer = change-same (initOf lent) lent answer (refused-leaves lent init)
+
+  pub store-same : (number : ℕ) (table answer : Bytes) → RefusalLeaves lent (store-call lent number table answer)
+  unfolding store-call register-step response-number
+  store-same number table answer = change-same (storeOf lent number table) lent answer (refused-leaves lent (store number table))
+
+  pub remove-same : (number : ℕ) (answer : Bytes) → RefusalLeaves lent (remove-call lent number answer)
+  unfolding remove-call register-step response-number
+  remove-same number answer = change-same (removeOf lent number) lent answer (refused-leaves lent (remove number))

@@ -15,7 +15,6 @@ use Rattle.pattern.specs.Stores.{store-at}
 use Rattle.pattern.specs.Scan.{refuse}
 use Rattle.pattern.specs.Answers.{Answer, MatchOutput, untried, ended, matchOf}
 use Rattle.pattern.proofs.Stores.{store-at-overwrite, length-zeroed}
-use Rattle.pattern.proofs.Tests.{if-true}
 use Rattle.stores.specs.Little.{little}
 use Rattle.register.specs.declared.locate.Location.{Location}
 use Rattle.register.specs.declared.locate.Located.{Located}
@@ -27,7 +26,7 @@ use Rattle.register.specs.Sections.{only-if, section-of, found, location
 use Rattle.register.proofs.Maps.{tables-empty, total-set}
 use Rattle.register.proofs.Cases.{store-bad, store-full, store-done, remove-missing, remove-done}
 use Rattle.register.proofs.Meaning.{section-meant, found-split, meant, found-is}
-use Rattle.register.proofs.Registers.{store-refused, remove-refused, match-refused, match-follows, match-means}
+use Rattle.register.proofs.Registers.{store-refused, remove-refused, match-refused, match-missing, match-means}
 use Rattle.register.proofs.Putting.{old-is, in-order, LocatedIn, located-in}
 
 -- ---- where a number's table lies
@@ -220,8 +219,7 @@ module _ {lent : Bytes} {k : ℕ} {at : Location} (w : NumberAt lent k at) where
 
   module _ (label scratch parts : Bytes) (budget : ℕ) where
     pub matched-missing : at .start ≡ at .end → ended (untried MISSING) scratch parts ≡ matchNumberOf lent k label scratch parts budget
-    unfolding match-in
-    matched-missing e = let (m, l) = in-map in sym (match-follows lent m (l .holds) k label scratch parts budget ∙ if-true (missing m k) _ _ (is-missing m l e))
+    matched-missing e = let (m, l) = in-map in sym (match-missing lent m (l .holds) k (is-missing m l e) label scratch parts budget)
 
     pub matched-there : (at .start ≡ at .end → ⊥) → matchOf (take (preamble-size + at .end - (preamble-size + at .start)) (drop (preamble-size + at .start) lent)) label scratch parts budget ≡ matchNumberOf lent k label scratch parts budget
     unfolding match-in

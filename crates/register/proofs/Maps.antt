@@ -159,3 +159,13 @@ total-bounded (t ∷ m) f = go (total-bounded m (λ k. f (suc k))) (eqb (length 
     go : total m ≤ table-room * table-count m → (b : Bool) → eqb (length t) 0 ≡ b → length (t ++ tables m) ≤ table-room * (elim b [ true ↦ table-count m | false ↦ suc (table-count m) ])
     go rest true e = omega (arith, length-append t (tables m), eqb→eq (length t) 0 (true-T _ e), rest)
     go rest false e = omega (arith, length-append t (tables m), allowed-short t (f 0), rest)
+
+-- no map has more tables than numbers
+pub count-bounded : (m : Map) → table-count m ≤ length m
+unfolding table-count
+count-bounded [] = omega arith
+count-bounded (t ∷ m) = go (count-bounded m) (eqb (length t) 0)
+  where
+    go : table-count m ≤ length m → (b : Bool) → (elim b [ true ↦ table-count m | false ↦ suc (table-count m) ]) ≤ suc (length m)
+    go rest true = omega (arith, rest)
+    go rest false = omega (arith, rest)

@@ -11,13 +11,13 @@ use lib.ListN.{length, drop, set, length-append}
 use Rattle.pattern.specs.Numbers.{table-room, TABLE, FULL, REGISTER, MISSING}
 use Rattle.pattern.specs.Bytes.{Bytes, overwrite}
 use Rattle.pattern.specs.Scan.{refuse}
-use Rattle.pattern.specs.Answers.{untried, ended, matchOf}
+use Rattle.pattern.specs.Answers.{MatchOutput, untried, ended, matchOf}
 use Rattle.pattern.proofs.Stores.{length-overwrite}
-use Rattle.pattern.proofs.Tests.{if-false}
-use Rattle.register.specs.Maps.{Map, table-of, empty, total, is-table, missing, Changed, change, store-in, remove-in, match-in}
+use Rattle.pattern.proofs.Tests.{if-true, if-false}
+use Rattle.register.specs.Maps.{numbers, Map, table-of, empty, total, is-table, missing, Changed, change, store-in, remove-in, match-in}
 use Rattle.register.specs.Layout.{laid-out, overhead, capacity, registerOf, Proper, Meant, table-count}
 use Rattle.register.specs.Register.{initOf, in-register, storeOf, removeOf, matchNumberOf}
-use Rattle.register.proofs.Maps.{none-allowed, table-allowed, proper-set, proper-empty, total-removed, total-empty, total-bounded}
+use Rattle.register.proofs.Maps.{none-allowed, table-allowed, proper-set, proper-empty, total-removed, total-empty, total-bounded, count-bounded}
 use Rattle.register.proofs.Cases.{store-bad, store-full, store-done, store-cases, remove-missing, remove-cases}
 use Rattle.register.proofs.Meaning.{length-laid-out, meant, laid}
 
@@ -46,6 +46,10 @@ short-means-none lent h = go (registerOf lent) refl
     go none e = e
     go (some m) e = absurd (omega (arith, meant-within lent m e))
 
+-- a match by what the lent bytes mean
+abbrev by-meaning : (k : ℕ) (label scratch parts : Bytes) (budget : ℕ) → Option Map → MatchOutput
+by-meaning k label scratch parts budget o = elim o [ none ↦ ended (untried REGISTER) scratch parts | some m ↦ match-in m k label scratch parts budget ]
+
 -- "refused with 18 by all calls but starting empty"
 module _ (lent : Bytes) (e : registerOf lent ≡ none) (k : ℕ) where
   pub store-refused : (t : Bytes) → storeOf lent k t ≡ record { number = REGISTER; after = lent }
@@ -58,7 +62,7 @@ module _ (lent : Bytes) (e : registerOf lent ≡ none) (k : ℕ) where
 
   pub match-refused : (label scratch parts : Bytes) (budget : ℕ) → matchNumberOf lent k label scratch parts budget ≡ ended (untried REGISTER) scratch parts
   unfolding matchNumberOf
-  match-refused label scratch parts budget = ap (λ (o : Option Map). elim o [ none ↦ ended (untried REGISTER) scratch parts | some m ↦ match-in m k label scratch parts budget ]) e
+  match-refused label scratch parts budget = ap (by-meaning k label scratch parts budget) e
 
 -- "a shorter buffer is refused with 18, by every call": starting empty too
 pub init-refused : (lent : Bytes) → length lent < overhead → initOf lent ≡ record { number = REGISTER; after = lent }
@@ -112,12 +116,28 @@ module _ (lent : Bytes) (m : Map) (e : registerOf lent ≡ some m) where
 
     pub match-follows : (label scratch parts : Bytes) (budget : ℕ) → matchNumberOf lent k label scratch parts budget ≡ match-in m k label scratch parts budget
     unfolding matchNumberOf
-    match-follows label scratch parts budget = ap (λ (o : Option Map). elim o [ none ↦ ended (untried REGISTER) scratch parts | some m ↦ match-in m k label scratch parts budget ]) e
+    match-follows label scratch parts budget = ap (by-meaning k label scratch parts budget) e
 
     -- a match by number is a match against that number's table
     pub match-means : missing m k ≡ false → (label scratch parts : Bytes) (budget : ℕ) → matchNumberOf lent k label scratch parts budget ≡ matchOf (table-of m k) label scratch parts budget
     unfolding match-in
     match-means n label scratch parts budget = match-follows label scratch parts budget ∙ if-false (missing m k) _ _ n
+
+    -- "A missing number is 19", before matching's own refusals
+    pub match-missing : missing m k ≡ true → (label scratch parts : Bytes) (budget : ℕ) → matchNumberOf lent k label scratch parts budget ≡ ended (untried MISSING) scratch parts
+    unfolding match-in
+    match-missing n label scratch parts budget = match-follows label scratch parts budget ∙ if-true (missing m k) _ _ n
+
+    -- a store that isn't refused leaves the map with that table, and a removal without one
+    pub store-means : (t : Bytes) → storeOf lent k t .number ≡ 0 → registerOf (storeOf lent k t .after) ≡ some (set m k t)
+    store-means t z =
+        let f = store-follows t in
+        f .means ∙ ap some (store-cases (capacity lent) m k t (λ c. c .number ≡ 0 → c .after ≡ set m k t) (λ g e. absurd (omega arith)) (λ g r e. absurd (omega arith)) (λ g r e. refl) (sym (f .number) ∙ z))
+
+    pub remove-means : removeOf lent k .number ≡ 0 → registerOf (removeOf lent k .after) ≡ some (set m k [])
+    remove-means z =
+        let f = remove-follows in
+        f .means ∙ ap some (remove-cases m k (λ c. c .number ≡ 0 → c .after ≡ set m k []) (λ n e. absurd (omega arith)) (λ n e. refl) (sym (f .number) ∙ z))
 
     -- 11 just for what is no table
     pub bad-exactly : (t : Bytes) → (storeOf lent k t .number ≡ TABLE) ↔ (is-table t ≡ false)
@@ -148,3 +168,9 @@ module _ (lent : Bytes) (m : Map) (e : registerOf lent ≡ some m) where
     roomy t g r =
         let n = total-bounded (set m k t) (proper-set m k t (meaning .proper) (table-allowed t g) .each) in
         store-follows t .number ∙ ap (λ (c : Changed Map). c .number) (store-done (capacity lent) m k t g (omega (arith, n, r)))
+
+    -- and one with room for all numbers never
+    pub never-full : (t : Bytes) → is-table t ≡ true → overhead + table-room * numbers ≤ length lent → storeOf lent k t .number ≡ 0
+    never-full t g r =
+        let p = proper-set m k t (meaning .proper) (table-allowed t g) in
+        roomy t g (omega (arith, count-bounded (set m k t), p .count, r))

@@ -13,7 +13,7 @@ use Rattle.pattern.specs.Answers.{MatchOutput, ended}
 use Rattle.pattern.proofs.Tests.{le-or-lt}
 use Rattle.register.specs.Maps.{Map, empty, total, is-table, Changed}
 use Rattle.register.specs.Layout.{overhead, capacity, registerOf}
-use Rattle.register.specs.Register.{initOf, storeOf}
+use Rattle.register.specs.Register.{initOf, storeOf, removeOf}
 use Rattle.register.specs.Turns.{Call, init, store, remove, match, Response, answered, matched, response-number, changed, map-step, register-step, responses, after-all, Simulates}
 use Rattle.register.proofs.Registers.{meant-within, init-means, store-refused, remove-refused, match-refused, init-refused, Follows, store-follows, remove-follows, match-follows, full-exactly}
 
@@ -73,16 +73,16 @@ room-after lent m calls e k t =
 
 -- ---- any lent bytes
 
+refused : (lent : Bytes) (o : Changed Bytes) → o ≡ record { number = REGISTER; after = lent } → (o .number ≡ REGISTER) × (o .after ≡ lent)
+refused lent o f = (ap (λ (x : Changed Bytes). x .number) f, ap (λ (x : Changed Bytes). x .after) f)
+
 -- where they mean no map: 18 and all stays, or it is starting empty
 none-step : (lent : Bytes) → registerOf lent ≡ none → (c : Call)
     → ((response-number (register-step lent c .response) ≡ REGISTER) × (register-step lent c .next ≡ lent)) ⊎ ((response-number (register-step lent c .response) ≡ 0) × (registerOf (register-step lent c .next) ≡ some empty))
 unfolding register-step response-number ended
-none-step lent e init = ⊎-elim (λ h. let (n, f, l) = init-means lent h in inr (n, f)) (λ h. inl (refused (init-refused lent h))) (le-or-lt overhead (length lent))
-  where
-    refused : initOf lent ≡ record { number = REGISTER; after = lent } → (initOf lent .number ≡ REGISTER) × (initOf lent .after ≡ lent)
-    refused f = (ap (λ (o : Changed Bytes). o .number) f, ap (λ (o : Changed Bytes). o .after) f)
-none-step lent e (store k t) = let f = store-refused lent e k t in inl (ap (λ (o : Changed Bytes). o .number) f, ap (λ (o : Changed Bytes). o .after) f)
-none-step lent e (remove k) = let f = remove-refused lent e k in inl (ap (λ (o : Changed Bytes). o .number) f, ap (λ (o : Changed Bytes). o .after) f)
+none-step lent e init = ⊎-elim (λ h. let (n, f, l) = init-means lent h in inr (n, f)) (λ h. inl (refused lent (initOf lent) (init-refused lent h))) (le-or-lt overhead (length lent))
+none-step lent e (store k t) = inl (refused lent (storeOf lent k t) (store-refused lent e k t))
+none-step lent e (remove k) = inl (refused lent (removeOf lent k) (remove-refused lent e k))
 none-step lent e (match k label scratch parts budget) = inl (ap (λ (o : MatchOutput). o .answer .number) (match-refused lent e k label scratch parts budget), refl)
 
 module _ (lent : Bytes) (c : Call) where
