@@ -1,11 +1,11 @@
 -- The calls on a register, from where the table of a number lies. Assumes nothing.
 use mathlib.Core.Path.{_≡_, refl, sym, ap, _∙_}
-use mathlib.Core.Bool.{Bool, true, false}
+use mathlib.Core.Bool.{true, false}
 use mathlib.Core.List.{[], _++_, append-nil}
 use mathlib.Core.Option.{Option, none, some}
 use Prim.Native.Nat.{ℕ, zero, suc, _+_, _*_, _-_, _≤_, _<_}
 use native.Mathlib.Omega.{arith}
-use borrow.Author.Tests.{le-ltb, lt-leb, eq-eqb, ne-eqb}
+use borrow.Author.Tests.{le-ltb, eq-eqb, ne-eqb}
 use borrow.Rule.Slice.PartMut.{putMid}
 use lib.ListN.{length, take, drop, set, replicate, length-drop, length-replicate, replicate-append-replicate, drop-of-length-le}
 use lib.Seq.{take-all, drop-drop}
@@ -19,14 +19,14 @@ use Rattle.stores.specs.Little.{little}
 use Rattle.register.specs.declared.locate.Location.{Location}
 use Rattle.register.specs.declared.locate.Located.{Located}
 use Rattle.register.specs.declared.locate.Located.the-variants as location
-use Rattle.register.specs.Maps.{numbers, Map, table-of, empty, tables, total, is-table, missing, Changed, change, match-in}
+use Rattle.register.specs.Maps.{numbers, Map, table-of, empty, tables, total, is-table, missing, Changed, change}
 use Rattle.register.specs.Layout.{preamble, preamble-size, slot-size, slot, directory-size, directory, section, laid-out, overhead, capacity, allowed, registerOf}
 use Rattle.register.specs.Register.{initOf, in-register, storeOf, removeOf, matchNumberOf}
 use Rattle.register.specs.Sections.{only-if, section-of, found, location-in, located, placed, PutTablePre}
 use Rattle.register.proofs.Maps.{tables-empty, total-set}
 use Rattle.register.proofs.Cases.{store-bad, store-full, store-done, remove-missing, remove-done}
 use Rattle.register.proofs.Meaning.{section-meant, found-split, meant, found-is}
-use Rattle.register.proofs.Registers.{store-refused, remove-refused, match-refused, match-missing, match-means}
+use Rattle.register.proofs.Registers.{short-means-none, store-refused, remove-refused, match-refused, match-missing, match-means}
 use Rattle.register.proofs.Putting.{old-is, in-order, LocatedIn, located-in}
 
 -- ---- where a number's table lies
@@ -35,15 +35,6 @@ none-located : (k : ℕ) (o : Option Map) → location.Bad ≡ located k o → o
 unfolding located
 none-located k none e = refl
 none-located k (some m) e = absurd (let z : _≡_ {A = ℕ} 0 1 = cc in omega arith)
-
-only-none : (b : Bool) → only-if b none ≡ none
-unfolding only-if
-only-none true = refl
-only-none false = refl
-
-section-short : (s : Bytes) → length s < directory-size → section-of s ≡ none
-unfolding section-of only-if
-section-short s h = rw (lt-leb directory-size (length s) h)
 
 -- the part of lent bytes that is the section
 abbrev section-part : Bytes → Bytes
@@ -54,11 +45,8 @@ section-part-is lent = take-all (length lent - preamble-size) (drop preamble-siz
 
 module _ (lent : Bytes) (k : ℕ) where
   pub find-short : length lent < overhead → location.Bad ≡ located k (registerOf lent)
-  unfolding found located
-  find-short h =
-      let e : section-of (drop preamble-size lent) ≡ none = section-short (drop preamble-size lent) (omega (arith, length-drop preamble-size lent)) in
-      let m : Bool = equal (take preamble-size lent) preamble in
-      sym (ap (located k) (sym (found-is lent) ∙ ap (only-if m) e ∙ only-none m))
+  unfolding located
+  find-short h = sym (ap (located k) (short-means-none lent h))
 
   pub find-off : false ≡ equal (take preamble-size lent) preamble → location.Bad ≡ located k (registerOf lent)
   unfolding found only-if located
@@ -222,7 +210,6 @@ module _ {lent : Bytes} {k : ℕ} {at : Location} (w : NumberAt lent k at) where
     matched-missing e = let (m, l) = in-map in sym (match-missing lent m (l .holds) k (is-missing m l e) label scratch parts budget)
 
     pub matched-there : (at .start ≡ at .end → ⊥) → matchOf (take (preamble-size + at .end - (preamble-size + at .start)) (drop (preamble-size + at .start) lent)) label scratch parts budget ≡ matchNumberOf lent k label scratch parts budget
-    unfolding match-in
     matched-there n =
         let (m, l) = in-map in
         ap (λ (t : Bytes). matchOf t label scratch parts budget) (table-there m l) ∙ sym (match-means lent m (l .holds) k (not-missing m l n) label scratch parts budget)

@@ -12,7 +12,7 @@ use Rattle.pattern.specs.Numbers.{table-room, TABLE, FULL, REGISTER, MISSING}
 use Rattle.pattern.specs.Bytes.{Bytes, overwrite}
 use Rattle.pattern.specs.Scan.{refuse}
 use Rattle.pattern.specs.Answers.{MatchOutput, untried, ended, matchOf}
-use Rattle.pattern.proofs.Stores.{length-overwrite}
+use Rattle.pattern.proofs.Stores.{length-overwrite, drop-overwrite}
 use Rattle.pattern.proofs.Tests.{if-true, if-false}
 use Rattle.register.specs.Maps.{numbers, Map, table-of, empty, total, is-table, missing, Changed, change, store-in, remove-in, match-in}
 use Rattle.register.specs.Layout.{laid-out, overhead, capacity, registerOf, Proper, Meant, table-count}
@@ -28,14 +28,31 @@ meant-within lent m e =
     let h = meant lent m e in
     omega (arith, ap length (h .bytes), length-append (laid-out m) (drop (length (laid-out m)) lent), length-laid-out m (h .proper))
 
--- ---- "start empty"
+-- a plain map's answer, and as many lent bytes as before, which mean what it became: those behind the last table are as they were, and a refusal leaves each
+pub record Follows (lent : Bytes) (c : Changed Map) (o : Changed Bytes) : Type 0 where
+  pub number : o .number ≡ c .number
+  pub means : registerOf (o .after) ≡ some (c .after)
+  pub long : length (o .after) ≡ length lent
+  pub behind : drop (overhead + total (c .after)) (o .after) ≡ drop (overhead + total (c .after)) lent
+  pub refused-leaves : ¬ (c .number ≡ 0) → o .after ≡ lent
 
-pub init-means : (lent : Bytes) → overhead ≤ length lent → (initOf lent .number ≡ 0) × (registerOf (initOf lent .after) ≡ some empty) × (length (initOf lent .after) ≡ length lent)
+laid-follows : (lent : Bytes) (c : Changed Map) → Proper (c .after) → overhead + total (c .after) ≤ length lent → (¬ (c .number ≡ 0) → overwrite (laid-out (c .after)) lent ≡ lent)
+    → Follows lent c (record { number = c .number; after = overwrite (laid-out (c .after)) lent })
+laid-follows lent c p h r =
+    let n : length (laid-out (c .after)) ≡ overhead + total (c .after) = length-laid-out (c .after) p in
+    record {
+      number = refl;
+      means = laid (c .after) lent p;
+      long = length-overwrite (laid-out (c .after)) lent (omega (arith, n));
+      behind = drop-overwrite (overhead + total (c .after)) (laid-out (c .after)) lent (omega (arith, n));
+      refused-leaves = r;
+    }
+
+-- "start empty", whatever the bytes are
+pub init-follows : (lent : Bytes) → overhead ≤ length lent → Follows lent (record { number = 0; after = empty }) (initOf lent)
 unfolding initOf change refuse
-init-means lent h =
-    let e = le-ltb (length lent) overhead h in
-    let l : length (laid-out empty) ≤ length lent = omega (arith, length-laid-out empty proper-empty, total-empty, h) in
-    (rw e, rw e (laid empty lent proper-empty), rw e (length-overwrite (laid-out empty) lent l))
+init-follows lent h =
+    rw (le-ltb (length lent) overhead h) (laid-follows lent (record { number = 0; after = empty }) proper-empty (omega (arith, total-empty, h)) (λ n. absurd (n refl)))
 
 -- ---- a buffer that means no map
 
@@ -71,13 +88,6 @@ init-refused lent h = rw (lt-ltb (length lent) overhead h)
 
 -- ---- a buffer that means a map
 
--- a plain map's answer, and as many lent bytes as before, which mean what it became
-pub record Follows (lent : Bytes) (c : Changed Map) (o : Changed Bytes) : Type 0 where
-  pub number : o .number ≡ c .number
-  pub means : registerOf (o .after) ≡ some (c .after)
-  pub long : length (o .after) ≡ length lent
-  pub refused-leaves : ¬ (c .number ≡ 0) → o .after ≡ lent
-
 -- a map that a plain map may become: proper, and within the capacity; a refusal changes nothing
 record Becomes (lent : Bytes) (m : Map) (c : Changed Map) : Type 0 where
   pub proper : Proper (c .after)
@@ -90,13 +100,7 @@ module _ (lent : Bytes) (m : Map) (e : registerOf lent ≡ some m) where
 
   follows : (call : Map → Changed Map) → Becomes lent m (call m) → Follows lent (call m) (in-register (registerOf lent) call lent)
   unfolding in-register
-  follows call a =
-      rw e (record {
-        number = refl;
-        means = laid (call m .after) lent (a .proper);
-        long = length-overwrite (laid-out (call m .after)) lent (omega (arith, length-laid-out (call m .after) (a .proper), a .fits));
-        refused-leaves = λ n. ap (λ (x : Map). overwrite (laid-out x) lent) (a .refused-same n) ∙ sym (meaning .bytes);
-      })
+  follows call a = rw e (laid-follows lent (call m) (a .proper) (a .fits) (λ n. ap (λ (x : Map). overwrite (laid-out x) lent) (a .refused-same n) ∙ sym (meaning .bytes)))
 
   refusal-becomes : (n : ℕ) → Becomes lent m (record { number = n; after = m })
   refusal-becomes n = record { proper = meaning .proper; fits = meant-within lent m e; refused-same = λ f. refl }

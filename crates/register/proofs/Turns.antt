@@ -15,22 +15,21 @@ use Rattle.register.specs.Maps.{Map, empty, total, is-table, Changed}
 use Rattle.register.specs.Layout.{overhead, capacity, registerOf}
 use Rattle.register.specs.Register.{initOf, storeOf, removeOf}
 use Rattle.register.specs.Turns.{Call, init, store, remove, match, Response, answered, matched, response-number, changed, map-step, register-step, responses, after-all, Simulates}
-use Rattle.register.proofs.Registers.{meant-within, init-means, store-refused, remove-refused, match-refused, init-refused, Follows, store-follows, remove-follows, match-follows, full-exactly}
+use Rattle.register.proofs.Registers.{meant-within, init-follows, store-refused, remove-refused, match-refused, init-refused, Follows, store-follows, remove-follows, match-follows, full-exactly}
 
 changed-simulates : (lent : Bytes) (c : Changed Map) (o : Changed Bytes) → Follows lent c o → Simulates lent (changed c) (changed o)
 unfolding response-number
-changed-simulates lent c o f = record { response = ap answered (f .number); means = f .means; long = f .long; refused-leaves = λ n. f .refused-leaves (λ z. n (f .number ∙ z)) }
+changed-simulates lent c o f =
+    record { response = ap answered (f .number); means = f .means; long = f .long; behind = f .behind; refused-leaves = λ n. f .refused-leaves (λ z. n (f .number ∙ z)) }
 
 -- "It must answer as a plain map from number to table does", each call
 pub step-simulates : (lent : Bytes) (m : Map) → registerOf lent ≡ some m → (c : Call) → Simulates lent (map-step (capacity lent) m c) (register-step lent c)
 unfolding map-step register-step response-number
-step-simulates lent m e init =
-    let (n, f, l) = init-means lent (omega (arith, meant-within lent m e)) in
-    record { response = ap answered n; means = f; long = l; refused-leaves = λ z. absurd (z n) }
+step-simulates lent m e init = changed-simulates lent _ _ (init-follows lent (omega (arith, meant-within lent m e)))
 step-simulates lent m e (store k t) = changed-simulates lent _ _ (store-follows lent m e k t)
 step-simulates lent m e (remove k) = changed-simulates lent _ _ (remove-follows lent m e k)
 step-simulates lent m e (match k label scratch parts budget) =
-    record { response = ap matched (match-follows lent m e k label scratch parts budget); means = e; long = refl; refused-leaves = λ z. refl }
+    record { response = ap matched (match-follows lent m e k label scratch parts budget); means = e; long = refl; behind = refl; refused-leaves = λ z. refl }
 
 same-capacity : (a b : Bytes) → length a ≡ length b → capacity a ≡ capacity b
 same-capacity a b h = omega arith
@@ -56,11 +55,11 @@ pub simulation-from-init : (lent : Bytes) (calls : List Call) → overhead ≤ l
     × (length (after-all register-step lent (init ∷ calls)) ≡ length lent)
 unfolding responses after-all map-step register-step
 simulation-from-init lent calls h =
-    let (n, e, l) = init-means lent h in
+    let f = init-follows lent h in
     let next : Bytes = initOf lent .after in
-    let (r, a, l′) = simulation next empty calls e in
-    let c : capacity next ≡ capacity lent = same-capacity next lent l in
-    (ap₂ (λ (x : Response) (xs : List Response). x ∷ xs) (ap answered n) (r ∙ ap (λ x. responses (map-step x) empty calls) c), a ∙ ap (λ x. some (after-all (map-step x) empty calls)) c, l′ ∙ l)
+    let (r, a, l) = simulation next empty calls (f .means) in
+    let c : capacity next ≡ capacity lent = same-capacity next lent (f .long) in
+    (ap₂ (λ (x : Response) (xs : List Response). x ∷ xs) (ap answered (f .number)) (r ∙ ap (λ x. responses (map-step x) empty calls) c), a ∙ ap (λ x. some (after-all (map-step x) empty calls)) c, l ∙ f .long)
 
 -- "so freed room is used again": after any stores and removals 17 asks for the lengths that are then kept, and for nothing else
 pub room-after : (lent : Bytes) (m : Map) (calls : List Call) → registerOf lent ≡ some m → (k : ℕ) (t : Bytes)
@@ -80,7 +79,7 @@ refused lent o f = (ap (λ (x : Changed Bytes). x .number) f, ap (λ (x : Change
 none-step : (lent : Bytes) → registerOf lent ≡ none → (c : Call)
     → ((response-number (register-step lent c .response) ≡ REGISTER) × (register-step lent c .next ≡ lent)) ⊎ ((response-number (register-step lent c .response) ≡ 0) × (registerOf (register-step lent c .next) ≡ some empty))
 unfolding register-step response-number ended
-none-step lent e init = ⊎-elim (λ h. let (n, f, l) = init-means lent h in inr (n, f)) (λ h. inl (refused lent (initOf lent) (init-refused lent h))) (le-or-lt overhead (length lent))
+none-step lent e init = ⊎-elim (λ h. let f = init-follows lent h in inr (f .number, f .means)) (λ h. inl (refused lent (initOf lent) (init-refused lent h))) (le-or-lt overhead (length lent))
 none-step lent e (store k t) = inl (refused lent (storeOf lent k t) (store-refused lent e k t))
 none-step lent e (remove k) = inl (refused lent (removeOf lent k) (remove-refused lent e k))
 none-step lent e (match k label scratch parts budget) = inl (ap (λ (o : MatchOutput). o .answer .number) (match-refused lent e k label scratch parts budget), refl)

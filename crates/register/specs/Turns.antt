@@ -2,12 +2,12 @@
 use mathlib.Core.Path.{_≡_}
 use mathlib.Core.List.{List, [], _∷_}
 use mathlib.Core.Option.{some}
-use Prim.Native.Nat.{ℕ}
-use lib.ListN.{length}
+use Prim.Native.Nat.{ℕ, _+_}
+use lib.ListN.{length, drop}
 use Rattle.pattern.specs.Bytes.{Bytes}
 use Rattle.pattern.specs.Answers.{MatchOutput}
-use Rattle.register.specs.Maps.{Map, empty, Changed, store-in, remove-in, match-in}
-use Rattle.register.specs.Layout.{registerOf}
+use Rattle.register.specs.Maps.{Map, empty, total, Changed, store-in, remove-in, match-in}
+use Rattle.register.specs.Layout.{overhead, registerOf}
 use Rattle.register.specs.Register.{initOf, storeOf, removeOf, matchNumberOf}
 
 -- "start empty, store or replace, remove, match by number"
@@ -59,9 +59,10 @@ after-all step s (c ∷ cs) = after-all step (step s c .next) cs
 
 -- ---- what the theorems say
 
--- the same response, and as many lent bytes as before, which mean what the plain map became; a refusal leaves each of them
+-- the same response, and as many lent bytes as before, which mean what the plain map became: those behind the last table are as they were, and a refusal leaves each
 pub record Simulates (lent : Bytes) (p : Step Map) (o : Step Bytes) : Type 0 where
   pub response : o .response ≡ p .response
   pub means : registerOf (o .next) ≡ some (p .next)
   pub long : length (o .next) ≡ length lent
+  pub behind : drop (overhead + total (p .next)) (o .next) ≡ drop (overhead + total (p .next)) lent
   pub refused-leaves : ¬ (response-number (o .response) ≡ 0) → o .next ≡ lent
