@@ -4,7 +4,7 @@ use mathlib.Core.Logic.{_↔_, ⊎-elim}
 use mathlib.Core.Bool.{Bool, true, false, _&&_, cond}
 use mathlib.Core.List.{List, [], _∷_}
 use mathlib.Core.Option.{Option, none, some, Option·some-ne-none, Option·none-ne-some}
-use Prim.Native.Nat.{ℕ, suc, _+_, _-_, _≤_, _<_}
+use Prim.Native.Nat.{ℕ, suc, _+_, _-_, _*_, _≤_, _<_}
 use native.Mathlib.Omega.{arith}
 use lib.Bits.{bitOr, or-lt, or-add-and, and-le-l, and-le-r}
 use lib.Dec.{leb, leb→le, le→leb}
@@ -20,16 +20,21 @@ use Rattle.pattern.specs.ParserInvariant.{before-size, others-size, stac
 use Rattle.pattern.specs.Scan.{low, high, longest-count, depth, body-begins, an-atom, begins, begun, large, falls, refuse, fault, Outcome, refused, accepted, scan, outcome}
 use Rattle.pattern.specs.Within.{Small, Fits, InLimits, Limited}
 use Rattle.pattern.proofs.Tests.{Decides, On, le-or-lt, leb-decides, both, no-test}
+use Rattle.pattern.proofs.Notation.{digit-byte}
 use Rattle.pattern.proofs.Begun.{chain-size, next-size, leave-count, move-count}
 use Rattle.pattern.proofs.ParserCorrect.{form}
 use Rattle.pattern.proofs.TableRows.{atom-fault-is, atom-fault}
 
--- how far the count was looked at: its longest run has no fault yet, none but perhaps a large second number, or none
+-- a count whose first number fits has no lower second one
+Rises : CountState → Type 0
+Rises r = low r ≤ number-limit → UpTo (high r) (low r)
+
+-- how far a count was looked at: its numbers fit so far, and its longest run r rises
 Looked : CountState → CountState → Type 0
 Looked empty r = Unit {0}
-Looked (first n) r = (low r ≤ number-limit) × UpTo (high r) (low r)
-Looked (pointed n) r = (low r ≤ number-limit) × UpTo (high r) (low r)
-Looked (second n m) r = Fits (low r) (high r)
+Looked (first n) r = (n ≤ number-limit) × Rises r
+Looked (pointed n) r = (n ≤ number-limit) × Rises r
+Looked (second n m) r = (n ≤ number-limit) × (m ≤ number-limit) × Rises r
 
 -- all that is on the stack is within the limits
 Befores : ℕ → List (Syntax atom) → Type 0
@@ -92,34 +97,20 @@ unfolding falls UpTo
 falls-decides n none = no-test (λ f. f tt)
 falls-decides n (some m) = record { sound = λ t u. omega (arith, leb→le (suc m) n t); complete = λ f. ⊎-elim (λ h. absurd (f h)) (λ h. le→leb (suc m) n h) (le-or-lt n m) }
 
-large-decides : (h : Option ℕ) → Decides (large h) (¬ Small h)
-unfolding large Small
-large-decides none = no-test (λ f. f tt)
-large-decides (some m) =
-    record { sound = λ t u. omega (arith, leb→le (suc number-limit) m t); complete = λ f. ⊎-elim (λ h. absurd (f h)) (λ h. le→leb (suc number-limit) m h) (le-or-lt m number-limit) }
-
 -- what is not absent is there, of facts on numbers
 upto-stable : (h : Option ℕ) (n : ℕ) → ¬ (¬ UpTo h n) → UpTo h n
 unfolding UpTo
 upto-stable none n f = tt
 upto-stable (some m) n f = ⊎-elim (λ u. u) (λ u. absurd (f (λ v. omega arith))) (le-or-lt n m)
 
-small-stable : (h : Option ℕ) → ¬ (¬ Small h) → Small h
-unfolding Small
-small-stable none f = tt
-small-stable (some m) f = ⊎-elim (λ u. u) (λ u. absurd (f (λ v. omega arith))) (le-or-lt m number-limit)
-
-atom-pass : (n : ℕ) (r : CountState) → (atom-fault n r ≡ none) ↔ ((low r ≤ number-limit) × UpTo (high r) (low r) × (n < atom-limit))
+atom-pass : (n : ℕ) (r : CountState) → (atom-fault n r ≡ none) ↔ (Rises r × (n < atom-limit))
+unfolding Rises
 atom-pass n r =
     rw (atom-fault-is n r) (
-    let u = pass (leb-decides (suc number-limit) (low r)) NUMBER ((leb (low r) number-limit && falls (low r) (high r), RANGE) ∷ (leb atom-limit n, ATOMS) ∷ []) in
-    let v = pass (both (leb-decides (low r) number-limit) (falls-decides (low r) (high r))) RANGE ((leb atom-limit n, ATOMS) ∷ []) in
-    let w = below atom-limit n ATOMS in (
-      λ e. let (x, f) = u .0 e in
-          let (y, g) = v .0 f in
-          let h : low r ≤ number-limit = ⊎-elim (λ a. a) (λ a. absurd (x a)) (le-or-lt (low r) number-limit) in
-          (h, upto-stable (high r) (low r) (λ z. y (h, z)), w .0 g),
-      λ (x, y, z). u .1 (λ h. omega arith, v .1 (λ (h, k). k y, w .1 z)),
+    let u = pass (both (leb-decides (low r) number-limit) (falls-decides (low r) (high r))) RANGE ((leb atom-limit n, ATOMS) ∷ []) in
+    let v = below atom-limit n ATOMS in (
+      λ e. let (x, f) = u .0 e in (λ h. upto-stable (high r) (low r) (λ z. x (h, z)), v .0 f),
+      λ (x, y). u .1 (λ (h, k). k (x h), v .1 y),
     ))
 
 -- ---- the longest run
@@ -143,18 +134,19 @@ grow-looks : (r : CountState) (m : CountChar) (c : ℕ) (s : Bytes) (d n : ℕ) 
 unfolding grow Looked begins begun fault
 grow-looks empty digit c s d n e =
     let u = atom-pass n (longest-count (first (c - 48)) s) in
-    rw (longest-count-next empty digit c s e) (λ (a, x, g). let (p, q, z) = u .0 g in (z, (p, q)), λ (z, (p, q)). (omega arith, tt, u .1 (p, q, z)))
+    rw (longest-count-next empty digit c s e) (λ (a, x, g). let (p, z) = u .0 g in (z, (omega (arith, digit-byte c e), p)), λ (z, (y, p)). (omega arith, tt, u .1 (p, z)))
 grow-looks empty point c s d n e =
     let u = atom-pass n (longest-count (pointed 0) s) in
-    rw (longest-count-next empty point c s e) (λ (a, x, g). let (p, q, z) = u .0 g in (z, (p, q)), λ (z, (p, q)). (omega arith, tt, u .1 (p, q, z)))
-grow-looks (first x) digit c s d n e = rw (longest-count-next (first x) digit c s e) (λ (a, y, g). (a, y), λ (a, y). (a, y, refl))
+    rw (longest-count-next empty point c s e) (λ (a, x, g). let (p, z) = u .0 g in (z, (omega arith, p)), λ (z, (y, p)). (omega arith, tt, u .1 (p, z)))
+grow-looks (first x) digit c s d n e =
+    let u = below (suc number-limit) (10 * x + (c - 48)) NUMBER in
+    rw (longest-count-next (first x) digit c s e) (λ (a, (y, p), g). (a, (omega (arith, u .0 g), p)), λ (a, (y, p)). (a, (omega arith, p), u .1 (omega arith)))
 grow-looks (first x) point c s d n e = rw (longest-count-next (first x) point c s e) (λ (a, y, g). (a, y), λ (a, y). (a, y, refl))
-grow-looks (pointed x) digit c s d n e =
-    let r : CountState = longest-count (second x (c - 48)) s in
-    let u = pass-last (large-decides (high r)) NUMBER in
-    rw (longest-count-next (pointed x) digit c s e) (λ (a, (p, q), g). (a, (p, small-stable (high r) (u .0 g), q)), λ (a, (p, z, q)). (a, (p, q), u .1 (λ f. f z)))
+grow-looks (pointed x) digit c s d n e = rw (longest-count-next (pointed x) digit c s e) (λ (a, (y, p), g). (a, (y, omega (arith, digit-byte c e), p)), λ (a, (y, z, p)). (a, (y, p), refl))
 grow-looks (pointed x) point c s d n e = tt
-grow-looks (second x y) digit c s d n e = rw (longest-count-next (second x y) digit c s e) (λ (a, y, g). (a, y), λ (a, y). (a, y, refl))
+grow-looks (second x y) digit c s d n e =
+    let u = below (suc number-limit) (10 * y + (c - 48)) NUMBER in
+    rw (longest-count-next (second x y) digit c s e) (λ (a, (z, y, p), g). (a, (z, omega (arith, u .0 g), p)), λ (a, (z, y, p)). (a, (z, omega arith, p), u .1 (omega arith)))
 grow-looks (second x y) point c s d n e = tt
 
 -- the same in a state
@@ -167,16 +159,16 @@ counted-holds (some r) k s n n′ X G e c =
 
 -- a count ends where a body begins
 first-fits : (n : ℕ) (b : BodyStart) (c : ℕ) (s : Bytes) → char-class c ≡ body-start b → Looked (first n) (longest-count (first n) (c ∷ s)) ↔ Fits n (some n)
-unfolding Looked low high Small UpTo
-first-fits n b c s e = rw (longest-count-stop (first n) b c s e) (λ (x, y). (x, x, y), λ (x, z, y). (x, y))
+unfolding Looked Rises low high Small UpTo
+first-fits n b c s e = rw (longest-count-stop (first n) b c s e) (λ (x, y). (x, x, y x), λ (x, z, y). (x, λ h. y))
 
 pointed-fits : (n : ℕ) (b : BodyStart) (c : ℕ) (s : Bytes) → char-class c ≡ body-start b → Looked (pointed n) (longest-count (pointed n) (c ∷ s)) ↔ Fits n none
-unfolding Looked low high Small UpTo
-pointed-fits n b c s e = rw (longest-count-stop (pointed n) b c s e) (λ (x, y). (x, tt, y), λ (x, z, y). (x, y))
+unfolding Looked Rises low high Small UpTo
+pointed-fits n b c s e = rw (longest-count-stop (pointed n) b c s e) (λ (x, y). (x, tt, y x), λ (x, z, y). (x, λ h. y))
 
 second-fits : (n m : ℕ) (b : BodyStart) (c : ℕ) (s : Bytes) → char-class c ≡ body-start b → Looked (second n m) (longest-count (second n m) (c ∷ s)) ↔ Fits n (some m)
-unfolding Looked low high
-second-fits n m b c s e = rw (longest-count-stop (second n m) b c s e) (λ x. x, λ x. x)
+unfolding Looked Rises low high Small UpTo
+second-fits n m b c s e = rw (longest-count-stop (second n m) b c s e) (λ (x, z, y). (x, z, y x), λ (x, z, y). (x, z, λ h. y))
 
 -- ---- one byte
 

@@ -73,9 +73,11 @@ quoted-count l h value k barred c = tt
 pub move-count : (p : Phase) (k : Stack) (x : CharClass) (c : ℕ) → On (move p k x c) (λ q. begun-at (q .0) (q .1) ≡ begun (begins p x) (begun-at p k))
 unfolding move begun-at begins begun size
 move-count (counting empty) k (count-char m) c = grow-count empty m c k
-move-count (counting (first n)) k (count-char m) c = grow-count (first n) m c k
+move-count (counting (first n)) k (count-char digit) c = grow-count (first n) digit c k
+move-count (counting (first n)) k (count-char point) c = grow-count (first n) point c k
 move-count (counting (pointed n)) k (count-char m) c = grow-count (pointed n) m c k
-move-count (counting (second n x)) k (count-char m) c = grow-count (second n x) m c k
+move-count (counting (second n x)) k (count-char digit) c = grow-count (second n x) digit c k
+move-count (counting (second n x)) k (count-char point) c = grow-count (second n x) point c k
 move-count (counting empty) k (body-start b) c = tt
 move-count (counting (first n)) k (body-start b) c = enter-count n (some n) k b c
 move-count (counting (pointed n)) k (body-start b) c = enter-count n none k b c

@@ -14,7 +14,7 @@ use Rattle.pattern.specs.Syntax.{pattern, Syntax}
 use Rattle.pattern.specs.Grammar.{char-class, Derives}
 use Rattle.pattern.specs.Parser.{ParserState, step, finish, read-from, start, read}
 use Rattle.pattern.specs.ParserInvariant.{state-after, begun-at}
-use Rattle.pattern.specs.Scan.{depth, Begins, an-atom, a-second, a-code, a-group, nothing, begins, refuse, rows, fault}
+use Rattle.pattern.specs.Scan.{depth, Begins, an-atom, a-digit, a-code, a-group, nothing, begins, refuse, rows, fault}
 use Rattle.pattern.specs.Faults.{Viable, FormAt, rows-there, rows-at, Applies}
 use Rattle.pattern.proofs.Tests.{On}
 use Rattle.pattern.proofs.ParserComplete.{Leads, by-step, _⨾_, reads-on, complete}
@@ -40,8 +40,8 @@ unfolding fault
 fault-other b d n c s = other (rows b d n c s) (go b)
   where
     go : (b : Begins) → Other (rows b d n c s)
-    go an-atom = (tt, (tt, (tt, tt)))
-    go (a-second x) = (tt, tt)
+    go an-atom = (tt, (tt, tt))
+    go (a-digit v) = (tt, tt)
     go a-code = (tt, tt)
     go a-group = (tt, tt)
     go nothing = tt

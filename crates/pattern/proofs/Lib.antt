@@ -14,6 +14,7 @@ pub mod ParserCorrect
 pub mod TableRows
 pub mod Least
 pub mod FormAt
+pub mod NumberAt
 pub mod Begun
 pub mod Accepted
 pub mod Printed

@@ -2,15 +2,16 @@
 use mathlib.Core.Path.{_≡_, refl, sym, ap, _∙_}
 use mathlib.Core.List.{[], _∷_, _++_, append-assoc, append-nil}
 use mathlib.Core.Option.{Option, none, some, Option·none-ne-some}
-use Prim.Native.Nat.{ℕ}
+use Prim.Native.Nat.{ℕ, _≤_}
 use native.Mathlib.Omega.{arith}
-use Rattle.pattern.specs.Numbers.{point-byte}
+use Rattle.pattern.specs.Numbers.{point-byte, number-limit}
 use Rattle.pattern.specs.Bytes.{Bytes, between}
 use Rattle.pattern.specs.Meaning.{Cut}
 use Rattle.pattern.specs.Grammar.{CountChar, digit, point, CharClass, count-char, body-start, branch-end, char-class, Number, Low, missing, given}
 use Rattle.pattern.specs.Parser.{CountState, empty, first, pointed, second, counting, top, ParserState, grow, counted, move, step, start}
 use Rattle.pattern.specs.ParserInvariant.{state-after, AtomsBefore, AtBranchStart, CountSoFar, StackSoFar, ReadSoFar}
-use Rattle.pattern.specs.Scan.{longest-count}
+use Rattle.pattern.specs.Scan.{low, high, longest-count}
+use Rattle.pattern.specs.Within.{Small}
 use Rattle.pattern.specs.Faults.{LongestCount}
 use Rattle.pattern.proofs.Tests.{On}
 use Rattle.pattern.proofs.Notation.{ByteIn, class-byte}
@@ -43,6 +44,41 @@ extends (c ∷ s) r u h = go (char-class c) refl (class-byte c) (λ r′ l. exte
     go (count-char m) k b f = more m k (grow r m c) refl (grow-so-far (top []) r m c u k b h) f
     go (body-start b) k e f = ([], c ∷ s, refl, rw append-nil h, λ m i. absurd (let z : _≡_ {A = ℕ} 0 1 = cc in omega arith))
     go (branch-end b) k e f = ([], c ∷ s, refl, rw append-nil h, λ m i. absurd (let z : _≡_ {A = ℕ} 0 1 = cc in omega arith))
+
+-- ---- the numbers so far
+
+-- both numbers of a count fit
+abbrev pub BothFit : CountState → Type 0
+BothFit r = (low r ≤ number-limit) × Small (high r)
+
+-- where they fit after one more byte, they fit before it
+grow-fit : (r : CountState) (m : CountChar) (c : ℕ) → On (grow r m c) (λ r′. BothFit r′ → BothFit r)
+unfolding grow low high Small
+grow-fit empty digit c = λ h. (omega arith, tt)
+grow-fit empty point c = λ h. (omega arith, tt)
+grow-fit (first n) digit c = λ (x, y). (omega arith, omega arith)
+grow-fit (first n) point c = λ (x, y). (x, x)
+grow-fit (pointed n) digit c = λ (x, y). (x, tt)
+grow-fit (pointed n) point c = tt
+grow-fit (second n m) digit c = λ (x, y). (x, omega arith)
+grow-fit (second n m) point c = tt
+
+-- and so where they fit in the longest run
+pub longest-fit : (s : Bytes) (r : CountState) → BothFit (longest-count r s) → BothFit r
+unfolding longest-count
+longest-fit [] r h = h
+longest-fit (c ∷ s) r h = go (char-class c) (λ r′. longest-fit s r′) h
+  where
+    more : (o : Option CountState) → On o (λ r′. BothFit r′ → BothFit r) → ((r′ : CountState) → BothFit (longest-count r′ s) → BothFit r′)
+        → BothFit (elim o [ none ↦ r | some r′ ↦ longest-count r′ s ]) → BothFit r
+    more none g f h = h
+    more (some r′) g f h = g (f r′ h)
+
+    go : (x : CharClass) → ((r′ : CountState) → BothFit (longest-count r′ s) → BothFit r′)
+        → BothFit (elim x [ count-char m ↦ elim (grow r m c) [ none ↦ r | some r′ ↦ longest-count r′ s ] | body-start b ↦ r | branch-end e ↦ r ]) → BothFit r
+    go (count-char m) f h = more (grow r m c) (grow-fit r m c) f h
+    go (body-start b) f h = h
+    go (branch-end e) f h = h
 
 -- ---- no longer count
 

@@ -31,6 +31,9 @@ class-byte c =
     cond-case (eqb c closing-byte) F (eqb→eq c closing-byte) λ _.
     cond-case (eqb c comma-byte) F (eqb→eq c comma-byte) λ _. tt
 
+pub digit-byte : (c : ℕ) → char-class c ≡ count-char digit → c ≤ 57
+digit-byte c e = rw e at (class-byte c)
+
 -- what a byte of a literal is
 abbrev pub TextByte : LiteralClass → ℕ → Type 0
 TextByte plain c = T (between 32 126 c)

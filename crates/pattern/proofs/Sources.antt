@@ -23,7 +23,8 @@ sources =
     ∷ (bytes "5.3", RANGE, 0)
     ∷ (bytes "5..", FORM, 2)
     ∷ (bytes "3Q", CODE, 1)
-    ∷ (bytes "3.10000N", NUMBER, 2)
+    ∷ (bytes "20000N", NUMBER, 4)
+    ∷ (bytes "3.10000N", NUMBER, 6)
     ∷ (bytes "9999N", 0, 0)
     -- a body without a count, a literal that does not end, a byte 127 and a byte 200 in one
     ∷ (bytes "N", FORM, 0)
@@ -37,15 +38,17 @@ sources =
     ∷ (bytes "1Y", CODE, 1)
     ∷ (bytes "1z", CODE, 1)
     ∷ (bytes "4N(ITEM)", FORM, 2)
-    -- a second number is never the open end; a first one that does not fit comes before the range
-    ∷ (bytes ".65535N", NUMBER, 1)
-    ∷ (bytes "10000.5N", NUMBER, 0)
+    -- a second number is never the open end; leading zeros; no range where a number does not fit; a number before the end of the source
+    ∷ (bytes ".65535N", NUMBER, 5)
+    ∷ (bytes "0020000N", NUMBER, 6)
+    ∷ (bytes "10000.5N", NUMBER, 4)
+    ∷ (bytes "20000", NUMBER, 4)
     -- 64 atoms; a 65th: plain, with too large a first number, with a range that falls, with too large a second number, not a pattern
     ∷ (times 64 (bytes "1N"), 0, 0)
     ∷ (times 64 (bytes "1N") ++ bytes "1N", ATOMS, 128)
-    ∷ (times 64 (bytes "1N") ++ bytes "10000.", NUMBER, 128)
+    ∷ (times 64 (bytes "1N") ++ bytes "20000N", ATOMS, 128)
     ∷ (times 64 (bytes "1N") ++ bytes "5.3", RANGE, 128)
-    ∷ (times 64 (bytes "1N") ++ bytes "5.10000", ATOMS, 128)
+    ∷ (times 64 (bytes "1N") ++ bytes "5.10000N", ATOMS, 128)
     ∷ (times 64 (bytes "1N") ++ bytes "(", FORM, 128)
     -- 8 groups, 8 that do not end, 9
     ∷ (times 8 (bytes "1(") ++ bytes "1N" ++ times 8 (bytes ")"), 0, 0)

@@ -1,5 +1,5 @@
 -- The scan's fault in a state is the lowest of the refusal table's rows that apply there. Assumes nothing.
-use mathlib.Core.Path.{_≡_, refl, ap}
+use mathlib.Core.Path.{_≡_, refl, ap, _∙_}
 use mathlib.Core.Logic.{_⊎_, inl, inr, ⊎-elim}
 use mathlib.Core.Bool.{Bool, true, false, not, _&&_}
 use mathlib.Core.List.{List, [], _∷_}
@@ -7,14 +7,17 @@ use mathlib.Core.Option.{Option, none, some, Option·none-ne-some, Option·some-
 use Prim.Native.Nat.{ℕ, suc, _≤_, _<_}
 use native.Mathlib.Omega.{arith}
 use lib.Dec.{T, leb, ltb, leb→le}
+use borrow.Author.Tests.{le-leb, lt-ltb}
 use Rattle.pattern.specs.Numbers.{atom-limit, number-limit, FORM, NUMBER, RANGE, ATOMS, DEPTH}
 use Rattle.pattern.specs.Bytes.{Bytes}
 use Rattle.pattern.specs.Syntax.{pattern, Syntax}
 use Rattle.pattern.specs.Grammar.{char-class}
 use Rattle.pattern.specs.Parser.{CountState, ParserState, step, finish}
 use Rattle.pattern.specs.ParserInvariant.{begun-at}
-use Rattle.pattern.specs.Scan.{low, high, depth, Begins, an-atom, a-second, a-code, a-group, nothing, begins, large, falls, refuse, atom-rows, rows, fault}
+use Rattle.pattern.specs.Scan.{low, high, depth, Begins, an-atom, a-digit, a-code, a-group, nothing, begins, large, falls, refuse, atom-rows, rows, fault}
+use Rattle.pattern.specs.Within.{Small}
 use Rattle.pattern.specs.Faults.{form-row, rows-there, Applies}
+use Rattle.pattern.proofs.Tests.{le-or-lt}
 
 -- ---- the first test that passes
 
@@ -80,10 +83,28 @@ abbrev pub atom-fault : ℕ → CountState → Option ℕ
 atom-fault n r = refuse (atom-rows n r)
 
 -- the same without the test that is implied
-pub atom-fault-is : (n : ℕ) (r : CountState) → atom-fault n r
-    ≡ refuse ((ltb number-limit (low r), NUMBER) ∷ (leb (low r) number-limit && falls (low r) (high r), RANGE) ∷ (leb atom-limit n, ATOMS) ∷ [])
+pub atom-fault-is : (n : ℕ) (r : CountState) → atom-fault n r ≡ refuse ((leb (low r) number-limit && falls (low r) (high r), RANGE) ∷ (leb atom-limit n, ATOMS) ∷ [])
 unfolding atom-rows
-atom-fault-is n r = ap (λ b. refuse ((ltb number-limit (low r), NUMBER) ∷ (b, RANGE) ∷ (leb atom-limit n, ATOMS) ∷ [])) (range-row (low r) (high r))
+atom-fault-is n r = ap (λ b. refuse ((b, RANGE) ∷ (leb atom-limit n, ATOMS) ∷ [])) (range-row (low r) (high r))
+
+-- a first number that fits
+pub fit-fault : (n : ℕ) (r : CountState) → low r ≤ number-limit → atom-fault n r ≡ refuse ((falls (low r) (high r), RANGE) ∷ (leb atom-limit n, ATOMS) ∷ [])
+fit-fault n r h = atom-fault-is n r ∙ rw (le-leb (low r) number-limit h)
+
+not-large : (h : Option ℕ) → T (not (large h)) → Small h
+unfolding large Small
+not-large none t = tt
+not-large (some m) t = ⊎-elim (λ l. l) (λ l. absurd (rw (lt-ltb number-limit m l) at t)) (le-or-lt m number-limit)
+
+-- a count whose numbers do not both fit is no range
+pub unfit-fault : (n : ℕ) (r : CountState) → ¬ ((low r ≤ number-limit) × Small (high r)) → atom-fault n r ≡ refuse ((leb atom-limit n, ATOMS) ∷ [])
+unfolding refuse atom-rows
+unfit-fault n r h = go (leb (low r) number-limit) (not (large (high r))) (falls (low r) (high r)) (λ a b. h (leb→le (low r) number-limit a, not-large (high r) b))
+  where
+    go : (a b c : Bool) → (T a → ¬ T b) → refuse ((a && b && c, RANGE) ∷ (leb atom-limit n, ATOMS) ∷ []) ≡ refuse ((leb atom-limit n, ATOMS) ∷ [])
+    go false b c f = refl
+    go true false c f = refl
+    go true true c f = absurd (f tt tt)
 
 -- the lowest fault in a state, in the scan's order
 unfoldable pub found : ParserState → Bytes → Option ℕ
@@ -112,8 +133,8 @@ found-rows (some q) (c ∷ s) = go (step q c) _ refl
 -- the numbers of the rows ascend
 ascend : (b : Begins) (d n c : ℕ) (s : Bytes) → Above 0 (rows b d n c s)
 unfolding rows
-ascend an-atom d n c s = (tt, (tt, (tt, tt)))
-ascend (a-second x) d n c s = (tt, tt)
+ascend an-atom d n c s = (tt, (tt, tt))
+ascend (a-digit v) d n c s = (tt, tt)
 ascend a-code d n c s = (tt, tt)
 ascend a-group d n c s = (tt, tt)
 ascend nothing d n c s = tt
@@ -142,9 +163,8 @@ form-number f a = ⊎-elim (λ (x, y). (omega arith, omega arith)) (λ b. absurd
 
 rows-number : (b : Begins) (d n c : ℕ) (s : Bytes) (f : ℕ) → Numbered (rows b d n c s) f
 unfolding Numbered Applies rows
-rows-number an-atom d n c s f a =
-    ⊎-elim (λ (x, y). (omega arith, omega arith)) (⊎-elim (λ (x, y). (omega arith, omega arith)) (⊎-elim (λ (x, y). (omega arith, omega arith)) (λ b. absurd b))) a
-rows-number (a-second x) d n c s f a = ⊎-elim (λ (x, y). (omega arith, omega arith)) (λ b. absurd b) a
+rows-number an-atom d n c s f a = ⊎-elim (λ (x, y). (omega arith, omega arith)) (⊎-elim (λ (x, y). (omega arith, omega arith)) (λ b. absurd b)) a
+rows-number (a-digit v) d n c s f a = ⊎-elim (λ (x, y). (omega arith, omega arith)) (λ b. absurd b) a
 rows-number a-code d n c s f a = ⊎-elim (λ (x, y). (omega arith, omega arith)) (λ b. absurd b) a
 rows-number a-group d n c s f a = ⊎-elim (λ (x, y). (omega arith, omega arith)) (λ b. absurd b) a
 rows-number nothing d n c s f a = absurd a

@@ -7,12 +7,12 @@ use mathlib.Core.Option.{Option, none, some}
 use Prim.Native.Nat.{ℕ, suc, _≤_, _<_}
 use lib.Dec.{T}
 use lib.ListN.{length, take, drop}
-use Rattle.pattern.specs.Numbers.{FORM}
+use Rattle.pattern.specs.Numbers.{number-limit, FORM}
 use Rattle.pattern.specs.Bytes.{Bytes}
 use Rattle.pattern.specs.Syntax.{pattern, Syntax}
 use Rattle.pattern.specs.Grammar.{char-class, Derives}
-use Rattle.pattern.specs.Parser.{CountState, top, ParserState, step, finish, start}
-use Rattle.pattern.specs.ParserInvariant.{state-after, CountSoFar, begun-at}
+use Rattle.pattern.specs.Parser.{CountState, empty, first, pointed, second, counting, Stack, top, ParserState, step, finish, start}
+use Rattle.pattern.specs.ParserInvariant.{state-after, CountSoFar, ReadSoFar, begun-at}
 use Rattle.pattern.specs.Scan.{depth, begins, rows, Outcome, refused, accepted}
 
 -- bytes that some pattern begins with
@@ -22,6 +22,18 @@ Viable u = (w : Bytes) × (t : Syntax pattern) × Derives t (u ++ w)
 -- FORM, without the automaton: the first byte that no pattern continues with, or the length if the source ends too soon
 unfoldable pub FormAt : Bytes → ℕ → Type 0
 FormAt s p = Viable (take p s) × (((p < length s) × ¬ Viable (take (suc p) s)) ⊎ ((p ≡ length s) × ¬ ((t : Syntax pattern) × Derives t s)))
+
+-- a count that ends in a number over 9,999
+unfoldable pub Over : CountState → Type 0
+Over empty = ⊥
+Over (first n) = number-limit < n
+Over (pointed n) = ⊥
+Over (second n m) = number-limit < m
+
+-- NUMBER, without the automaton: the bytes up to that digit are such a count, after what may stand before it. The least such position is
+-- "the first digit that takes the value above 9,999"
+unfoldable pub NumberAt : Bytes → ℕ → Type 0
+NumberAt s p = (p < length s) × (r : CountState) × (k : Stack) × Over r × ReadSoFar (counting r) k (take (suc p) s)
 
 -- FORM, with which the search for faults ends
 abbrev pub form-row : List (Bool × ℕ)

@@ -2,14 +2,14 @@
 use mathlib.Core.Bool.{Bool, true, false, not, _&&_, cond}
 use mathlib.Core.List.{List, [], _∷_}
 use mathlib.Core.Option.{Option, none, some}
-use Prim.Native.Nat.{ℕ, suc}
+use Prim.Native.Nat.{ℕ, suc, _+_, _-_, _*_}
 use lib.Dec.{leb, ltb}
 use lib.ListN.{length}
-use Rattle.pattern.specs.Numbers.{source-limit, atom-limit, depth-limit, number-limit, set-limit, LONG, FORM, CODE, NUMBER, RANGE, ATOMS, DEPTH}
+use Rattle.pattern.specs.Numbers.{source-limit, atom-limit, depth-limit, number-limit, set-limit, zero-byte, LONG, FORM, CODE, NUMBER, RANGE, ATOMS, DEPTH}
 use Rattle.pattern.specs.Bytes.{Bytes}
 use Rattle.pattern.specs.Codes.{bit}
 use Rattle.pattern.specs.Syntax.{pattern, Syntax}
-use Rattle.pattern.specs.Grammar.{BodyStart, letter, quote, opening, CharClass, count-char, body-start, branch-end, char-class}
+use Rattle.pattern.specs.Grammar.{BodyStart, letter, quote, opening, digit, point, CharClass, count-char, body-start, branch-end, char-class}
 use Rattle.pattern.specs.Parser.{CountState, empty, first, pointed, second, Phase, counting, inside, after, Stack, top, within, ParserState, grow, step, finish, start}
 
 -- the two numbers of a count
@@ -35,10 +35,10 @@ unfoldable pub depth : Stack → ℕ
 depth (top before) = 0
 depth (within k l h others before) = suc (depth k)
 
--- what begins with a byte: an atom, the second number of a count, a code letter, a group, or none of these
+-- what begins with a byte: an atom, one more digit of a number with this value so far, a code letter, a group, or none of these
 pub data Begins : Type 0 where
   an-atom a-code a-group nothing : Begins
-  a-second : (n : ℕ) → Begins
+  a-digit : (value : ℕ) → Begins
 
 unfoldable pub body-begins : BodyStart → Begins
 body-begins letter = a-code
@@ -47,9 +47,11 @@ body-begins opening = a-group
 
 unfoldable pub begins : Phase → CharClass → Begins
 begins (counting empty) (count-char m) = an-atom
-begins (counting (first n)) (count-char m) = nothing
-begins (counting (pointed n)) (count-char m) = a-second n
-begins (counting (second n m)) (count-char x) = nothing
+begins (counting (first n)) (count-char digit) = a-digit n
+begins (counting (first n)) (count-char point) = nothing
+begins (counting (pointed n)) (count-char m) = nothing
+begins (counting (second n m)) (count-char digit) = a-digit m
+begins (counting (second n m)) (count-char point) = nothing
 begins (counting r) (body-start b) = body-begins b
 begins (counting r) (branch-end e) = nothing
 begins (inside l h value) x = nothing
@@ -60,7 +62,7 @@ begins (after l h b) (branch-end e) = nothing
 -- the atoms begun once that byte is read
 unfoldable pub begun : Begins → ℕ → ℕ
 begun an-atom n = suc n
-begun (a-second x) n = n
+begun (a-digit v) n = n
 begun a-code n = n
 begun a-group n = n
 begun nothing n = n
@@ -80,20 +82,20 @@ unfoldable pub refuse : List (Bool × ℕ) → Option ℕ
 refuse [] = none
 refuse (t ∷ ts) = elim (t .0) [ true ↦ some (t .1) | false ↦ refuse ts ]
 
--- rows 4 to 6 of the refusal table for an atom that begins after n others with this count: "repeat number over 9,999",
--- "both numbers fit and the second is less", and too many atoms
+-- rows 5 and 6 of the refusal table for an atom that begins after n others with this count: "both numbers fit and the second is less",
+-- and too many atoms
 unfoldable pub atom-rows : ℕ → CountState → List (Bool × ℕ)
 atom-rows n r =
-    (ltb number-limit (low r), NUMBER)
-    ∷ (leb (low r) number-limit && not (large (high r)) && falls (low r) (high r), RANGE)
+    (leb (low r) number-limit && not (large (high r)) && falls (low r) (high r), RANGE)
     ∷ (leb atom-limit n, ATOMS)
     ∷ []
 
--- rows 3 to 7 for what begins with the byte c, inside d groups and after n atoms; s is the source after it
+-- rows 3 to 7 for what begins with the byte c, inside d groups and after n atoms; s is the source after it. NUMBER stands at a digit that
+-- takes the value above 9,999; the first digit of a number never does
 unfoldable pub rows : Begins → (d n c : ℕ) → Bytes → List (Bool × ℕ)
 unfolding atom-rows
 rows an-atom d n c s = atom-rows n (longest-count empty (c ∷ s))
-rows (a-second x) d n c s = (large (high (longest-count (pointed x) (c ∷ s))), NUMBER) ∷ []
+rows (a-digit v) d n c s = (ltb number-limit (10 * v + (c - zero-byte)), NUMBER) ∷ []
 rows a-code d n c s = (leb set-limit (bit c), CODE) ∷ []
 rows a-group d n c s = (leb depth-limit d, DEPTH) ∷ []
 rows nothing d n c s = []

@@ -1,8 +1,7 @@
 pub mod Places
-mod Pass
 pub mod Steps
 mod Texts
 mod Bodies
-mod Numbers
-mod TakenCounts
+mod Runs
+mod Digits
 mod Counts

@@ -10,7 +10,6 @@ use Rattle.pattern.specs.Parser.{ParserState, step, finish}
 use Rattle.pattern.specs.Scan.{depth, begins, begun, fault, refused, scan}
 use Rattle.scanner.specs.Places.{class-at}
 use Rattle.scanner.specs.Scans.{scanned}
-use Rattle.scanner.proofs.Pass.{scan-next, scan-fault, scan-form}
 
 -- the fault at a byte, and the atoms begun after it
 abbrev pub fault-here : Bytes → ParserState → (i n : ℕ) → Option ℕ
@@ -20,14 +19,20 @@ abbrev pub begun-here : Bytes → ParserState → (i n : ℕ) → ℕ
 begun-here s q i n = begun (begins (q .0) (class-at s i)) n
 
 module _ (s : Bytes) (i n : ℕ) (l : i < length s) (q : ParserState) where
+  pub stepped : (q′ : ParserState) → step q (getD s i 0) ≡ some q′
+      → scanned s q i n ≡ elim (fault-here s q i n) [ some f ↦ refused f i | none ↦ scanned s q′ (suc i) (begun-here s q i n) ]
+  unfolding scan
+  stepped q′ e = rw (drop-cons s i 0) (rw (e, scan))
+
   pub onward : (q′ : ParserState) → step q (getD s i 0) ≡ some q′ → fault-here s q i n ≡ none → begun-here s q i n ≡ n → scanned s q i n ≡ scanned s q′ (suc i) n
-  onward q′ e f b = rw (drop-cons s i 0) (scan-next q i n (getD s i 0) (drop (suc i) s) q′ e f ∙ rw b)
+  onward q′ e f b = stepped q′ e ∙ rw f (rw b)
 
   pub faulty : (q′ : ParserState) (x : ℕ) → step q (getD s i 0) ≡ some q′ → fault-here s q i n ≡ some x → scanned s q i n ≡ refused x i
-  faulty q′ x e f = rw (drop-cons s i 0) (scan-fault q i n (getD s i 0) (drop (suc i) s) q′ x e f)
+  faulty q′ x e f = stepped q′ e ∙ rw f
 
   pub stuck : step q (getD s i 0) ≡ none → scanned s q i n ≡ refused FORM i
-  stuck e = rw (drop-cons s i 0) (scan-form q i n (getD s i 0) (drop (suc i) s) e)
+  unfolding scan
+  stuck e = rw (drop-cons s i 0) (rw (e, scan))
 
 -- a source that ends too soon
 pub short : (s : Bytes) (i n : ℕ) → length s ≤ i → (q : ParserState) → finish (q .0) (q .1) ≡ none → scanned s q i n ≡ refused FORM i

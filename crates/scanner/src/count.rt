@@ -1,8 +1,8 @@
 // A repeat count, taken as the longest run.
 ghost use mathlib.Core.Path.{_≡_};
-ghost use Prim.Native.Nat.{_+_, _*_, _≤_};
+ghost use Prim.Native.Nat.{_≤_};
 ghost use lib.ListN.{length};
-ghost use Rattle.scanner.specs.Counts.{large-number, cap, check-count, DigitsPost, CountPost};
+ghost use Rattle.scanner.specs.Counts.{within-atoms, check-count, DigitsPost, CountPost};
 use crate::cursor::Cursor;
 use crate::cursor::Digit;
 use crate::cursor::Point;
@@ -10,13 +10,10 @@ use pattern::limits;
 use pattern::refusal;
 use pattern::repeat::Repeat;
 
-// Stands for every number over the limit.
-const LARGE: u16 = limits::NUMBER_LIMIT + 1;
-
-// A run of digits: its value, or LARGE, and where it ends.
-struct DigitsRead {
-    value: u16,
-    end: Cursor,
+// A run of digits: its value, 0 for none, and where it ends; or the place of the digit that takes the value over the limit.
+enum DigitsRead {
+    Number(u16, Cursor),
+    Over(usize),
 }
 
 pub enum CountResult {
@@ -24,18 +21,7 @@ pub enum CountResult {
     Fault(u32, usize),
 }
 
-// The number v and then the digit d.
-fn push_digit(v: u16, d: u16) -> u16
-    requires { ⌜ (v ≤ large-number) × (d ≤ 9) ⌝ }
-    ensures { λ r. ⌜ (r ≤ large-number) × (r ≡ cap (10 * v + d)) ⌝ }
-{
-    if limits::NUMBER_LIMIT / 10 < v {
-        LARGE
-    } else {
-        10 * v + d
-    }
-}
-
+// The limit's last digit is 9, so that one more digit goes over it just where the value so far is over a tenth of it.
 fn digits(s: &[u8], c: Cursor) -> DigitsRead
     requires { ⌜ c .at ≤ length (now s) ⌝ }
     ensures { λ r. ⌜ DigitsPost (now (s .entry)) (c .at) r ⌝ }
@@ -45,31 +31,37 @@ fn digits(s: &[u8], c: Cursor) -> DigitsRead
     loop {
         match at.digit(s) {
             Digit::Is(d, next) => {
-                v = push_digit(v, d);
+                if limits::NUMBER_LIMIT / 10 < v {
+                    return DigitsRead::Over(at.at);
+                }
+                v = 10 * v + d;
                 at = next;
             }
-            Digit::None => return DigitsRead { value: v, end: at },
+            Digit::None => return DigitsRead::Number(v, at),
         }
     }
 }
 
-// A count from start to end, its second number at from, of an atom after n others: its first fault, or the count.
-fn check_count(rep: Repeat, n: usize, start: usize, from: usize, end: Cursor) -> CountResult
-    ensures { λ r. ⌜ r ≡ check-count rep n start from end ⌝ }
+// What was found at a count, unless its atom is one too many.
+fn within_atoms(n: usize, start: usize, found: CountResult) -> CountResult
+    ensures { λ r. ⌜ r ≡ within-atoms n start found ⌝ }
 {
-    if limits::NUMBER_LIMIT < rep.low {
-        return CountResult::Fault(refusal::NUMBER, start);
-    }
-    if rep.high < rep.low {
-        return CountResult::Fault(refusal::RANGE, start);
-    }
     if limits::ATOM_LIMIT <= n {
-        return CountResult::Fault(refusal::ATOMS, start);
+        CountResult::Fault(refusal::ATOMS, start)
+    } else {
+        found
     }
-    if rep.high == LARGE {
-        return CountResult::Fault(refusal::NUMBER, from);
+}
+
+// A count from start to end, of an atom after n others: its first fault, or the count.
+fn check_count(rep: Repeat, n: usize, start: usize, end: Cursor) -> CountResult
+    ensures { λ r. ⌜ r ≡ check-count rep n start end ⌝ }
+{
+    if rep.high < rep.low {
+        CountResult::Fault(refusal::RANGE, start)
+    } else {
+        within_atoms(n, start, CountResult::Repeat(rep, end))
     }
-    CountResult::Repeat(rep, end)
 }
 
 // The count at the cursor, of an atom after n others.
@@ -78,31 +70,31 @@ pub fn count(s: &[u8], c: Cursor, n: usize) -> CountResult
     ensures { λ r. ⌜ CountPost (now (s .entry)) (c .at) n r ⌝ }
 {
     let start = c.at;
-    let first = digits(s, c);
-    let end = first.end;
-    match end.point(s) {
-        Point::Is(next) => {
-            let from = next.at;
-            let second = digits(s, next);
-            let stop = second.end;
-            if stop.at == from {
-                check_count(Repeat::open(first.value), n, start, from, stop)
-            } else {
-                check_count(
-                    Repeat::closed(first.value, second.value),
-                    n,
-                    start,
-                    from,
-                    stop,
-                )
+    match digits(s, c) {
+        DigitsRead::Over(p) => { within_atoms(n, start, CountResult::Fault(refusal::NUMBER, p)) }
+        DigitsRead::Number(low, end) => match end.point(s) {
+            Point::Is(next) => {
+                let from = next.at;
+                match digits(s, next) {
+                    DigitsRead::Over(p) => {
+                        within_atoms(n, start, CountResult::Fault(refusal::NUMBER, p))
+                    }
+                    DigitsRead::Number(high, stop) => {
+                        if stop.at == from {
+                            check_count(Repeat::open(low), n, start, stop)
+                        } else {
+                            check_count(Repeat::closed(low, high), n, start, stop)
+                        }
+                    }
+                }
             }
-        }
-        Point::None => {
-            if end.at == start {
-                CountResult::Fault(refusal::FORM, start)
-            } else {
-                check_count(Repeat::exact(first.value), n, start, start, end)
+            Point::None => {
+                if end.at == start {
+                    CountResult::Fault(refusal::FORM, start)
+                } else {
+                    check_count(Repeat::exact(low), n, start, end)
+                }
             }
-        }
+        },
     }
 }

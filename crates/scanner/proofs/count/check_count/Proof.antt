@@ -1,5 +1,7 @@
 -- `count::check_count` meets its contract. Assumes nothing.
-use borrow.Author.Tests.{lt-ltb, le-ltb, le-leb, lt-leb, eq-eqb, ne-eqb}
+use mathlib.Core.Path.{_∙_}
+use borrow.Author.Tests.{lt-ltb, le-ltb}
+use borrow.Author.Needs.{needs}
 use Rattle.scanner.specs.Counts.{check-count}
 use Rattle.scanner.proofs.count.check_count.Statement.{statement}
 use Rattle.scanner.proofs.count.check_count.Tie as tie
@@ -10,19 +12,7 @@ returns c = simp (lt-ltb _ _ (c .if1 .taken))
 
 returns-2 : tie.Need-returns-2
 unfolding check-count
-returns-2 c = simp (le-ltb _ _ (c .before .before .if1 .left), lt-ltb _ _ (c .if2 .taken))
-
-returns-3 : tie.Need-returns-3
-unfolding check-count
-returns-3 c = simp (le-ltb _ _ (c .before .before .before .if1 .left), le-ltb _ _ (c .before .if2 .left), le-leb _ _ (c .if3 .taken))
-
-returns-4 : tie.Need-returns-4
-unfolding check-count
-returns-4 c = simp (le-ltb _ _ (c .before .before .before .before .before .if1 .left), le-ltb _ _ (c .before .before .before .if2 .left), lt-leb _ _ (c .before .before .if3 .left), eq-eqb _ _ (c .if4 .taken))
-
-returns-5 : tie.Need-returns-5
-unfolding check-count
-returns-5 c = simp (le-ltb _ _ (c .before .before .before .before .before .if1 .left), le-ltb _ _ (c .before .before .before .if2 .left), lt-leb _ _ (c .before .before .if3 .left), ne-eqb _ _ (c .if4 .left))
+returns-2 c = simp (le-ltb _ _ (c .before .if1 .left)) (c .within-atoms .ensures)
 
 pub check-count-spec : {M : Type 1} → statement M
-check-count-spec = tie.close (tie.spec returns returns-2 returns-3 returns-4 returns-5)
+check-count-spec = tie.close (tie.spec (λ c κs. search needs) returns returns-2)

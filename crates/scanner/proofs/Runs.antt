@@ -1,0 +1,131 @@
+-- The scan and the longest run over the bytes of a count. Assumes nothing.
+use mathlib.Core.Path.{_≡_, refl, sym, ap, ap₂, _∙_}
+use mathlib.Core.List.{[], _∷_}
+use mathlib.Core.Option.{Option, none, some}
+use Prim.Native.Nat.{ℕ, suc, _+_, _-_, _*_, _≤_, _<_}
+use lib.Dec.{ltb}
+use lib.ListN.{length, drop, getD}
+use lib.Seq.{drop-cons}
+use borrow.Author.Tests.{lt-ltb, le-ltb}
+use Rattle.pattern.specs.Numbers.{number-limit, NUMBER}
+use Rattle.pattern.specs.Bytes.{Bytes}
+use Rattle.pattern.specs.Grammar.{CountChar, digit, point, count-char}
+use Rattle.pattern.specs.Parser.{CountState, empty, first, pointed, second, counting, Stack, grow, counted, move, step}
+use Rattle.pattern.specs.Scan.{longest-count, begins, begun, refuse, atom-rows, rows, fault, refused}
+use Rattle.pattern.specs.Faults.{Over}
+use Rattle.scanner.specs.Places.{class-at}
+use Rattle.scanner.specs.Scans.{scanned}
+use Rattle.scanner.specs.Counts.{CountNumber, the-first, the-second, before, valued, tested, Runs, Overruns}
+use Rattle.scanner.proofs.Steps.{fault-here, begun-here, stepped, onward, faulty}
+
+-- a byte that belongs to a count
+module _ (s : Bytes) (j : ℕ) (l : j < length s) (m : CountChar) (e : class-at s j ≡ count-char m) (r r′ : CountState) (g : grow r m (getD s j 0) ≡ some r′) where
+  longest-next : longest-count r (drop j s) ≡ longest-count r′ (drop (suc j) s)
+  unfolding longest-count
+  longest-next = rw (drop-cons s j 0 l) (rw (e, longest-count) (rw g))
+
+  count-step : (k : Stack) → step (counting r, k) (getD s j 0) ≡ some (counting r′, k)
+  unfolding step move counted
+  count-step k = rw e (rw g)
+
+-- a count begins at place j
+module _ (s : Bytes) (j : ℕ) (l : j < length s) (m : CountChar) (e : class-at s j ≡ count-char m) where
+  first-fault : (k : Stack) (n : ℕ) → fault-here s (counting empty, k) j n ≡ refuse (atom-rows n (longest-count empty (drop j s)))
+  unfolding fault rows begins
+  first-fault k n = rw e (ap (λ (x : Bytes). refuse (atom-rows n (longest-count empty x))) (sym (drop-cons s j 0 l)))
+
+  first-begun : (k : Stack) (n : ℕ) → begun-here s (counting empty, k) j n ≡ suc n
+  unfolding begins begun
+  first-begun k n = rw e
+
+  runs-begin : (r : CountState) → grow empty m (getD s j 0) ≡ some r → Runs s the-first j r (suc j)
+  unfolding tested
+  runs-begin r g = record {
+    longest = longest-next s j l m e empty r g;
+    scan = λ k n. stepped s j n l (counting empty, k) (counting r, k) (count-step s j l m e empty r g k)
+        ∙ ap₂ (λ (o : Option ℕ) (b : ℕ). elim o [ some f ↦ refused f j | none ↦ scanned s (counting r, k) (suc j) b ]) (first-fault k n) (first-begun k n);
+  }
+
+-- a digit at place j
+module _ (s : Bytes) (j : ℕ) (l : j < length s) (e : class-at s j ≡ count-char digit) where
+  abbrev d : ℕ
+  d = getD s j 0 - 48
+
+  -- the first of a number
+  pub runs-start : (w : CountNumber) → Runs s w j (valued w d) (suc j)
+  unfolding grow tested fault rows begins begun refuse
+  runs-start the-first = runs-begin s j l digit e (first d) refl
+  runs-start (the-second x) = record {
+    longest = longest-next s j l digit e (pointed x) (second x d) refl;
+    scan = λ k n. onward s j n l (counting (pointed x), k) (counting (second x d), k) (count-step s j l digit e (pointed x) (second x d) refl k) (rw e) (rw e);
+  }
+
+  -- one more of a number with value v
+  module _ (v : ℕ) where
+    abbrev value : ℕ
+    value = 10 * v + d
+
+    grows : (w : CountNumber) → grow (valued w v) digit (getD s j 0) ≡ some (valued w value)
+    unfolding grow
+    grows the-first = refl
+    grows (the-second x) = refl
+
+    digit-fault : (w : CountNumber) (k : Stack) (n : ℕ) → fault-here s (counting (valued w v), k) j n ≡ refuse ((ltb number-limit value, NUMBER) ∷ [])
+    unfolding fault rows begins
+    digit-fault the-first k n = rw e
+    digit-fault (the-second x) k n = rw e
+
+    digit-begun : (w : CountNumber) (k : Stack) (n : ℕ) → begun-here s (counting (valued w v), k) j n ≡ n
+    unfolding begins begun
+    digit-begun the-first k n = rw e
+    digit-begun (the-second x) k n = rw e
+
+    next-step : (w : CountNumber) (k : Stack) → step (counting (valued w v), k) (getD s j 0) ≡ some (counting (valued w value), k)
+    next-step w k = count-step s j l digit e (valued w v) (valued w value) (grows w) k
+
+    module _ (i : ℕ) (w : CountNumber) (h : Runs s w i (valued w v) j) where
+      next-longest : longest-count (before w) (drop i s) ≡ longest-count (valued w value) (drop (suc j) s)
+      next-longest = h .longest ∙ longest-next s j l digit e (valued w v) (valued w value) (grows w)
+
+      pub runs-more : value ≤ number-limit → Runs s w i (valued w value) (suc j)
+      unfolding refuse
+      runs-more g = record {
+        longest = next-longest;
+        scan = λ k n. h .scan k n ∙ ap (tested w s i n) (onward s j _ l (counting (valued w v), k) (counting (valued w value), k) (next-step w k) (digit-fault w k _ ∙ rw (le-ltb number-limit value g)) (digit-begun w k _));
+      }
+
+      pub overruns : number-limit < value → Overruns s w i j
+      unfolding refuse
+      overruns g = record {
+        state = valued w value;
+        over = over w;
+        longest = next-longest;
+        scan = λ k n. h .scan k n ∙ ap (tested w s i n) (faulty s j _ l (counting (valued w v), k) (counting (valued w value), k) NUMBER (next-step w k) (digit-fault w k _ ∙ rw (lt-ltb number-limit value g)));
+      }
+        where
+          over : (w : CountNumber) → Over (valued w value)
+          over the-first = unfold Over in g
+          over (the-second x) = unfold Over in g
+
+-- a point at place j
+module _ (s : Bytes) (j : ℕ) (l : j < length s) (e : class-at s j ≡ count-char point) where
+  pub runs-point : Runs s the-first j (pointed 0) (suc j)
+  unfolding grow
+  runs-point = runs-begin s j l point e (pointed 0) refl
+
+  pub point-more : (i v : ℕ) → Runs s the-first i (first v) j → Runs s the-first i (pointed v) (suc j)
+  unfolding grow fault rows refuse begins begun
+  point-more i v h = record {
+    longest = h .longest ∙ longest-next s j l point e (first v) (pointed v) refl;
+    scan = λ k n. h .scan k n ∙ ap (tested the-first s i n) (onward s j _ l (counting (first v), k) (counting (pointed v), k) (count-step s j l point e (first v) (pointed v) refl k) (rw e) (rw e));
+  }
+
+-- a second number after what came before it
+module _ (s : Bytes) (i x j : ℕ) (h : Runs s the-first i (pointed x) j) where
+  pub then-runs : (r : CountState) (m : ℕ) → Runs s (the-second x) j r m → Runs s the-first i r m
+  unfolding tested
+  then-runs r m g = record { longest = h .longest ∙ g .longest; scan = λ k n. h .scan k n ∙ rw (g .scan k (suc n)) }
+
+  pub then-overruns : (p : ℕ) → Overruns s (the-second x) j p → Overruns s the-first i p
+  unfolding tested
+  then-overruns p g = record { state = g .state; over = g .over; longest = h .longest ∙ g .longest; scan = λ k n. h .scan k n ∙ rw (g .scan k (suc n)) }
