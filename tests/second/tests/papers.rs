@@ -99,7 +99,7 @@ fn digits_of_numbers() {
         refusal(&[b"0".repeat(507), b"10000".to_vec()].concat()),
         (NUMBER, 511)
     );
-    // Before a FORM behind the digit, after one before it.
+    // Of the digit and the place of FORM the lesser one.
     assert_eq!(refusal(b"20000"), (NUMBER, 4));
     assert_eq!(refusal(b"20000."), (NUMBER, 4));
     assert_eq!(refusal(b"20000..N"), (NUMBER, 4));
