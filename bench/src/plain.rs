@@ -38,15 +38,33 @@ const CLASSES: [u8; 256] = {
 
 // ---- compiling ----
 
-/// The digits at `at`: whether there are any, and their value, at most 10,000.
-fn number(source: &[u8], at: &mut usize) -> (bool, u32) {
+/// The digits at `at`: whether there are any, and their value. The digit that takes it above 9,999 is NUMBER.
+fn number(source: &[u8], at: &mut usize) -> Result<(bool, u16), Refusal> {
     let start = *at;
     let mut value = 0;
     while let Some(digit @ b'0'..=b'9') = source.get(*at) {
-        value = (value * 10 + u32::from(digit - b'0')).min(10_000);
+        value = value * 10 + u32::from(digit - b'0');
+        if value > 9_999 {
+            return Err((4, *at));
+        }
         *at += 1;
     }
-    (*at > start, value)
+    Ok((*at > start, value as u16))
+}
+
+/// The count at `at`: its first and second number.
+fn count(source: &[u8], at: &mut usize) -> Result<(u16, u16), Refusal> {
+    let start = *at;
+    let (some_low, low) = number(source, at)?;
+    if source.get(*at) != Some(&b'.') {
+        return some_low.then_some((low, low)).ok_or((2, start));
+    }
+    *at += 1;
+    match number(source, at)? {
+        (false, _) => Ok((low, OPEN)),
+        (true, high) if high < low => Err((5, start)),
+        (true, high) => Ok((low, high)),
+    }
 }
 
 struct Builder {
@@ -100,31 +118,12 @@ pub fn compile(source: &[u8], table: &mut [u8]) -> Result<usize, Refusal> {
     let byte = |at: usize| source.get(at).copied().unwrap_or(0);
     loop {
         let start = at;
-        let (some_low, low) = number(source, &mut at);
-        if low > 9_999 {
-            return Err((4, start));
-        }
-        let mut high = low as u16;
-        let mut over = None;
-        if byte(at) == b'.' {
-            at += 1;
-            let second = at;
-            let (some_high, value) = number(source, &mut at);
-            if some_high && value < low {
-                return Err((5, start));
-            }
-            over = (value > 9_999).then_some((4, second));
-            high = if some_high { value as u16 } else { OPEN };
-        } else if !some_low {
-            return Err((2, at));
-        }
-        if builder.atoms == 64 {
+        let counted = count(source, &mut at);
+        // FORM and RANGE stand at the first byte too and are the lower numbers.
+        if builder.atoms == 64 && !matches!(counted, Err((2 | 5, _))) {
             return Err((6, start));
         }
-        if let Some(refusal) = over {
-            return Err(refusal);
-        }
-        let low = low as u16;
+        let (low, high) = counted?;
         let mut ended = builder.atoms;
         match byte(at) {
             b'A'..=b'Z' | b'a'..=b'z' => {

@@ -183,7 +183,8 @@ static void compiling(void)
     compile("5.3", MPT_RANGE, 0);
     compile("5..", MPT_FORM, 2);
     compile("3Q", MPT_CODE, 1);
-    compile("3.10000N", MPT_NUMBER, 2);
+    compile("3.10000N", MPT_NUMBER, 6);
+    compile("20000N", MPT_NUMBER, 4);
     compile("1(1(1(1(1(1(1(1(1(1N)))))))))", MPT_DEPTH, 17);
 
     char text[MPT_SOURCE_MAX + 2];
@@ -192,6 +193,8 @@ static void compiling(void)
     compile(text, MPT_LONG, MPT_SOURCE_MAX);
     for (int at = 0; at < 130; at += 2)
         memcpy(text + at, "1N", 3);
+    compile(text, MPT_ATOMS, 128);
+    memcpy(text + 128, "20000N", 7);
     compile(text, MPT_ATOMS, 128);
 
     memset(table, DIRT, sizeof table);

@@ -54,13 +54,14 @@ impl Reader<'_> {
         let start = self.at;
         let mut value: u128 = 0;
         while let Some(digit @ b'0'..=b'9') = self.peek() {
+            let fits = value <= 9_999;
             value = value
                 .saturating_mul(10)
                 .saturating_add(u128::from(digit - b'0'));
+            if fits && value > 9_999 {
+                self.fault(4, self.at);
+            }
             self.at += 1;
-        }
-        if value > 9_999 {
-            self.fault(4, start);
         }
         (self.at > start).then_some(value)
     }

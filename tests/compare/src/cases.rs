@@ -5,7 +5,7 @@ use crate::call::{Batch, Call, Case};
 use crate::tables::{damage, table, table_of, work};
 use generate::labels::{bound, cheap_pattern, flatten, long_match, most_trials, sample};
 use generate::patterns::pattern;
-use generate::sources::{mutate, source};
+use generate::sources::{count_at_limit, mutate, source};
 use generate::{Atom, Random};
 
 /// A length about the one needed: mostly enough, at times one short.
@@ -20,7 +20,11 @@ pub fn about(random: &mut Random, needed: usize) -> usize {
 }
 
 fn compile_call(random: &mut Random) -> Call {
-    let source = source(random);
+    let source = if random.once_in(8) {
+        count_at_limit(random)
+    } else {
+        source(random)
+    };
     let needed =
         second::compile(&source, usize::MAX).map_or(random.below(1_200), |table| table.len());
     Call::Compile {

@@ -64,9 +64,41 @@ fn each_count() -> Vec<Call> {
     calls
 }
 
-/// The examples of the papers and what is made of every byte, set, count, short source and changed
-/// table, the long calls, the batches and the registers; a quick run has fewer short sources and no
-/// count past 32 bits.
+/// Numbers that first exceed 9,999 at each place of a source; about the 65th atom, such counts and
+/// those that fall, cut off at each place.
+fn each_digit() -> Vec<Call> {
+    let mut sources = Vec::new();
+    for zeros in 0..=508 {
+        let zeros = "0".repeat(zeros);
+        sources.push(format!("{zeros}10000N"));
+        sources.push(format!("9.{zeros}99999"));
+    }
+    let counts = [
+        "20000N",
+        ".10000N",
+        "5.10000N",
+        "0020000.3N",
+        "9999.09998N",
+        "10000.9999N",
+        "20000.10000N",
+        "5.3N",
+    ];
+    for atoms in 62..=65 {
+        let atoms = "1N".repeat(atoms);
+        for count in counts {
+            sources.extend((0..=count.len()).map(|len| format!("{atoms}{}", &count[..len])));
+        }
+    }
+    let compile = |source: String| Call::Compile {
+        source: source.into_bytes(),
+        table_len: 1_160,
+    };
+    sources.into_iter().map(compile).collect()
+}
+
+/// The examples of the papers and what is made of every byte, set, count, digit, short source and
+/// changed table, the long calls, the batches and the registers; a quick run has fewer short sources
+/// and no count past 32 bits.
 pub fn fixed(quick: bool) -> Vec<Case> {
     let short = short_sources(if quick { 4 } else { 5 })
         .into_iter()
@@ -78,6 +110,7 @@ pub fn fixed(quick: bool) -> Vec<Case> {
         .into_iter()
         .chain(each_byte())
         .chain(each_count())
+        .chain(each_digit())
         .chain(each_set())
         .chain(short)
         .chain(changed_tables().into_iter().flat_map(of_changed))

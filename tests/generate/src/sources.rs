@@ -141,6 +141,51 @@ pub fn fault_list(random: &mut Random) -> Vec<u8> {
     source
 }
 
+/// No digits, a number near 9,999 or one of many digits.
+fn near_limit(random: &mut Random) -> String {
+    match random.below(4) {
+        0 => String::new(),
+        1 => format!("{}", random.between(9_997, 10_002)),
+        2 => format!(
+            "{}{}",
+            "0".repeat(random.below(30)),
+            random.between(0, 12_000)
+        ),
+        _ => (0..random.between(1, 40))
+            .map(|_| random.pick(&['0', '1', '9']))
+            .collect(),
+    }
+}
+
+/// A count of such numbers, at times the 63rd to 66th, with as many zeros as a source has room for, damaged or cut off.
+/// It is no part of `source`: docs/GTM.md has counts of those.
+pub fn count_at_limit(random: &mut Random) -> Vec<u8> {
+    let atoms = random.pick(&[0, 0, 1, 2, 62, 63, 64, 65]);
+    let mut source = b"1N".repeat(atoms);
+    let mut start = source.len();
+    source.extend(near_limit(random).bytes());
+    if !random.once_in(3) {
+        source.push(b'.');
+        if random.once_in(2) {
+            start = source.len();
+        }
+        source.extend(near_limit(random).bytes());
+    }
+    let tails: [&[u8]; 8] = [b"N", b"N", b"N,", b"Q", b"\"a\"", b"(1N)", b"N5.3N", b""];
+    source.extend(random.pick(&tails));
+    if random.once_in(2) {
+        let room = 512 - source.len();
+        let zeros = [random.below(6), random.below(room), room];
+        source.splice(start..start, b"0".repeat(random.pick(&zeros)));
+    }
+    match random.below(6) {
+        0 => source.truncate(random.between(start, source.len())),
+        1 => mutate(random, &mut source, ALPHABET),
+        _ => (),
+    }
+    source
+}
+
 /// A source at or just past one of the limits.
 pub fn at_limit(random: &mut Random) -> Vec<u8> {
     match random.below(5) {
@@ -196,18 +241,7 @@ pub fn at_limit(random: &mut Random) -> Vec<u8> {
         }
         // Numbers near 9,999 or of many digits.
         3 => {
-            let mut text = || match random.below(4) {
-                0 => String::new(),
-                1 => format!("{}", random.between(9_997, 10_002)),
-                2 => format!(
-                    "{}{}",
-                    "0".repeat(random.below(30)),
-                    random.between(0, 12_000)
-                ),
-                _ => (0..random.between(1, 40))
-                    .map(|_| random.pick(&['0', '1', '9']))
-                    .collect(),
-            };
+            let mut text = || near_limit(random);
             format!("1A{}.{}N{}U", text(), text(), text()).into_bytes()
         }
         _ => fault_list(random),

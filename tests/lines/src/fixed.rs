@@ -5,7 +5,7 @@ use crate::join;
 /// A source and a label.
 type Pair = (&'static [u8], &'static [u8]);
 
-const PAIRS: [Pair; 31] = [
+const PAIRS: [Pair; 35] = [
     (b"2N", b"42"),
     (b"2N", b"4x"),
     (b"2N,", b"42"),
@@ -35,6 +35,10 @@ const PAIRS: [Pair; 31] = [
     (b"5..", b"x"),
     (b"3Q", b"x"),
     (b"3.10000N", b"x"),
+    (b"20000N", b"x"),
+    (b"0020000N", b"x"),
+    (b"10000.5N", b"x"),
+    (b"20000", b"x"),
     (b"9999N", b"x"),
     (b"0003.0005n", b"1234"),
 ];
@@ -75,6 +79,8 @@ fn at_limits() -> Vec<Vec<u8>> {
     let x = |len| vec![b'x'; len];
     let mut lines = vec![
         join(b"1N".repeat(65), b"x"),
+        join([&b"1N".repeat(64)[..], b"20000N"].concat(), b"x"),
+        join([&b"1N".repeat(64)[..], b"5.10000N"].concat(), b"x"),
         join(b"1N".repeat(64), [b'1'; 64]),
         join(b".N".repeat(64), [b'1'; 21]),
         join(nested(9), b"1"),

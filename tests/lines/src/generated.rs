@@ -3,7 +3,7 @@
 use crate::join;
 use generate::labels::{cheap_pattern, flatten, most_trials, sample};
 use generate::patterns::pattern;
-use generate::sources::{mutate, print, random_bytes, source};
+use generate::sources::{count_at_limit, mutate, print, random_bytes, source};
 use generate::{Atom, Random};
 
 /// The most trials of a match, so that all lines take about a second.
@@ -29,8 +29,8 @@ fn matched(random: &mut Random) -> Vec<u8> {
     join(print(random, &tree), &label)
 }
 
-/// A source of any kind, mostly refused.
-fn refused(random: &mut Random) -> Vec<u8> {
+/// A source of this kind, mostly refused, and any label.
+fn refused(random: &mut Random, source: fn(&mut Random) -> Vec<u8>) -> Vec<u8> {
     let len = random.below(8);
     let label: Vec<u8> = (0..len).map(|_| random.pick(b"12aB-.")).collect();
     join(source(random), &label)
@@ -70,7 +70,8 @@ fn odd(random: &mut Random) -> Vec<u8> {
 pub fn line(random: &mut Random) -> Vec<u8> {
     match random.below(100) {
         0..=54 => matched(random),
-        55..=79 => refused(random),
+        55..=76 => refused(random, source),
+        77..=79 => refused(random, count_at_limit),
         80..=81 => at_scratch(random),
         82..=83 => long_label(random),
         84 => long_line(random),

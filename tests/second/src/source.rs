@@ -136,20 +136,15 @@ fn code_faults(source: &[u8], places: &[Place]) -> Vec<usize> {
         .collect()
 }
 
+/// The digits at which a number, the first or second of its count, first exceeds 9,999.
 fn number_faults(source: &[u8], counts: &[Count]) -> Vec<usize> {
-    let over = |n: Option<u32>| n.is_some_and(|n| n > NUMBER_MOST);
     let mut faults = Vec::new();
     for count in counts {
-        let (first, rest) = count.numbers(source);
-        if over(first) {
-            faults.push(count.start);
-        }
-        if over(rest.flatten()) {
-            let point = source[count.start..]
-                .iter()
-                .position(|&b| b == b'.')
-                .unwrap();
-            faults.push(count.start + point + 1);
+        let mut start = count.start;
+        for digits in source[count.start..count.end].split(|&b| b == b'.') {
+            let over = |&last: &usize| number(&digits[..=last]) > Some(NUMBER_MOST);
+            faults.extend((0..digits.len()).find(over).map(|last| start + last));
+            start += digits.len() + 1;
         }
     }
     faults

@@ -80,15 +80,45 @@ fn examples_of_refusals() {
     assert_eq!(refusal(b"5.3"), (RANGE, 0));
     assert_eq!(refusal(b"5.."), (FORM, 2));
     assert_eq!(refusal(b"3Q"), (CODE, 1));
-    assert_eq!(refusal(b"3.10000N"), (NUMBER, 2));
+    assert_eq!(refusal(b"3.10000N"), (NUMBER, 6));
+    assert_eq!(refusal(b"20000N"), (NUMBER, 4));
     assert!(compile(b"9999N", 18).is_ok());
+}
+
+#[test]
+fn digits_of_numbers() {
+    assert_eq!(refusal(b"0020000N"), (NUMBER, 6));
+    assert_eq!(refusal(b"10000.5N"), (NUMBER, 4));
+    assert_eq!(refusal(b"99999.99999N"), (NUMBER, 4));
+    assert_eq!(refusal(b"10000.99999N"), (NUMBER, 4));
+    assert_eq!(refusal(b"9999.010000N"), (NUMBER, 10));
+    assert_eq!(refusal(b".10000N"), (NUMBER, 5));
+    assert_eq!(refusal(b"1(3U,100000000000000000000N)"), (NUMBER, 9));
+    assert!(compile(&[b"0".repeat(507), b"9999N".to_vec()].concat(), 18).is_ok());
+    assert_eq!(
+        refusal(&[b"0".repeat(507), b"10000".to_vec()].concat()),
+        (NUMBER, 511)
+    );
+    // Of the digit and the place of FORM the lesser one.
+    assert_eq!(refusal(b"20000"), (NUMBER, 4));
+    assert_eq!(refusal(b"20000."), (NUMBER, 4));
+    assert_eq!(refusal(b"20000..N"), (NUMBER, 4));
+    assert_eq!(refusal(b"1(20000"), (NUMBER, 6));
+    assert_eq!(refusal(b"2000"), (FORM, 4));
+    assert_eq!(refusal(b"1..20000N"), (FORM, 2));
+    assert_eq!(refusal(b"1N)20000N"), (FORM, 2));
+    // RANGE is of numbers that fit.
+    assert_eq!(refusal(b"9999.9998"), (RANGE, 0));
+    assert_eq!(refusal(b"10000.9999N"), (NUMBER, 4));
+    assert_eq!(refusal(b"5.3N20000N"), (RANGE, 0));
+    assert_eq!(refusal(b"20000N5.3N"), (NUMBER, 4));
 }
 
 #[test]
 fn order_of_refusals() {
     assert_eq!(refusal(&[b'N'; 513]), (LONG, 512));
-    assert_eq!(refusal(b"1.10000Q,"), (NUMBER, 2));
-    assert_eq!(refusal(b"10000.3Q"), (NUMBER, 0));
+    assert_eq!(refusal(b"1.10000Q,"), (NUMBER, 6));
+    assert_eq!(refusal(b"10000.3Q"), (NUMBER, 4));
     assert_eq!(refusal(b"1Q10000N"), (CODE, 1));
     assert_eq!(refusal(b"1N\""), (FORM, 2));
     assert_eq!(refusal(b"1\"\x1f"), (FORM, 2));
@@ -100,10 +130,10 @@ fn order_of_refusals() {
         refusal(&[atoms(64), b"5.3N".to_vec()].concat()),
         (RANGE, 128)
     );
-    assert_eq!(
-        refusal(&[atoms(64), b".10000N".to_vec()].concat()),
-        (ATOMS, 128)
-    );
+    for over in [&b".10000N"[..], b"20000N", b"5.10000N", b"20000"] {
+        assert_eq!(refusal(&[&atoms(64), over].concat()), (ATOMS, 128));
+        assert_eq!(refusal(&[&atoms(63), over].concat()).0, NUMBER);
+    }
     assert_eq!(refusal(&[atoms(64), b",".to_vec()].concat()), (FORM, 128));
     let nested = |depth| [b"1(".repeat(depth), b"1N".to_vec(), b")".repeat(depth)].concat();
     assert!(compile(&nested(8), usize::MAX).is_ok());
