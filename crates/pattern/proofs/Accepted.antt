@@ -1,7 +1,7 @@
 -- A source is accepted just where it is not too long and a tree within the limits derives it. Assumes nothing.
 use mathlib.Core.Path.{_≡_, refl, sym, ap}
 use mathlib.Core.Logic.{_↔_, ⊎-elim}
-use mathlib.Core.Bool.{Bool, true, false, _&&_, cond}
+use mathlib.Core.Bool.{Bool, true, false, cond}
 use mathlib.Core.List.{List, [], _∷_}
 use mathlib.Core.Option.{Option, none, some, Option·some-ne-none, Option·none-ne-some}
 use Prim.Native.Nat.{ℕ, suc, _+_, _-_, _*_, _≤_, _<_}
@@ -17,7 +17,7 @@ use Rattle.pattern.specs.Meaning.{UpTo}
 use Rattle.pattern.specs.Grammar.{BodyStart, letter, quote, opening, BranchEnd, closing, comma, neither, CountChar, digit, point, CharClass, count-char, body-start, branch-end, char-class, LiteralClass, plain, quoting, barred, literal-class, Derives}
 use Rattle.pattern.specs.Parser.{CountState, empty, first, pointed, second, Phase, counting, inside, after, Stack, top, within, chain, fork, next, ParserState, enter, extend, leave, quoted, grow, counted, move, step, finish, read-from, start, read}
 use Rattle.pattern.specs.ParserInvariant.{before-size, others-size, stack-size, begun-at}
-use Rattle.pattern.specs.Scan.{low, high, longest-count, depth, body-begins, an-atom, begins, begun, large, falls, refuse, fault, Outcome, refused, accepted, scan, outcome}
+use Rattle.pattern.specs.Scan.{low, high, longest-count, depth, body-begins, an-atom, begins, begun, falls, refuse, fault, Outcome, refused, accepted, scan, outcome}
 use Rattle.pattern.specs.Within.{Small, Fits, InLimits, Limited}
 use Rattle.pattern.proofs.Tests.{Decides, On, le-or-lt, leb-decides, both, no-test}
 use Rattle.pattern.proofs.Notation.{digit-byte}

@@ -9,7 +9,7 @@ use native.Mathlib.Omega.{arith}
 use lib.Dec.{leb→le, le→leb}
 use lib.ListN.{length, take, drop, getD, drop-of-length-le}
 use lib.Seq.{drop-cons, take-suc}
-use Rattle.pattern.specs.Numbers.{number-limit, FORM, NUMBER}
+use Rattle.pattern.specs.Numbers.{number-limit, NUMBER}
 use Rattle.pattern.specs.Bytes.{Bytes}
 use Rattle.pattern.specs.Syntax.{pattern, atom, body, Syntax, codes, literal, group}
 use Rattle.pattern.specs.Grammar.{BodyStart, letter, quote, opening, BranchEnd, closing, comma, neither, CountChar, digit, point, CharClass, count-char, body-start, branch-end, char-class, LiteralClass, plain, quoting, barred, literal-class}
@@ -19,7 +19,7 @@ use Rattle.pattern.specs.Scan.{depth, Begins, an-atom, a-digit, a-code, 
 use Rattle.pattern.specs.Faults.{Over, NumberAt, form-row, rows-there, rows-at, Applies}
 use Rattle.pattern.proofs.Tests.{On, le-or-lt}
 use Rattle.pattern.proofs.Notation.{digit-byte}
-use Rattle.pattern.proofs.ParserComplete.{state-append, state-exactly}
+use Rattle.pattern.proofs.ParserComplete.{state-exactly}
 
 -- the phase is in a count that ends in a number over 9,999
 InOver : Phase → Type 0

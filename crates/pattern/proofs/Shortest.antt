@@ -19,15 +19,15 @@ use Rattle.pattern.specs.Scan.{accepted, outcome}
 use Rattle.pattern.specs.Within.{InLimits}
 use Rattle.pattern.specs.Print.{decimal, print-low, print-count, print-set, double, print}
 use Rattle.pattern.proofs.Tests.{cond-case, all, all-at, le-or-lt}
-use Rattle.pattern.proofs.Notation.{class-byte}
+use Rattle.pattern.proofs.Notation.{digit-byte}
 use Rattle.pattern.proofs.Decimal.{decimal-one, decimal-longer}
 use Rattle.pattern.proofs.Printed.{printed}
 use Rattle.pattern.proofs.Accepted.{accepted-exactly}
 
 number-shortest : {n : ℕ} {s : Bytes} → Number n s → length (decimal n) ≤ length s
-number-shortest (Number.one c d) = let h : c ≤ 57 = rw d at (class-byte c) in omega (arith, ap length (decimal-one (c - 48) (omega arith)))
+number-shortest (Number.one c d) = let h : c ≤ 57 = digit-byte c d in omega (arith, ap length (decimal-one (c - 48) (omega arith)))
 number-shortest (Number.more {n} {s} h c d) =
-    let k : c ≤ 57 = rw d at (class-byte c) in
+    let k : c ≤ 57 = digit-byte c d in
     let e : (10 * n + (c - 48)) / 10 ≡ n = omega arith in
     ⊎-elim
     (λ l. omega (arith, decimal-longer (10 * n + (c - 48)) l, ap (λ m. length (decimal m)) e, number-shortest h, length-append s (c ∷ [])))

@@ -8,7 +8,7 @@ use Prim.Native.Nat.{ℕ, suc, _≤_, _<_}
 use native.Mathlib.Omega.{arith}
 use lib.Dec.{T, leb, ltb, leb→le}
 use borrow.Author.Tests.{le-leb, lt-ltb}
-use Rattle.pattern.specs.Numbers.{atom-limit, number-limit, FORM, NUMBER, RANGE, ATOMS, DEPTH}
+use Rattle.pattern.specs.Numbers.{atom-limit, number-limit, FORM, RANGE, ATOMS, DEPTH}
 use Rattle.pattern.specs.Bytes.{Bytes}
 use Rattle.pattern.specs.Syntax.{pattern, Syntax}
 use Rattle.pattern.specs.Grammar.{char-class}

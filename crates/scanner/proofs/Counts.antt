@@ -1,22 +1,22 @@
 -- The count that the code takes, or the fault that it finds, is that of the scan. Assumes nothing.
 use mathlib.Core.Path.{_≡_, refl, sym, ap, _∙_, subst}
 use mathlib.Core.Logic.{⊎-elim}
-use mathlib.Core.Bool.{Bool, true, false, _&&_, cond}
+use mathlib.Core.Bool.{Bool, true, false, cond}
 use mathlib.Core.List.{[], _∷_}
 use mathlib.Core.Option.{Option, none, some}
-use Prim.Native.Nat.{ℕ, suc, _+_, _-_, _*_, _≤_, _<_}
+use Prim.Native.Nat.{ℕ, suc, _≤_, _<_}
 use native.Mathlib.Nat.{eq-or-lt-of-le}
 use native.Mathlib.Omega.{arith}
 use lib.Dec.{leb, ltb}
 use lib.ListN.{length, drop, getD, drop-of-length-le}
 use lib.Seq.{drop-cons}
-use borrow.Author.Tests.{le-ltb, le-leb, lt-leb, leb-false}
+use borrow.Author.Tests.{le-ltb, leb-false}
 use Rattle.pattern.specs.Numbers.{number-limit, atom-limit, open-high, FORM, NUMBER, RANGE, ATOMS}
 use Rattle.pattern.specs.Bytes.{Bytes}
 use Rattle.pattern.specs.Within.{Small}
 use Rattle.pattern.specs.Table.{high-field}
 use Rattle.pattern.specs.Repeats.{repeat-of}
-use Rattle.pattern.specs.Grammar.{CountChar, digit, point, CharClass, count-char, body-start, branch-end, char-class}
+use Rattle.pattern.specs.Grammar.{CountChar, digit, point, CharClass, count-char, body-start, branch-end}
 use Rattle.pattern.specs.Parser.{CountState, empty, first, pointed, second, counting, Stack, grow, move, step, finish}
 use Rattle.pattern.specs.Scan.{low, high, longest-count, falls, refuse, atom-rows, Outcome, refused}
 use Rattle.pattern.specs.Faults.{Over}

@@ -1,7 +1,7 @@
 -- The loop over the digits of a number. Assumes nothing.
-use mathlib.Core.Path.{_≡_, refl, sym, _∙_, subst}
+use mathlib.Core.Path.{_≡_, refl, sym, subst}
 use mathlib.Core.Logic.{⊎-elim}
-use Prim.Native.Nat.{ℕ, suc, _+_, _-_, _*_, _/_, _≤_, _<_}
+use Prim.Native.Nat.{ℕ, _+_, _-_, _*_, _/_, _≤_, _<_}
 use native.Mathlib.Omega.{arith}
 use native.Mathlib.Nat.{eq-or-lt-of-le}
 use lib.ListN.{length, getD}
@@ -13,7 +13,7 @@ use Rattle.scanner.specs.declared.cursor.Digit.{Digit}
 use Rattle.scanner.specs.declared.cursor.Digit.the-variants as digits
 use Rattle.scanner.specs.declared.count.DigitsRead.the-variants as read
 use Rattle.scanner.specs.Places.{ClassIs, Onward, DigitPost}
-use Rattle.scanner.specs.Counts.{CountNumber, valued, Runs, DigitsAre, DigitsPost}
+use Rattle.scanner.specs.Counts.{DigitsAre, DigitsPost}
 use Rattle.scanner.proofs.Runs.{runs-start, runs-more, overruns}
 
 pub digits-start : (s : Bytes) (i : ℕ) → i ≤ length s → DigitsAre s i 0 i
@@ -46,11 +46,11 @@ module _ (s : Bytes) (i v at : ℕ) (g : DigitsAre s i v at) (r : Digit) (post :
               (eq-or-lt-of-le (g .on)));
         }
 
-    pub digits-over : number-limit / 10 < v → DigitsPost s i (read.Over at)
+    pub digits-over : (p : ℕ) → p ≡ at → number-limit / 10 < v → DigitsPost s i (read.Over p)
     unfolding DigitsPost
-    digits-over h =
+    digits-over p f h =
         let (k, x, y) = here in
-        λ w. overruns s at (k .within) (k .kind) v i w (g .runs (⊎-elim (λ e. absurd (omega (arith, g .missing (sym e)))) (λ l. l) (eq-or-lt-of-le (g .on))) w) (omega arith)
+        λ w. rw f (overruns s at (k .within) (k .kind) v i w (g .runs (⊎-elim (λ e. absurd (omega (arith, g .missing (sym e)))) (λ l. l) (eq-or-lt-of-le (g .on))) w) (omega arith))
 
   pub digits-end : (at′ : Cursor) → at′ .at ≡ at → r ≡ digits.None → DigitsPost s i (read.Number v at′)
   unfolding DigitsPost DigitPost

@@ -1,5 +1,4 @@
 -- `count::check_count` meets its contract. Assumes nothing.
-use mathlib.Core.Path.{_∙_}
 use borrow.Author.Tests.{lt-ltb, le-ltb}
 use borrow.Author.Needs.{needs}
 use Rattle.scanner.specs.Counts.{check-count}

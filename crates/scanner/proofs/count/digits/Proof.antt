@@ -21,7 +21,7 @@ loop-holds c = digits-start _ _ (c .before .pre)
 returns : tie.Need-returns Inv-loop μ-loop
 returns c =
     let after-digit = c .before .before .before .before in
-    digits-over _ _ _ _ (after-digit .before .loop .inv) _ (after-digit .digit .ensures) _ _ (c .before .before .d .given .1) (c .if1 .taken)
+    digits-over _ _ _ _ (after-digit .before .loop .inv) _ (after-digit .digit .ensures) _ _ (c .before .before .d .given .1) _ refl (omega (arith, c .if1 .taken))
 
 mul-v : tie.Need-mul-v Inv-loop μ-loop
 mul-v c = omega (arith, c .if1 .left)
@@ -40,7 +40,7 @@ loop-less c =
 loop-again : tie.Need-loop-again Inv-loop μ-loop
 loop-again c =
     let after-digit = c .before .before .before .before in
-    digits-more _ _ _ _ (after-digit .before .loop .inv) _ (after-digit .digit .ensures) _ _ (c .before .before .d .given .1) (c .if1 .left)
+    digits-more _ _ _ _ (after-digit .before .loop .inv) _ (after-digit .digit .ensures) _ _ (c .before .before .d .given .1) (omega (arith, c .if1 .left))
 
 returns-2 : tie.Need-returns-2 Inv-loop μ-loop
 returns-2 c = digits-end _ _ _ _ (c .before .before .before .loop .inv) _ (c .before .before .digit .ensures) _ refl (c .enum-told .given .1)
