@@ -23,18 +23,19 @@ use Rattle.pattern.proofs.Tests.{Decides, On, le-or-lt, leb-decides, bo
 use Rattle.pattern.proofs.Notation.{digit-byte}
 use Rattle.pattern.proofs.Begun.{chain-size, next-size, leave-count, move-count}
 use Rattle.pattern.proofs.ParserCorrect.{form}
-use Rattle.pattern.proofs.TableRows.{atom-fault-is, atom-fault}
+use Rattle.pattern.proofs.TableRows.{atom-fault-is, atom-fault, BothFit}
+use Rattle.pattern.proofs.LongestCounts.{grow-fit}
 
 -- a count whose first number fits has no lower second one
 Rises : CountState → Type 0
 Rises r = low r ≤ number-limit → UpTo (high r) (low r)
 
--- how far a count was looked at: its numbers fit so far, and its longest run r rises
+-- how far a count was looked at once it has begun: its numbers fit so far, and its longest run r rises
 Looked : CountState → CountState → Type 0
 Looked empty r = Unit {0}
-Looked (first n) r = (n ≤ number-limit) × Rises r
-Looked (pointed n) r = (n ≤ number-limit) × Rises r
-Looked (second n m) r = (n ≤ number-limit) × (m ≤ number-limit) × Rises r
+Looked (first n) r = BothFit (first n) × Rises r
+Looked (pointed n) r = BothFit (pointed n) × Rises r
+Looked (second n m) r = BothFit (second n m) × Rises r
 
 -- all that is on the stack is within the limits
 Befores : ℕ → List (Syntax atom) → Type 0
@@ -131,22 +132,25 @@ longest-count-stop r b c s e = rw (e, longest-count)
 grow-looks : (r : CountState) (m : CountChar) (c : ℕ) (s : Bytes) (d n : ℕ) → char-class c ≡ count-char m
     → On (grow r m c) (λ r′. ((n ≤ atom-limit) × Looked r (longest-count r (c ∷ s)) × (fault (begins (counting r) (count-char m)) d n c s ≡ none))
     ↔ ((begun (begins (counting r) (count-char m)) n ≤ atom-limit) × Looked r′ (longest-count r′ s)))
-unfolding grow Looked begins begun fault
+unfolding grow Looked begins begun fault low high Small
 grow-looks empty digit c s d n e =
     let u = atom-pass n (longest-count (first (c - 48)) s) in
-    rw (longest-count-next empty digit c s e) (λ (a, x, g). let (p, z) = u .0 g in (z, (omega (arith, digit-byte c e), p)), λ (z, (y, p)). (omega arith, tt, u .1 (p, z)))
+    let h : c - 48 ≤ number-limit = omega (arith, digit-byte c e) in
+    rw (longest-count-next empty digit c s e) (λ (a, x, g). let (p, z) = u .0 g in (z, ((h, h), p)), λ (z, (y, p)). (omega arith, tt, u .1 (p, z)))
 grow-looks empty point c s d n e =
     let u = atom-pass n (longest-count (pointed 0) s) in
-    rw (longest-count-next empty point c s e) (λ (a, x, g). let (p, z) = u .0 g in (z, (omega arith, p)), λ (z, (y, p)). (omega arith, tt, u .1 (p, z)))
+    rw (longest-count-next empty point c s e) (λ (a, x, g). let (p, z) = u .0 g in (z, ((omega arith, tt), p)), λ (z, (y, p)). (omega arith, tt, u .1 (p, z)))
 grow-looks (first x) digit c s d n e =
     let u = below (suc number-limit) (10 * x + (c - 48)) NUMBER in
-    rw (longest-count-next (first x) digit c s e) (λ (a, (y, p), g). (a, (omega (arith, u .0 g), p)), λ (a, (y, p)). (a, (omega arith, p), u .1 (omega arith)))
-grow-looks (first x) point c s d n e = rw (longest-count-next (first x) point c s e) (λ (a, y, g). (a, y), λ (a, y). (a, y, refl))
-grow-looks (pointed x) digit c s d n e = rw (longest-count-next (pointed x) digit c s e) (λ (a, (y, p), g). (a, (y, omega (arith, digit-byte c e), p)), λ (a, (y, z, p)). (a, (y, p), refl))
+    let f = grow-fit (first x) digit c in
+    rw (longest-count-next (first x) digit c s e) (λ (a, (y, p), g). let h = u .0 g in (a, ((omega arith, omega arith), p)), λ (a, (y, p)). (a, (f y, p), u .1 (omega (arith, y .0))))
+grow-looks (first x) point c s d n e = rw (longest-count-next (first x) point c s e) (λ (a, (y, p), g). (a, ((y .0, tt), p)), λ (a, ((y, z), p)). (a, ((y, y), p), refl))
+grow-looks (pointed x) digit c s d n e = rw (longest-count-next (pointed x) digit c s e) (λ (a, (y, p), g). (a, ((y .0, omega (arith, digit-byte c e)), p)), λ (a, (y, p)). (a, ((y .0, tt), p), refl))
 grow-looks (pointed x) point c s d n e = tt
 grow-looks (second x y) digit c s d n e =
     let u = below (suc number-limit) (10 * y + (c - 48)) NUMBER in
-    rw (longest-count-next (second x y) digit c s e) (λ (a, (z, y, p), g). (a, (z, omega (arith, u .0 g), p)), λ (a, (z, y, p)). (a, (z, omega arith, p), u .1 (omega arith)))
+    let f = grow-fit (second x y) digit c in
+    rw (longest-count-next (second x y) digit c s e) (λ (a, (z, p), g). let h = u .0 g in (a, ((z .0, omega arith), p)), λ (a, (z, p)). (a, (f z, p), u .1 (omega (arith, z .1))))
 grow-looks (second x y) point c s d n e = tt
 
 -- the same in a state
@@ -158,17 +162,12 @@ counted-holds (some r) k s n n′ X G e c =
     (λ ((a, h, x), g). let (b, y) = e .0 (a, x, g) in (rw c b, h, y), λ (b, h, y). let (a, x, g) = e .1 (rw c at b, y) in ((a, h, x), g))
 
 -- a count ends where a body begins
-first-fits : (n : ℕ) (b : BodyStart) (c : ℕ) (s : Bytes) → char-class c ≡ body-start b → Looked (first n) (longest-count (first n) (c ∷ s)) ↔ Fits n (some n)
-unfolding Looked Rises low high Small UpTo
-first-fits n b c s e = rw (longest-count-stop (first n) b c s e) (λ (x, y). (x, x, y x), λ (x, z, y). (x, λ h. y))
+ended-fits : (r : CountState) → (BothFit r × Rises r) ↔ Fits (low r) (high r)
+unfolding Rises
+ended-fits r = (λ ((x, z), y). (x, z, y x), λ (x, z, y). ((x, z), λ h. y))
 
-pointed-fits : (n : ℕ) (b : BodyStart) (c : ℕ) (s : Bytes) → char-class c ≡ body-start b → Looked (pointed n) (longest-count (pointed n) (c ∷ s)) ↔ Fits n none
-unfolding Looked Rises low high Small UpTo
-pointed-fits n b c s e = rw (longest-count-stop (pointed n) b c s e) (λ (x, y). (x, tt, y x), λ (x, z, y). (x, λ h. y))
-
-second-fits : (n m : ℕ) (b : BodyStart) (c : ℕ) (s : Bytes) → char-class c ≡ body-start b → Looked (second n m) (longest-count (second n m) (c ∷ s)) ↔ Fits n (some m)
-unfolding Looked Rises low high Small UpTo
-second-fits n m b c s e = rw (longest-count-stop (second n m) b c s e) (λ (x, z, y). (x, z, y x), λ (x, z, y). (x, z, λ h. y))
+count-fits : (r : CountState) (b : BodyStart) (c : ℕ) (s : Bytes) → char-class c ≡ body-start b → (BothFit r × Rises (longest-count r (c ∷ s))) ↔ Fits (low r) (high r)
+count-fits r b c s e = rw (longest-count-stop r b c s e) (ended-fits r)
 
 -- ---- one byte
 
@@ -268,15 +267,15 @@ after-holds m c s k l h b e =
 -- a byte brings no fault, and all before is good, just where all is good after it
 move-holds : (p : Phase) (k : Stack) (x : CharClass) (c : ℕ) (s : Bytes) → char-class c ≡ x
     → On (move p k x c) (λ q. (Holds (p, k) (c ∷ s) × (fault (begins p x) (depth k) (begun-at p k) c s ≡ none)) ↔ Holds q s)
-unfolding move begins fault begun-at PhaseHolds
+unfolding move begins fault begun-at PhaseHolds Looked low high
 move-holds (counting empty) k (count-char m) c s e = counting-holds empty k m c s e
 move-holds (counting (first n)) k (count-char m) c s e = counting-holds (first n) k m c s e
 move-holds (counting (pointed n)) k (count-char m) c s e = counting-holds (pointed n) k m c s e
 move-holds (counting (second n x)) k (count-char m) c s e = counting-holds (second n x) k m c s e
 move-holds (counting empty) k (body-start b) c s e = tt
-move-holds (counting (first n)) k (body-start b) c s e = by-fits (first-fits n b c s e) (enter-holds n (some n) k b c (suc (stack-size k)) s)
-move-holds (counting (pointed n)) k (body-start b) c s e = by-fits (pointed-fits n b c s e) (enter-holds n none k b c (suc (stack-size k)) s)
-move-holds (counting (second n m)) k (body-start b) c s e = by-fits (second-fits n m b c s e) (enter-holds n (some m) k b c (suc (stack-size k)) s)
+move-holds (counting (first n)) k (body-start b) c s e = by-fits (count-fits (first n) b c s e) (enter-holds n (some n) k b c (suc (stack-size k)) s)
+move-holds (counting (pointed n)) k (body-start b) c s e = by-fits (count-fits (pointed n) b c s e) (enter-holds n none k b c (suc (stack-size k)) s)
+move-holds (counting (second n m)) k (body-start b) c s e = by-fits (count-fits (second n m) b c s e) (enter-holds n (some m) k b c (suc (stack-size k)) s)
 move-holds (counting r) k (branch-end b) c s e = tt
 move-holds (inside l h value) k x c s e = on-via (quoted l h value k (literal-class c) c) s no-fault (quoted-holds l h value k (literal-class c) c s)
 move-holds (after l h b) k (count-char m) c s e = after-holds m c s k l h b e

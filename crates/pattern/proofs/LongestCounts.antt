@@ -2,9 +2,9 @@
 use mathlib.Core.Path.{_≡_, refl, sym, ap, _∙_}
 use mathlib.Core.List.{[], _∷_, _++_, append-assoc, append-nil}
 use mathlib.Core.Option.{Option, none, some, Option·none-ne-some}
-use Prim.Native.Nat.{ℕ, _≤_}
+use Prim.Native.Nat.{ℕ}
 use native.Mathlib.Omega.{arith}
-use Rattle.pattern.specs.Numbers.{point-byte, number-limit}
+use Rattle.pattern.specs.Numbers.{point-byte}
 use Rattle.pattern.specs.Bytes.{Bytes, between}
 use Rattle.pattern.specs.Meaning.{Cut}
 use Rattle.pattern.specs.Grammar.{CountChar, digit, point, CharClass, count-char, body-start, branch-end, char-class, Number, Low, missing, given}
@@ -15,6 +15,7 @@ use Rattle.pattern.specs.Within.{Small}
 use Rattle.pattern.specs.Faults.{LongestCount}
 use Rattle.pattern.proofs.Tests.{On}
 use Rattle.pattern.proofs.Notation.{ByteIn, class-byte}
+use Rattle.pattern.proofs.TableRows.{BothFit}
 use Rattle.pattern.proofs.ParserSound.{grow-so-far}
 use Rattle.pattern.proofs.ParserComplete.{state-append, state-exactly}
 
@@ -47,12 +48,8 @@ extends (c ∷ s) r u h = go (char-class c) refl (class-byte c) (λ r′ l. exte
 
 -- ---- the numbers so far
 
--- both numbers of a count fit
-abbrev pub BothFit : CountState → Type 0
-BothFit r = (low r ≤ number-limit) × Small (high r)
-
--- where they fit after one more byte, they fit before it
-grow-fit : (r : CountState) (m : CountChar) (c : ℕ) → On (grow r m c) (λ r′. BothFit r′ → BothFit r)
+-- where both numbers fit after one more byte, they fit before it
+pub grow-fit : (r : CountState) (m : CountChar) (c : ℕ) → On (grow r m c) (λ r′. BothFit r′ → BothFit r)
 unfolding grow low high Small
 grow-fit empty digit c = λ h. (omega arith, tt)
 grow-fit empty point c = λ h. (omega arith, tt)

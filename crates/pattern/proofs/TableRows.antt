@@ -87,6 +87,10 @@ pub atom-fault-is : (n : ℕ) (r : CountState) → atom-fault n r ≡ refuse ((l
 unfolding atom-rows
 atom-fault-is n r = ap (λ b. refuse ((b, RANGE) ∷ (leb atom-limit n, ATOMS) ∷ [])) (range-row (low r) (high r))
 
+-- both numbers of a count fit
+abbrev pub BothFit : CountState → Type 0
+BothFit r = (low r ≤ number-limit) × Small (high r)
+
 -- a first number that fits
 pub fit-fault : (n : ℕ) (r : CountState) → low r ≤ number-limit → atom-fault n r ≡ refuse ((falls (low r) (high r), RANGE) ∷ (leb atom-limit n, ATOMS) ∷ [])
 fit-fault n r h = atom-fault-is n r ∙ rw (le-leb (low r) number-limit h)
@@ -97,7 +101,7 @@ not-large none t = tt
 not-large (some m) t = ⊎-elim (λ l. l) (λ l. absurd (rw (lt-ltb number-limit m l) at t)) (le-or-lt m number-limit)
 
 -- a count whose numbers do not both fit is no range
-pub unfit-fault : (n : ℕ) (r : CountState) → ¬ ((low r ≤ number-limit) × Small (high r)) → atom-fault n r ≡ refuse ((leb atom-limit n, ATOMS) ∷ [])
+pub unfit-fault : (n : ℕ) (r : CountState) → ¬ BothFit r → atom-fault n r ≡ refuse ((leb atom-limit n, ATOMS) ∷ [])
 unfolding refuse atom-rows
 unfit-fault n r h = go (leb (low r) number-limit) (not (large (high r))) (falls (low r) (high r)) (λ a b. h (leb→le (low r) number-limit a, not-large (high r) b))
   where

@@ -22,8 +22,8 @@ use Rattle.pattern.specs.Scan.{low, high, longest-count, falls, refuse, atom-ro
 use Rattle.pattern.specs.Faults.{Over}
 use Rattle.pattern.specs.declared.repeat.Repeat.{Repeat}
 use Rattle.pattern.proofs.Tests.{le-or-lt}
-use Rattle.pattern.proofs.TableRows.{fit-fault, unfit-fault}
-use Rattle.pattern.proofs.LongestCounts.{BothFit, longest-fit}
+use Rattle.pattern.proofs.TableRows.{BothFit, fit-fault, unfit-fault}
+use Rattle.pattern.proofs.LongestCounts.{longest-fit}
 use Rattle.scanner.specs.declared.cursor.Cursor.{Cursor}
 use Rattle.scanner.specs.declared.cursor.Point.{Point}
 use Rattle.scanner.specs.declared.cursor.Point.the-variants as points
