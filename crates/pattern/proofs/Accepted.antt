@@ -24,7 +24,7 @@ use Rattle.pattern.proofs.Notation.{digit-byte}
 use Rattle.pattern.proofs.Begun.{chain-size, next-size, leave-count, move-count}
 use Rattle.pattern.proofs.ParserCorrect.{form}
 use Rattle.pattern.proofs.TableRows.{atom-fault-is, atom-fault, BothFit}
-use Rattle.pattern.proofs.LongestCounts.{grow-fit}
+use Rattle.pattern.proofs.LongestCounts.{longest-next, longest-stop, grow-fit}
 
 -- a count whose first number fits has no lower second one
 Rises : CountState → Type 0
@@ -114,19 +114,7 @@ atom-pass n r =
       λ (x, y). u .1 (λ (h, k). k (x h), v .1 y),
     ))
 
--- ---- the longest run
-
-longest-count-next : (r : CountState) (m : CountChar) (c : ℕ) (s : Bytes) → char-class c ≡ count-char m → On (grow r m c) (λ r′. longest-count r (c ∷ s) ≡ longest-count r′ s)
-unfolding longest-count
-longest-count-next r m c s e = go (grow r m c) refl
-  where
-    go : (o : Option CountState) → grow r m c ≡ o → On o (λ r′. longest-count r (c ∷ s) ≡ longest-count r′ s)
-    go none g = tt
-    go (some r′) g = rw (e, longest-count) (rw g)
-
-longest-count-stop : (r : CountState) (b : BodyStart) (c : ℕ) (s : Bytes) → char-class c ≡ body-start b → longest-count r (c ∷ s) ≡ r
-unfolding longest-count
-longest-count-stop r b c s e = rw (e, longest-count)
+-- ---- the count
 
 -- a count begins or goes on
 grow-looks : (r : CountState) (m : CountChar) (c : ℕ) (s : Bytes) (d n : ℕ) → char-class c ≡ count-char m
@@ -136,21 +124,21 @@ unfolding grow Looked begins begun fault low high Small
 grow-looks empty digit c s d n e =
     let u = atom-pass n (longest-count (first (c - 48)) s) in
     let h : c - 48 ≤ number-limit = omega (arith, digit-byte c e) in
-    rw (longest-count-next empty digit c s e) (λ (a, x, g). let (p, z) = u .0 g in (z, ((h, h), p)), λ (z, (y, p)). (omega arith, tt, u .1 (p, z)))
+    rw (longest-next empty (first (c - 48)) digit c s e refl) (λ (a, x, g). let (p, z) = u .0 g in (z, ((h, h), p)), λ (z, (y, p)). (omega arith, tt, u .1 (p, z)))
 grow-looks empty point c s d n e =
     let u = atom-pass n (longest-count (pointed 0) s) in
-    rw (longest-count-next empty point c s e) (λ (a, x, g). let (p, z) = u .0 g in (z, ((omega arith, tt), p)), λ (z, (y, p)). (omega arith, tt, u .1 (p, z)))
+    rw (longest-next empty (pointed 0) point c s e refl) (λ (a, x, g). let (p, z) = u .0 g in (z, ((omega arith, tt), p)), λ (z, (y, p)). (omega arith, tt, u .1 (p, z)))
 grow-looks (first x) digit c s d n e =
     let u = below (suc number-limit) (10 * x + (c - 48)) NUMBER in
     let f = grow-fit (first x) digit c in
-    rw (longest-count-next (first x) digit c s e) (λ (a, (y, p), g). let h = u .0 g in (a, ((omega arith, omega arith), p)), λ (a, (y, p)). (a, (f y, p), u .1 (omega (arith, y .0))))
-grow-looks (first x) point c s d n e = rw (longest-count-next (first x) point c s e) (λ (a, (y, p), g). (a, ((y .0, tt), p)), λ (a, ((y, z), p)). (a, ((y, y), p), refl))
-grow-looks (pointed x) digit c s d n e = rw (longest-count-next (pointed x) digit c s e) (λ (a, (y, p), g). (a, ((y .0, omega (arith, digit-byte c e)), p)), λ (a, (y, p)). (a, ((y .0, tt), p), refl))
+    rw (longest-next (first x) (first (10 * x + (c - 48))) digit c s e refl) (λ (a, (y, p), g). let h = u .0 g in (a, ((omega arith, omega arith), p)), λ (a, (y, p)). (a, (f y, p), u .1 (omega (arith, y .0))))
+grow-looks (first x) point c s d n e = rw (longest-next (first x) (pointed x) point c s e refl) (λ (a, (y, p), g). (a, ((y .0, tt), p)), λ (a, ((y, z), p)). (a, ((y, y), p), refl))
+grow-looks (pointed x) digit c s d n e = rw (longest-next (pointed x) (second x (c - 48)) digit c s e refl) (λ (a, (y, p), g). (a, ((y .0, omega (arith, digit-byte c e)), p)), λ (a, (y, p)). (a, ((y .0, tt), p), refl))
 grow-looks (pointed x) point c s d n e = tt
 grow-looks (second x y) digit c s d n e =
     let u = below (suc number-limit) (10 * y + (c - 48)) NUMBER in
     let f = grow-fit (second x y) digit c in
-    rw (longest-count-next (second x y) digit c s e) (λ (a, (z, p), g). let h = u .0 g in (a, ((z .0, omega arith), p)), λ (a, (z, p)). (a, (f z, p), u .1 (omega (arith, z .1))))
+    rw (longest-next (second x y) (second x (10 * y + (c - 48))) digit c s e refl) (λ (a, (z, p), g). let h = u .0 g in (a, ((z .0, omega arith), p)), λ (a, (z, p)). (a, (f z, p), u .1 (omega (arith, z .1))))
 grow-looks (second x y) point c s d n e = tt
 
 -- the same in a state
@@ -167,7 +155,7 @@ unfolding Rises
 ended-fits r = (λ ((x, z), y). (x, z, y x), λ (x, z, y). ((x, z), λ h. y))
 
 count-fits : (r : CountState) (b : BodyStart) (c : ℕ) (s : Bytes) → char-class c ≡ body-start b → (BothFit r × Rises (longest-count r (c ∷ s))) ↔ Fits (low r) (high r)
-count-fits r b c s e = rw (longest-count-stop r b c s e) (ended-fits r)
+count-fits r b c s e = rw (longest-stop r b c s e) (ended-fits r)
 
 -- ---- one byte
 

@@ -66,7 +66,7 @@ pub record Demand2 : Type 0 where
   pub accepts-only : (source table : Bytes) → compileOf source table .answer .number ≡ 0
       → (t : Syntax pattern) × (length source ≤ source-limit) × Derives t source × Limited t × (length (encode t) ≤ length table)
   -- "and otherwise names the fault and its position": LONG, else the least of the faults that are there, else ROOM;
-  -- FORM stands where no pattern goes on, NUMBER where a count ends in a number over 9,999
+  -- FORM stands where no pattern goes on, NUMBER at a digit with which a repeat number is over 9,999
   pub names-long : (source table : Bytes) → source-limit < length source → compileOf source table .answer ≡ refusal LONG source-limit
   pub names : (source table : Bytes) (f p : ℕ) → length source ≤ source-limit → Least source (refused f p) → compileOf source table .answer ≡ refusal f p
   pub accepted-or-named : (source : Bytes) → length source ≤ source-limit → ((t : Syntax pattern) × Derives t source × Limited t) ⊎ ((f : ℕ) × (p : ℕ) × Least source (refused f p))

@@ -1,4 +1,4 @@
--- A count is taken as the longest run. Assumes nothing.
+-- A count is taken as the longest run, and where the numbers of the run fit they fit all along. Assumes nothing.
 use mathlib.Core.Path.{_≡_, refl, sym, ap, _∙_}
 use mathlib.Core.List.{[], _∷_, _++_, append-assoc, append-nil}
 use mathlib.Core.Option.{Option, none, some, Option·none-ne-some}
@@ -7,7 +7,7 @@ use native.Mathlib.Omega.{arith}
 use Rattle.pattern.specs.Numbers.{point-byte}
 use Rattle.pattern.specs.Bytes.{Bytes, between}
 use Rattle.pattern.specs.Meaning.{Cut}
-use Rattle.pattern.specs.Grammar.{CountChar, digit, point, CharClass, count-char, body-start, branch-end, char-class, Number, Low, missing, given}
+use Rattle.pattern.specs.Grammar.{BodyStart, CountChar, digit, point, CharClass, count-char, body-start, branch-end, char-class, Number, Low, missing, given}
 use Rattle.pattern.specs.Parser.{CountState, empty, first, pointed, second, counting, top, ParserState, grow, counted, move, step, start}
 use Rattle.pattern.specs.ParserInvariant.{state-after, AtomsBefore, AtBranchStart, CountSoFar, StackSoFar, ReadSoFar}
 use Rattle.pattern.specs.Scan.{low, high, longest-count}
@@ -17,7 +17,7 @@ use Rattle.pattern.proofs.Tests.{On}
 use Rattle.pattern.proofs.Notation.{ByteIn, class-byte}
 use Rattle.pattern.proofs.TableRows.{BothFit}
 use Rattle.pattern.proofs.ParserSound.{grow-so-far}
-use Rattle.pattern.proofs.ParserComplete.{state-append, state-exactly}
+use Rattle.pattern.proofs.ParserComplete.{state-on, state-append, state-exactly}
 
 -- the next byte does not belong to the count
 CountEnds : CountState → Bytes → Type 0
@@ -45,6 +45,16 @@ extends (c ∷ s) r u h = go (char-class c) refl (class-byte c) (λ r′ l. exte
     go (count-char m) k b f = more m k (grow r m c) refl (grow-so-far (top []) r m c u k b h) f
     go (body-start b) k e f = ([], c ∷ s, refl, rw append-nil h, λ m i. absurd (let z : _≡_ {A = ℕ} 0 1 = cc in omega arith))
     go (branch-end b) k e f = ([], c ∷ s, refl, rw append-nil h, λ m i. absurd (let z : _≡_ {A = ℕ} 0 1 = cc in omega arith))
+
+-- ---- one byte of the run
+
+pub longest-next : (r r′ : CountState) (m : CountChar) (c : ℕ) (s : Bytes) → char-class c ≡ count-char m → grow r m c ≡ some r′ → longest-count r (c ∷ s) ≡ longest-count r′ s
+unfolding longest-count
+longest-next r r′ m c s e g = rw (e, longest-count) (rw g)
+
+pub longest-stop : (r : CountState) (b : BodyStart) (c : ℕ) (s : Bytes) → char-class c ≡ body-start b → longest-count r (c ∷ s) ≡ r
+unfolding longest-count
+longest-stop r b c s e = rw (e, longest-count)
 
 -- ---- the numbers so far
 
@@ -124,12 +134,12 @@ unfolding state-after
 no-step q c x e = rw (state-after, e)
 
 no-longer : (r r′ : CountState) (w : Bytes) (c : ℕ) (x y : Bytes) → CountSoFar (top []) r w → CountEnds r (c ∷ x ++ y) → ¬ CountSoFar (top []) r′ (w ++ c ∷ x)
-unfolding CountEnds step move counted
+unfolding CountEnds step move counted state-on
 no-longer r r′ w c x y h halts g =
     let (m, k) = count-char-at w c x (so-far-chars r′ (w ++ c ∷ x) g) in
     let q : ParserState = (counting r, top []) in
     let e : step q c ≡ none = ap (λ z. move (counting r) (top []) z c) k ∙ ap (counted (top [])) (halts m k) in
-    Option·none-ne-some _ (sym (no-step q c x e) ∙ sym (state-append w start q (c ∷ x) (count-state-leads r w h)) ∙ count-state-leads r′ (w ++ c ∷ x) g)
+    Option·none-ne-some _ (sym (no-step q c x e) ∙ sym (state-append w start (c ∷ x) ∙ ap (λ o. state-on o (c ∷ x)) (count-state-leads r w h)) ∙ count-state-leads r′ (w ++ c ∷ x) g)
 
 -- the count that the scan looks at is the longest
 pub count-longest : (s : Bytes) → LongestCount (longest-count empty s) s

@@ -1,8 +1,8 @@
--- The place of NUMBER, without the automaton. Assumes nothing.
+-- The place of NUMBER, by what the bytes before it spell. Assumes nothing.
 use mathlib.Core.Path.{_≡_, refl, sym, ap, _∙_}
 use mathlib.Core.Logic.{_↔_, ⊎-elim, inl}
 use mathlib.Core.Bool.{Bool}
-use mathlib.Core.List.{List, [], _∷_, _++_}
+use mathlib.Core.List.{List, [], _∷_}
 use mathlib.Core.Option.{Option, none, some, Option·none-ne-some}
 use Prim.Native.Nat.{ℕ, suc, _+_, _-_, _*_, _≤_, _<_}
 use native.Mathlib.Omega.{arith}
@@ -15,11 +15,12 @@ use Rattle.pattern.specs.Syntax.{pattern, atom, body, Syntax, codes, lit
 use Rattle.pattern.specs.Grammar.{BodyStart, letter, quote, opening, BranchEnd, closing, comma, neither, CountChar, digit, point, CharClass, count-char, body-start, branch-end, char-class, LiteralClass, plain, quoting, barred, literal-class}
 use Rattle.pattern.specs.Parser.{CountState, empty, first, pointed, second, Phase, counting, inside, after, Stack, top, within, ParserState, enter, extend, leave, quoted, grow, counted, move, step, finish, start}
 use Rattle.pattern.specs.ParserInvariant.{state-after, ReadSoFar, begun-at}
-use Rattle.pattern.specs.Scan.{depth, Begins, an-atom, a-digit, a-code, a-group, nothing, body-begins, begins, rows}
-use Rattle.pattern.specs.Faults.{Over, NumberAt, form-row, rows-there, rows-at, Applies}
+use Rattle.pattern.specs.Scan.{depth, Begins, an-atom, a-digit, a-code, a-group, nothing, body-begins, begins, rows, refused, outcome}
+use Rattle.pattern.specs.Faults.{Over, NumberAt, form-row, rows-there, rows-at, Applies, Least}
 use Rattle.pattern.proofs.Tests.{On, le-or-lt}
 use Rattle.pattern.proofs.Notation.{digit-byte}
-use Rattle.pattern.proofs.ParserComplete.{state-exactly}
+use Rattle.pattern.proofs.Least.{refused-exactly}
+use Rattle.pattern.proofs.ParserComplete.{state-on, state-append, state-exactly}
 
 -- the phase is in a count that ends in a number over 9,999
 InOver : Phase → Type 0
@@ -125,31 +126,12 @@ unfolding Applies
 no-form a = ⊎-elim (λ (x, y). omega arith) (λ b. b) a
 
 row-leads : (o : Option ParserState) (rs : List (Bool × ℕ)) → On o (λ q. Applies rs NUMBER ↔ InOver (q .0))
-    → Applies (elim o [ none ↦ form-row | some q ↦ rs ]) NUMBER ↔ ((q : ParserState) × (o ≡ some q) × InOver (q .0))
+    → Applies (elim o [ none ↦ form-row | some q ↦ rs ]) NUMBER ↔ ((q : ParserState) × (_≡_ {A = Option ParserState} (elim o [ none ↦ none | some q ↦ some q ]) (some q)) × InOver (q .0))
 row-leads none rs h = neither-holds no-form (λ (q, e, x). Option·none-ne-some q e)
 row-leads (some q) rs h = (λ a. (q, refl, h .0 a), λ (q′, e, x). let f : q ≡ q′ = cc in h .1 (rw f x))
 
--- the state after one more byte
-next-state : Option ParserState → ℕ → Option ParserState
-next-state none c = none
-next-state (some q) c = step q c
-
-state-more : (u : Bytes) (q : ParserState) (c : ℕ) → state-after q (u ++ c ∷ []) ≡ next-state (state-after q u) c
-unfolding state-after next-state
-state-more [] q c = go (step q c)
-  where
-    go : (o : Option ParserState) → elim o [ none ↦ none | some q′ ↦ some q′ ] ≡ o
-    go none = refl
-    go (some q′) = refl
-state-more (b ∷ u) q c = go (step q b) (λ q′. state-more u q′ c)
-  where
-    go : (o : Option ParserState) → ((q′ : ParserState) → state-after q′ (u ++ c ∷ []) ≡ next-state (state-after q′ u) c)
-        → elim o [ none ↦ none | some q′ ↦ state-after q′ (u ++ c ∷ []) ] ≡ next-state (elim o [ none ↦ none | some q′ ↦ state-after q′ u ]) c
-    go none h = refl
-    go (some q′) h = h q′
-
-there : (o : Option ParserState) (c : ℕ) (s : Bytes) → Applies (rows-there o (c ∷ s)) NUMBER ↔ ((q : ParserState) × (next-state o c ≡ some q) × InOver (q .0))
-unfolding rows-there next-state Applies
+there : (o : Option ParserState) (c : ℕ) (s : Bytes) → Applies (rows-there o (c ∷ s)) NUMBER ↔ ((q : ParserState) × (state-on o (c ∷ []) ≡ some q) × InOver (q .0))
+unfolding rows-there state-on state-after Applies
 there none c s = neither-holds (λ a. a) (λ (q, e, x). Option·none-ne-some q e)
 there (some q) c s = row-leads (step q c) _ (unfold step RowRight in move-row (depth (q .1)) (begun-at (q .0) (q .1)) c s (q .0) (q .1) (char-class c) refl)
 
@@ -182,7 +164,7 @@ number-exactly s p = ⊎-elim short within-it (le-or-lt (length s) p)
 
     within-it : p < length s → Applies (rows-there o (drop p s)) NUMBER ↔ NumberAt s p
     within-it l =
-        let e : state-after start (take (suc p) s) ≡ next-state o (getD s p 0) = ap (state-after start) (take-suc s p 0 l) ∙ state-more (take p s) start (getD s p 0) in
+        let e : state-after start (take (suc p) s) ≡ state-on o (getD s p 0 ∷ []) = ap (state-after start) (take-suc s p 0 l) ∙ state-append (take p s) start (getD s p 0 ∷ []) in
         let u = there o (getD s p 0) (drop (suc p) s) in
         rw (drop-cons s p 0 l) (
           λ a. let (q, f, x) = u .0 a in
@@ -190,3 +172,12 @@ number-exactly s p = ⊎-elim short within-it (le-or-lt (length s) p)
               (l, r, k, y, z),
           λ (h, r, k, x, y). u .1 ((counting r, k), sym e ∙ state-exactly (take (suc p) s) (counting r, k) .1 y, x),
         )
+
+-- a source refused with NUMBER is refused at the first such place
+pub number-first : (s : Bytes) (p : ℕ) → outcome s ≡ refused NUMBER p → NumberAt s p × ((j : ℕ) → j < p → ¬ NumberAt s j)
+unfolding Least
+number-first s p e =
+    ⊎-elim
+    (λ (l, f, g). absurd (omega arith))
+    (λ (l, (a, b, c)). (number-exactly s p .0 a, λ j h x. c j NUMBER h (number-exactly s j .1 x)))
+    (refused-exactly s NUMBER p .0 e)

@@ -2,7 +2,7 @@
 use mathlib.Core.Path.{_≡_, refl, ap, _∙_}
 use mathlib.Core.List.{List, [], _∷_, _++_, append-assoc, append-nil}
 use mathlib.Core.Logic.{_↔_}
-use mathlib.Core.Option.{Option, none, some, Option·none-ne-some}
+use mathlib.Core.Option.{Option, none, some}
 use Prim.Native.Nat.{ℕ}
 use native.Mathlib.Omega.{arith}
 use Rattle.pattern.specs.Bytes.{Bytes, between}
@@ -26,19 +26,25 @@ pub by-step : {q q′ : ParserState} (c : ℕ) → step q c ≡ some q′ → Le
 unfolding state-after
 by-step c e = record { to = rw (e, state-after) }
 
-pub state-append : (v : Bytes) (q q′ : ParserState) (w : Bytes) → state-after q v ≡ some q′ → state-after q (v ++ w) ≡ state-after q′ w
-unfolding state-after
-state-append [] q q′ w e = let f : q ≡ q′ = cc in rw f
-state-append (c ∷ v) q q′ w e = go (step q c) (λ x. state-append v x q′ w) e
+-- the state after more bytes, from a state if there is one
+unfoldable pub state-on : Option ParserState → Bytes → Option ParserState
+state-on none w = none
+state-on (some q) w = state-after q w
+
+pub state-append : (v : Bytes) (q : ParserState) (w : Bytes) → state-after q (v ++ w) ≡ state-on (state-after q v) w
+unfolding state-after state-on
+state-append [] q w = refl
+state-append (c ∷ v) q w = go (step q c) (λ x. state-append v x w)
   where
-    go : (o : Option ParserState) → ((x : ParserState) → state-after x v ≡ some q′ → state-after x (v ++ w) ≡ state-after q′ w)
-        → _≡_ {A = Option ParserState} (elim o [ none ↦ none | some x ↦ state-after x v ]) (some q′) → elim o [ none ↦ none | some x ↦ state-after x (v ++ w) ] ≡ state-after q′ w
-    go none f e = absurd (Option·none-ne-some q′ e)
-    go (some x) f e = f x e
+    go : (o : Option ParserState) → ((x : ParserState) → state-after x (v ++ w) ≡ state-on (state-after x v) w)
+        → elim o [ none ↦ none | some x ↦ state-after x (v ++ w) ] ≡ state-on (elim o [ none ↦ none | some x ↦ state-after x v ]) w
+    go none f = refl
+    go (some x) f = f x
 
 infixl 20 _⨾_
 pub _⨾_ : {q q′ q″ : ParserState} {v w : Bytes} → Leads q v q′ → Leads q′ w q″ → Leads q (v ++ w) q″
-_⨾_ {q = q} {q′ = q′} {v = v} {w = w} a b = record { to = state-append v q q′ w (a .to) ∙ b .to }
+unfolding state-on
+_⨾_ {q = q} {v = v} {w = w} a b = record { to = state-append v q w ∙ ap (λ o. state-on o w) (a .to) ∙ b .to }
 
 -- so what is read from there on is read from here on
 pub reads-on : {q q′ : ParserState} {w : Bytes} → Leads q w q′ → (rest : Bytes) → read-from q (w ++ rest) ≡ read-from q′ rest

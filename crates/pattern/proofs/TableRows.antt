@@ -60,7 +60,7 @@ refuse-lowest (t ∷ ts) d f g (h, k) e a = go (t .0) (refuse-lowest ts (t .1) f
     go true i e a = let z : t .1 ≡ f = cc in ⊎-elim (λ (x, y). omega arith) (λ b. let m = above-applies ts (t .1) g k b in omega arith) a
     go false i e a = ⊎-elim (λ (x, y). absurd x) (i e) a
 
--- ---- the rows in the scan's order
+-- ---- the rows of an atom, by whether the numbers of its count fit
 
 -- where the first number fits and the second is less, both fit
 range-row : (l : ℕ) (h : Option ℕ) → leb l number-limit && not (large h) && falls l h ≡ leb l number-limit && falls l h

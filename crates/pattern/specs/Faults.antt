@@ -23,15 +23,15 @@ Viable u = (w : Bytes) × (t : Syntax pattern) × Derives t (u ++ w)
 unfoldable pub FormAt : Bytes → ℕ → Type 0
 FormAt s p = Viable (take p s) × (((p < length s) × ¬ Viable (take (suc p) s)) ⊎ ((p ≡ length s) × ¬ ((t : Syntax pattern) × Derives t s)))
 
--- a count that ends in a number over 9,999
+-- bytes of a count so far that end in a number over 9,999
 unfoldable pub Over : CountState → Type 0
 Over empty = ⊥
 Over (first n) = number-limit < n
 Over (pointed n) = ⊥
 Over (second n m) = number-limit < m
 
--- NUMBER, without the automaton: the bytes up to that digit are such a count, after what may stand before it. The least such position is
--- "the first digit that takes the value above 9,999"
+-- NUMBER, by what the bytes up to and with that digit spell: whatever may stand before an atom, and such a count so far. The least such
+-- position is "the first digit that takes the value above 9,999"
 unfoldable pub NumberAt : Bytes → ℕ → Type 0
 NumberAt s p = (p < length s) × (r : CountState) × (k : Stack) × Over r × ReadSoFar (counting r) k (take (suc p) s)
 

@@ -35,7 +35,7 @@ unfoldable pub depth : Stack → ℕ
 depth (top before) = 0
 depth (within k l h others before) = suc (depth k)
 
--- what begins with a byte: an atom, one more digit of a number with this value so far, a code letter, a group, or none of these
+-- what a byte begins or adds: an atom, one more digit of a number with this value so far, a code letter, a group, or none of these
 pub data Begins : Type 0 where
   an-atom a-code a-group nothing : Begins
   a-digit : (value : ℕ) → Begins

@@ -10,7 +10,7 @@ use native.Mathlib.Omega.{arith}
 use lib.Dec.{leb, ltb}
 use lib.ListN.{length, drop, getD, drop-of-length-le}
 use lib.Seq.{drop-cons}
-use borrow.Author.Tests.{le-ltb, leb-false}
+use borrow.Author.Tests.{lt-ltb, le-ltb, leb-false}
 use Rattle.pattern.specs.Numbers.{number-limit, atom-limit, open-high, FORM, NUMBER, RANGE, ATOMS}
 use Rattle.pattern.specs.Bytes.{Bytes}
 use Rattle.pattern.specs.Within.{Small}
@@ -28,14 +28,16 @@ use Rattle.scanner.specs.declared.cursor.Cursor.{Cursor}
 use Rattle.scanner.specs.declared.cursor.Point.{Point}
 use Rattle.scanner.specs.declared.cursor.Point.the-variants as points
 use Rattle.scanner.specs.declared.count.DigitsRead.{DigitsRead}
-use Rattle.scanner.specs.declared.count.DigitsRead.the-variants as read
+use Rattle.scanner.specs.declared.count.DigitsRead.the-variants as digits
+use Rattle.scanner.specs.declared.count.CountRead.{CountRead}
+use Rattle.scanner.specs.declared.count.CountRead.the-variants as read
 use Rattle.scanner.specs.declared.count.CountResult.{CountResult}
 use Rattle.scanner.specs.declared.count.CountResult.the-variants as counted
 use Rattle.scanner.specs.Places.{Onward, class-at, ClassIs, ClassNot, PointPost}
 use Rattle.scanner.specs.Scans.{scanned}
-use Rattle.scanner.specs.Counts.{the-first, the-second, tested, Runs, Overruns, DigitsAre, DigitsPost, within-atoms, check-count, CountPost}
+use Rattle.scanner.specs.Counts.{CountNumber, the-first, the-second, tested, Runs, Exceeds, DigitsAre, DigitsPost, within-atoms, judged, CountPost, CountReadPost, AfterPointPost}
 use Rattle.scanner.proofs.Steps.{stuck, short}
-use Rattle.scanner.proofs.Runs.{runs-point, point-more, then-runs, then-overruns}
+use Rattle.scanner.proofs.Runs.{runs-point, point-more, then-reaches}
 
 -- the longest run of a count with a number over the limit is no range
 over-unfit : (r : CountState) → Over r → ¬ BothFit r
@@ -44,6 +46,13 @@ over-unfit empty o h = o
 over-unfit (first n) o (x, y) = omega arith
 over-unfit (pointed n) o h = o
 over-unfit (second n m) o (x, y) = omega arith
+
+-- a count that has begun
+Begun : CountState → Type 0
+Begun empty = ⊥
+Begun (first n) = Unit {0}
+Begun (pointed n) = Unit {0}
+Begun (second n m) = Unit {0}
 
 -- the longest run is over
 module _ (s : Bytes) (j : ℕ) (r : CountState) (stops : (m : CountChar) → j < length s → class-at s j ≡ count-char m → grow r m (getD s j 0) ≡ none) where
@@ -85,34 +94,80 @@ module _ (s : Bytes) (i n : ℕ) where
   unfolding tested
   tested-as x o e = ap (λ (y : Option ℕ). elim y [ none ↦ o | some f ↦ refused f i ]) e
 
-  over-right : (p : ℕ) → Overruns s the-first i p → CountPost s i n (within-atoms n i (counted.Fault NUMBER p))
-  over-right p h =
-      let u : ¬ BothFit (longest-count empty (drop i s)) = λ f. over-unfit (h .state) (h .over) (longest-fit (drop (suc p) s) (h .state) (rw (h .longest) at f)) in
-      atoms-tested (λ k. refused NUMBER p) (counted.Fault NUMBER p) (λ k. h .scan k n ∙ tested-as _ _ (unfit-fault n _ u)) (λ l f. refused-here NUMBER p f)
+  large-right : (p : ℕ) → Exceeds s the-first i p → CountPost s i n (judged n i (read.Large p))
+  unfolding judged
+  large-right p h =
+      let u : ¬ BothFit (longest-count empty (drop i s)) = λ f. over-unfit (h .state) (h .over) (longest-fit (drop (suc p) s) (h .state) (rw (h .reaches .longest) at f)) in
+      atoms-tested (λ k. refused NUMBER p) (counted.Fault NUMBER p) (λ k. h .reaches .scan k n ∙ tested-as _ _ (unfit-fault n _ u)) (λ l f. refused-here NUMBER p f)
 
-  check-right : (r : CountState) (end : Cursor) → Runs s the-first i r (end .at) → low r ≤ number-limit → ¬ (r ≡ empty) → Onward s i end
+  repeat-right : (r : CountState) (end : Cursor) → Begun r → Runs s the-first i r (end .at) → low r ≤ number-limit → Onward s i end
       → ((m : CountChar) → end .at < length s → class-at s (end .at) ≡ count-char m → grow r m (getD s (end .at) 0) ≡ none)
-      → CountPost s i n (check-count (repeat-of (low r) (high r)) n i end)
-  unfolding check-count
-  check-right r end h f d o t =
+      → CountPost s i n (judged n i (read.Repeat (repeat-of (low r) (high r)) end))
+  unfolding judged Begun
+  repeat-right r end d h f o t =
       let l : longest-count empty (drop i s) ≡ r = h .longest ∙ longest-here s (end .at) r t in
       rw (falls-fields (low r) (high r) f) (go (falls (low r) (high r)) (λ k. h .scan k n ∙ tested-as _ _ (ap (λ x. refuse (atom-rows n x)) l ∙ fit-fault n r f)))
     where
       go : (b : Bool) → Answers (λ k. elim (refuse ((b, RANGE) ∷ (leb atom-limit n, ATOMS) ∷ [])) [ none ↦ scanned s (counting r, k) (end .at) (suc n) | some f ↦ refused f i ])
           → CountPost s i n (cond b (counted.Fault RANGE i) (within-atoms n i (counted.Repeat (repeat-of (low r) (high r)) end)))
       go true a = refused-here RANGE i (unfold refuse in a)
-      go false a = atoms-tested (λ k. scanned s (counting r, k) (end .at) (suc n)) (counted.Repeat (repeat-of (low r) (high r)) end) (unfold refuse in a) (λ l a. unfold CountPost in record { state = r; begun = d; rep-is = refl; onward = o; room = l; stops = t; scan = a })
+      go false a =
+          atoms-tested (λ k. scanned s (counting r, k) (end .at) (suc n)) (counted.Repeat (repeat-of (low r) (high r)) end) (unfold refuse in a)
+          (λ l a. unfold CountPost in record { state = r; begun = λ e. subst Begun e d; rep-is = refl; onward = o; room = l; stops = t; scan = a })
 
--- the count from its digits and its point
-module _ (s : Bytes) (i n : ℕ) (a : DigitsRead) (post : DigitsPost s i a) where
-  pub first-over : (p : ℕ) (r : CountResult) → a ≡ read.Over p → r ≡ within-atoms n i (counted.Fault NUMBER p) → CountPost s i n r
+-- what the reader of digits found
+module _ (s : Bytes) (i : ℕ) (a : DigitsRead) (post : DigitsPost s i a) where
+  read-large : (p : ℕ) → a ≡ digits.Large p → (w : CountNumber) → Exceeds s w i p
   unfolding DigitsPost
-  first-over p r e j = rw j (over-right s i n p (subst (λ a. DigitsPost s i a) e post the-first))
+  read-large p e = subst (λ a. DigitsPost s i a) e post
 
-  module _ (v : ℕ) (end : Cursor) (e : a ≡ read.Number v end) (y : Point) (point-post : PointPost s (end .at) y) where
+  read-number : (v : ℕ) (end : Cursor) → a ≡ digits.Number v end → DigitsAre s i v (end .at) × ClassNot s (end .at) (count-char digit)
+  unfolding DigitsPost
+  read-number v end e = subst (λ a. DigitsPost s i a) e post
+
+-- after the point, which is before place j
+module _ (s : Bytes) (j x : ℕ) (a : DigitsRead) (post : DigitsPost s j a) where
+  pub second-large : (p : ℕ) → a ≡ digits.Large p → AfterPointPost s j x (read.Large p)
+  unfolding AfterPointPost CountReadPost
+  second-large p e = λ i l f h n.
+      let g = read-large s j a post p e (the-second x) in
+      large-right s i n p (record { state = g .state; over = g .over; reaches = then-reaches s i x j h (g .state) (suc p) _ (g .reaches) })
+
+  module _ (v : ℕ) (end : Cursor) (e : a ≡ digits.Number v end) (rep : Repeat) where
+    there : DigitsAre s j v (end .at) × ClassNot s (end .at) (count-char digit)
+    there = read-number s j a post v end e
+
+    past : (i : ℕ) → i < j → Onward s i end
+    past i l = let (d, z) = there in record { on = omega (arith, d .on); within = d .within }
+
+    pub count-open : end .at ≡ j → rep ≡ repeat-of x none → AfterPointPost s j x (read.Repeat rep end)
+    unfolding AfterPointPost CountReadPost low high Begun
+    count-open y g = λ i l f h n. rw g (repeat-right s i n (pointed x) end tt (rw y h) f (past i l) stops)
+      where
+        stops : (c : CountChar) → end .at < length s → class-at s (end .at) ≡ count-char c → grow (pointed x) c (getD s (end .at) 0) ≡ none
+        stops digit l k = absurd (there .1 .not l k)
+        stops point l k = unfold grow in refl
+
+    pub count-closed : ¬ (end .at ≡ j) → rep ≡ repeat-of x (some v) → AfterPointPost s j x (read.Repeat rep end)
+    unfolding AfterPointPost CountReadPost low high Begun
+    count-closed y g = λ i l f h n.
+        let (d, z) = there in
+        let m : j < end .at = ⊎-elim (λ z. absurd (y (sym z))) (λ z. z) (eq-or-lt-of-le (d .on)) in
+        rw g (repeat-right s i n (second x v) end tt (then-reaches s i x j h (second x v) (end .at) _ (d .runs m (the-second x))) f (past i l) stops)
+      where
+        stops : (c : CountChar) → end .at < length s → class-at s (end .at) ≡ count-char c → grow (second x v) c (getD s (end .at) 0) ≡ none
+        stops digit l k = absurd (there .1 .not l k)
+        stops point l k = unfold grow in refl
+
+-- from the first byte
+module _ (s : Bytes) (i : ℕ) (a : DigitsRead) (post : DigitsPost s i a) where
+  pub first-large : (p : ℕ) → a ≡ digits.Large p → CountReadPost s i (read.Large p)
+  unfolding CountReadPost
+  first-large p e = λ n. large-right s i n p (read-large s i a post p e the-first)
+
+  module _ (v : ℕ) (end : Cursor) (e : a ≡ digits.Number v end) (y : Point) (point-post : PointPost s (end .at) y) where
     here : DigitsAre s i v (end .at) × ClassNot s (end .at) (count-char digit)
-    unfolding DigitsPost
-    here = subst (λ a. DigitsPost s i a) e post
+    here = read-number s i a post v end e
 
     module _ (f : y ≡ points.None) where
       no-point : ClassNot s (end .at) (count-char point)
@@ -120,25 +175,25 @@ module _ (s : Bytes) (i n : ℕ) (a : DigitsRead) (post : DigitsPost s i a) wher
       no-point = subst (λ y. PointPost s (end .at) y) f point-post
 
       -- no count at all
-      pub count-form : end .at ≡ i → CountPost s i n (counted.Fault FORM i)
-      unfolding step finish
-      count-form g =
+      pub count-none : end .at ≡ i → CountReadPost s i read.None
+      unfolding CountReadPost judged step finish
+      count-none g = λ n.
           let u : ClassNot s i (count-char digit) = rw g at (here .1) in
           let w : ClassNot s i (count-char point) = rw g at no-point in
-          refused-here s i n FORM i (λ k. ⊎-elim (λ h. short s i n h (counting empty, k) refl) (λ h. stuck s i n h (counting empty, k) (go h (class-at s i) refl (u .not h) (w .not h) k)) (le-or-lt (length s) i))
+          refused-here s i n FORM i (λ k. ⊎-elim (λ h. short s i n h (counting empty, k) refl) (λ h. stuck s i n h (counting empty, k) (go (class-at s i) (u .not h) (w .not h) k)) (le-or-lt (length s) i))
         where
-          go : i < length s → (x : CharClass) → class-at s i ≡ x → ¬ (class-at s i ≡ count-char digit) → ¬ (class-at s i ≡ count-char point) → (k : Stack) → move (counting empty) k x (getD s i 0) ≡ none
-          go h (count-char digit) e u w k = absurd (u e)
-          go h (count-char point) e u w k = absurd (w e)
-          go h (body-start b) e u w k = unfold move in refl
-          go h (branch-end b) e u w k = unfold move in refl
+          go : (x : CharClass) → ¬ (x ≡ count-char digit) → ¬ (x ≡ count-char point) → (k : Stack) → move (counting empty) k x (getD s i 0) ≡ none
+          go (count-char digit) u w k = absurd (u refl)
+          go (count-char point) u w k = absurd (w refl)
+          go (body-start b) u w k = unfold move in refl
+          go (branch-end b) u w k = unfold move in refl
 
-      pub count-exact : (rep : Repeat) (r : CountResult) → ¬ (end .at ≡ i) → rep ≡ repeat-of v (some v) → r ≡ check-count rep n i end → CountPost s i n r
-      unfolding low high
-      count-exact rep r g h j =
+      pub count-exact : (rep : Repeat) → ¬ (end .at ≡ i) → rep ≡ repeat-of v (some v) → CountReadPost s i (read.Repeat rep end)
+      unfolding CountReadPost low high Begun
+      count-exact rep g h = λ n.
           let (d, z) = here in
           let l : i < end .at = ⊎-elim (λ x. absurd (g (sym x))) (λ x. x) (eq-or-lt-of-le (d .on)) in
-          rw (j, h) (check-right s i n (first v) end (d .runs l the-first) (d .fits) (λ x. let y : _≡_ {A = ℕ} 0 1 = cc in omega arith) (record { on = l; within = d .within }) (λ m l k. stops m l k))
+          rw h (repeat-right s i n (first v) end tt (d .runs l the-first) (d .fits) (record { on = l; within = d .within }) stops)
         where
           stops : (m : CountChar) → end .at < length s → class-at s (end .at) ≡ count-char m → grow (first v) m (getD s (end .at) 0) ≡ none
           stops digit l k = absurd (here .1 .not l k)
@@ -161,38 +216,25 @@ module _ (s : Bytes) (i n : ℕ) (a : DigitsRead) (post : DigitsPost s i a) wher
           (λ l. point-more s (end .at) (k .within) (k .kind) i v (d .runs l the-first))
           (eq-or-lt-of-le (d .on)))
 
-      past : i < next .at
-      past = let (d, z) = here in let k = point-here in omega (arith, d .on, k .past)
+      pub count-pointed : (r : CountRead) → AfterPointPost s (next .at) v r → CountReadPost s i r
+      unfolding AfterPointPost
+      count-pointed r h = let (d, z) = here in let k = point-here in h i (omega (arith, d .on, k .past)) (d .fits) pointed-runs
 
-      module _ (b : DigitsRead) (second-post : DigitsPost s (next .at) b) where
-        pub second-over : (p : ℕ) (r : CountResult) → b ≡ read.Over p → r ≡ within-atoms n i (counted.Fault NUMBER p) → CountPost s i n r
-        unfolding DigitsPost
-        second-over p r e j = rw j (over-right s i n p (then-overruns s i v (next .at) pointed-runs p (subst (λ b. DigitsPost s (next .at) b) e second-post (the-second v))))
+-- the cases of what was read
+module _ (n start : ℕ) (r : CountRead) where
+  module _ (rep : Repeat) (end : Cursor) (e : r ≡ read.Repeat rep end) where
+    pub judged-range : rep .high < rep .low → counted.Fault RANGE start ≡ judged n start r
+    unfolding judged
+    judged-range h = rw e (simp (lt-ltb (rep .high) (rep .low) h))
 
-        module _ (m : ℕ) (stop : Cursor) (g : b ≡ read.Number m stop) (rep : Repeat) (r : CountResult) (j : r ≡ check-count rep n i stop) where
-          there : DigitsAre s (next .at) m (stop .at) × ClassNot s (stop .at) (count-char digit)
-          unfolding DigitsPost
-          there = subst (λ b. DigitsPost s (next .at) b) g second-post
+    pub judged-repeat : rep .low ≤ rep .high → within-atoms n start (counted.Repeat rep end) ≡ judged n start r
+    unfolding judged
+    judged-repeat h = rw e (simp (le-ltb (rep .high) (rep .low) h))
 
-          onward-stop : Onward s i stop
-          onward-stop = let (d, z) = there in record { on = omega (arith, past, d .on); within = d .within }
+  pub judged-large : (p : ℕ) → r ≡ read.Large p → within-atoms n start (counted.Fault NUMBER p) ≡ judged n start r
+  unfolding judged
+  judged-large p e = rw e
 
-          pub count-open : stop .at ≡ next .at → rep ≡ repeat-of v none → CountPost s i n r
-          unfolding low high
-          count-open x h =
-              rw (j, h) (check-right s i n (pointed v) stop (rw x pointed-runs) (here .0 .fits) (λ x. let y : _≡_ {A = ℕ} 0 1 = cc in omega arith) onward-stop (λ c l k. stops c l k))
-            where
-              stops : (c : CountChar) → stop .at < length s → class-at s (stop .at) ≡ count-char c → grow (pointed v) c (getD s (stop .at) 0) ≡ none
-              stops digit l k = absurd (there .1 .not l k)
-              stops point l k = unfold grow in refl
-
-          pub count-closed : ¬ (stop .at ≡ next .at) → rep ≡ repeat-of v (some m) → CountPost s i n r
-          unfolding low high
-          count-closed x h =
-              let (d, z) = there in
-              let l : next .at < stop .at = ⊎-elim (λ y. absurd (x (sym y))) (λ y. y) (eq-or-lt-of-le (d .on)) in
-              rw (j, h) (check-right s i n (second v m) stop (then-runs s i v (next .at) pointed-runs (second v m) (stop .at) (d .runs l (the-second v))) (here .0 .fits) (λ x. let y : _≡_ {A = ℕ} 0 1 = cc in omega arith) onward-stop (λ c l k. stops c l k))
-            where
-              stops : (c : CountChar) → stop .at < length s → class-at s (stop .at) ≡ count-char c → grow (second v m) c (getD s (stop .at) 0) ≡ none
-              stops digit l k = absurd (there .1 .not l k)
-              stops point l k = unfold grow in refl
+  pub judged-none : r ≡ read.None → counted.Fault FORM start ≡ judged n start r
+  unfolding judged
+  judged-none e = rw e

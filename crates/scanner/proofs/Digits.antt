@@ -14,7 +14,7 @@ use Rattle.scanner.specs.declared.cursor.Digit.the-variants as digits
 use Rattle.scanner.specs.declared.count.DigitsRead.the-variants as read
 use Rattle.scanner.specs.Places.{ClassIs, Onward, DigitPost}
 use Rattle.scanner.specs.Counts.{DigitsAre, DigitsPost}
-use Rattle.scanner.proofs.Runs.{runs-start, runs-more, overruns}
+use Rattle.scanner.proofs.Runs.{runs-start, runs-more, exceeds}
 
 pub digits-start : (s : Bytes) (i : ℕ) → i ≤ length s → DigitsAre s i 0 i
 digits-start s i h = record { fits = omega arith; missing = λ e. refl; on = omega arith; within = h; runs = λ l. absurd (omega arith) }
@@ -46,11 +46,11 @@ module _ (s : Bytes) (i v at : ℕ) (g : DigitsAre s i v at) (r : Digit) (post :
               (eq-or-lt-of-le (g .on)));
         }
 
-    pub digits-over : (p : ℕ) → p ≡ at → number-limit / 10 < v → DigitsPost s i (read.Over p)
+    pub digits-over : (p : ℕ) → p ≡ at → number-limit / 10 < v → DigitsPost s i (read.Large p)
     unfolding DigitsPost
     digits-over p f h =
         let (k, x, y) = here in
-        λ w. rw f (overruns s at (k .within) (k .kind) v i w (g .runs (⊎-elim (λ e. absurd (omega (arith, g .missing (sym e)))) (λ l. l) (eq-or-lt-of-le (g .on))) w) (omega arith))
+        λ w. rw f (exceeds s at (k .within) (k .kind) v i w (g .runs (⊎-elim (λ e. absurd (omega (arith, g .missing (sym e)))) (λ l. l) (eq-or-lt-of-le (g .on))) w) (omega arith))
 
   pub digits-end : (at′ : Cursor) → at′ .at ≡ at → r ≡ digits.None → DigitsPost s i (read.Number v at′)
   unfolding DigitsPost DigitPost

@@ -11,18 +11,18 @@ use Rattle.pattern.specs.Numbers.{number-limit, NUMBER}
 use Rattle.pattern.specs.Bytes.{Bytes}
 use Rattle.pattern.specs.Grammar.{CountChar, digit, point, count-char}
 use Rattle.pattern.specs.Parser.{CountState, empty, first, pointed, second, counting, Stack, grow, counted, move, step}
-use Rattle.pattern.specs.Scan.{longest-count, begins, begun, refuse, atom-rows, rows, fault, refused}
+use Rattle.pattern.specs.Scan.{longest-count, begins, begun, refuse, atom-rows, rows, fault, Outcome, refused}
 use Rattle.pattern.specs.Faults.{Over}
+use Rattle.pattern.proofs.LongestCounts.{longest-next}
 use Rattle.scanner.specs.Places.{class-at}
 use Rattle.scanner.specs.Scans.{scanned}
-use Rattle.scanner.specs.Counts.{CountNumber, the-first, the-second, before, valued, tested, Runs, Overruns}
+use Rattle.scanner.specs.Counts.{CountNumber, the-first, the-second, valued, begun-with, tested, Reaches, Runs, Exceeds}
 use Rattle.scanner.proofs.Steps.{fault-here, begun-here, stepped, onward, faulty}
 
 -- a byte that belongs to a count
 module _ (s : Bytes) (j : ℕ) (l : j < length s) (m : CountChar) (e : class-at s j ≡ count-char m) (r r′ : CountState) (g : grow r m (getD s j 0) ≡ some r′) where
-  longest-next : longest-count r (drop j s) ≡ longest-count r′ (drop (suc j) s)
-  unfolding longest-count
-  longest-next = rw (drop-cons s j 0 l) (rw (e, longest-count) (rw g))
+  longest-on : longest-count r (drop j s) ≡ longest-count r′ (drop (suc j) s)
+  longest-on = rw (drop-cons s j 0 l) (longest-next r r′ m (getD s j 0) (drop (suc j) s) e g)
 
   count-step : (k : Stack) → step (counting r, k) (getD s j 0) ≡ some (counting r′, k)
   unfolding step move counted
@@ -41,7 +41,7 @@ module _ (s : Bytes) (j : ℕ) (l : j < length s) (m : CountChar) (e : class-at 
   runs-begin : (r : CountState) → grow empty m (getD s j 0) ≡ some r → Runs s the-first j r (suc j)
   unfolding tested
   runs-begin r g = record {
-    longest = longest-next s j l m e empty r g;
+    longest = longest-on s j l m e empty r g;
     scan = λ k n. stepped s j n l (counting empty, k) (counting r, k) (count-step s j l m e empty r g k)
         ∙ ap₂ (λ (o : Option ℕ) (b : ℕ). elim o [ some f ↦ refused f j | none ↦ scanned s (counting r, k) (suc j) b ]) (first-fault k n) (first-begun k n);
   }
@@ -56,7 +56,7 @@ module _ (s : Bytes) (j : ℕ) (l : j < length s) (e : class-at s j ≡ count-ch
   unfolding grow tested fault rows begins begun refuse
   runs-start the-first = runs-begin s j l digit e (first d) refl
   runs-start (the-second x) = record {
-    longest = longest-next s j l digit e (pointed x) (second x d) refl;
+    longest = longest-on s j l digit e (pointed x) (second x d) refl;
     scan = λ k n. onward s j n l (counting (pointed x), k) (counting (second x d), k) (count-step s j l digit e (pointed x) (second x d) refl k) (rw e) (rw e);
   }
 
@@ -84,23 +84,22 @@ module _ (s : Bytes) (j : ℕ) (l : j < length s) (e : class-at s j ≡ count-ch
     next-step w k = count-step s j l digit e (valued w v) (valued w value) (grows w) k
 
     module _ (i : ℕ) (w : CountNumber) (h : Runs s w i (valued w v) j) where
-      next-longest : longest-count (before w) (drop i s) ≡ longest-count (valued w value) (drop (suc j) s)
-      next-longest = h .longest ∙ longest-next s j l digit e (valued w v) (valued w value) (grows w)
+      digit-reaches : (o : Stack → ℕ → Outcome) → ((k : Stack) (n : ℕ) → scanned s (counting (valued w v), k) j n ≡ o k n) → Reaches s w i (valued w value) (suc j) o
+      digit-reaches o f = record {
+        longest = h .longest ∙ longest-on s j l digit e (valued w v) (valued w value) (grows w);
+        scan = λ k n. h .scan k n ∙ ap (tested w s i n) (f k (begun-with w n));
+      }
 
       pub runs-more : value ≤ number-limit → Runs s w i (valued w value) (suc j)
       unfolding refuse
-      runs-more g = record {
-        longest = next-longest;
-        scan = λ k n. h .scan k n ∙ ap (tested w s i n) (onward s j _ l (counting (valued w v), k) (counting (valued w value), k) (next-step w k) (digit-fault w k _ ∙ rw (le-ltb number-limit value g)) (digit-begun w k _));
-      }
+      runs-more g = digit-reaches _ (λ k n. onward s j n l (counting (valued w v), k) (counting (valued w value), k) (next-step w k) (digit-fault w k n ∙ rw (le-ltb number-limit value g)) (digit-begun w k n))
 
-      pub overruns : number-limit < value → Overruns s w i j
+      pub exceeds : number-limit < value → Exceeds s w i j
       unfolding refuse
-      overruns g = record {
+      exceeds g = record {
         state = valued w value;
         over = over w;
-        longest = next-longest;
-        scan = λ k n. h .scan k n ∙ ap (tested w s i n) (faulty s j _ l (counting (valued w v), k) (counting (valued w value), k) NUMBER (next-step w k) (digit-fault w k _ ∙ rw (lt-ltb number-limit value g)));
+        reaches = digit-reaches _ (λ k n. faulty s j n l (counting (valued w v), k) (counting (valued w value), k) NUMBER (next-step w k) (digit-fault w k n ∙ rw (lt-ltb number-limit value g)));
       }
         where
           over : (w : CountNumber) → Over (valued w value)
@@ -116,16 +115,11 @@ module _ (s : Bytes) (j : ℕ) (l : j < length s) (e : class-at s j ≡ count-ch
   pub point-more : (i v : ℕ) → Runs s the-first i (first v) j → Runs s the-first i (pointed v) (suc j)
   unfolding grow fault rows refuse begins begun
   point-more i v h = record {
-    longest = h .longest ∙ longest-next s j l point e (first v) (pointed v) refl;
+    longest = h .longest ∙ longest-on s j l point e (first v) (pointed v) refl;
     scan = λ k n. h .scan k n ∙ ap (tested the-first s i n) (onward s j _ l (counting (first v), k) (counting (pointed v), k) (count-step s j l point e (first v) (pointed v) refl k) (rw e) (rw e));
   }
 
 -- a second number after what came before it
-module _ (s : Bytes) (i x j : ℕ) (h : Runs s the-first i (pointed x) j) where
-  pub then-runs : (r : CountState) (m : ℕ) → Runs s (the-second x) j r m → Runs s the-first i r m
-  unfolding tested
-  then-runs r m g = record { longest = h .longest ∙ g .longest; scan = λ k n. h .scan k n ∙ rw (g .scan k (suc n)) }
-
-  pub then-overruns : (p : ℕ) → Overruns s (the-second x) j p → Overruns s the-first i p
-  unfolding tested
-  then-overruns p g = record { state = g .state; over = g .over; longest = h .longest ∙ g .longest; scan = λ k n. h .scan k n ∙ rw (g .scan k (suc n)) }
+pub then-reaches : (s : Bytes) (i x j : ℕ) → Runs s the-first i (pointed x) j → (r : CountState) (m : ℕ) (o : Stack → ℕ → Outcome) → Reaches s (the-second x) j r m o → Reaches s the-first i r m o
+unfolding tested
+then-reaches s i x j h r m o g = record { longest = h .longest ∙ g .longest; scan = λ k n. h .scan k n ∙ ap (tested the-first s i n) (g .scan k (suc n)) }

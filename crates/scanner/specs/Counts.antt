@@ -5,7 +5,7 @@ use mathlib.Core.Option.{none, some}
 use Prim.Native.Nat.{ℕ, suc, _≤_, _<_}
 use lib.Dec.{leb, ltb}
 use lib.ListN.{length, drop, getD}
-use Rattle.pattern.specs.Numbers.{number-limit, atom-limit, NUMBER, RANGE, ATOMS}
+use Rattle.pattern.specs.Numbers.{number-limit, atom-limit, FORM, NUMBER, RANGE, ATOMS}
 use Rattle.pattern.specs.Bytes.{Bytes}
 use Rattle.pattern.specs.Repeats.{repeat-of}
 use Rattle.pattern.specs.Grammar.{CountChar, digit, count-char}
@@ -16,6 +16,8 @@ use Rattle.pattern.specs.declared.repeat.Repeat.{Repeat}
 use Rattle.scanner.specs.declared.cursor.Cursor.{Cursor}
 use Rattle.scanner.specs.declared.count.DigitsRead.{DigitsRead}
 use Rattle.scanner.specs.declared.count.DigitsRead.the-variants as digits
+use Rattle.scanner.specs.declared.count.CountRead.{CountRead}
+use Rattle.scanner.specs.declared.count.CountRead.the-variants as read
 use Rattle.scanner.specs.declared.count.CountResult.{CountResult}
 use Rattle.scanner.specs.declared.count.CountResult.the-variants as counted
 use Rattle.scanner.specs.Places.{Onward, class-at, ClassNot}
@@ -27,9 +29,9 @@ pub data CountNumber : Type 0 where
   the-second : (n : ℕ) → CountNumber
 
 -- the state before its digits
-abbrev pub before : CountNumber → CountState
-before the-first = empty
-before (the-second n) = pointed n
+abbrev pub awaiting : CountNumber → CountState
+awaiting the-first = empty
+awaiting (the-second n) = pointed n
 
 -- the state after digits of it with this value
 abbrev pub valued : CountNumber → ℕ → CountState
@@ -46,17 +48,20 @@ unfoldable pub tested : CountNumber → Bytes → (i n : ℕ) → Outcome → Ou
 tested the-first s i n o = elim (refuse (atom-rows n (longest-count empty (drop i s)))) [ none ↦ o | some f ↦ refused f i ]
 tested (the-second x) s i n o = o
 
--- from before a number at place i the scan comes to a state at place j, and the longest run is the same from there
-pub record Runs (s : Bytes) (w : CountNumber) (i : ℕ) (r : CountState) (j : ℕ) : Type 0 where
-  pub longest : longest-count (before w) (drop i s) ≡ longest-count r (drop j s)
-  pub scan : (k : Stack) (n : ℕ) → scanned s (counting (before w), k) i n ≡ tested w s i n (scanned s (counting r, k) j (begun-with w n))
+-- from before a number at place i the scan comes to place j, where it answers o; the longest run goes on there from state r
+pub record Reaches (s : Bytes) (w : CountNumber) (i : ℕ) (r : CountState) (j : ℕ) (o : Stack → ℕ → Outcome) : Type 0 where
+  pub longest : longest-count (awaiting w) (drop i s) ≡ longest-count r (drop j s)
+  pub scan : (k : Stack) (n : ℕ) → scanned s (counting (awaiting w), k) i n ≡ tested w s i n (o k (begun-with w n))
 
--- with the digit at place p a number of the count is over the limit
-pub record Overruns (s : Bytes) (w : CountNumber) (i p : ℕ) : Type 0 where
+-- the scan goes on there in that state
+abbrev pub Runs : Bytes → CountNumber → ℕ → CountState → ℕ → Type 0
+Runs s w i r j = Reaches s w i r j (λ k n. scanned s (counting r, k) j n)
+
+-- the digit at place p takes a number of the count over the limit
+pub record Exceeds (s : Bytes) (w : CountNumber) (i p : ℕ) : Type 0 where
   pub state : CountState
   pub over : Over state
-  pub longest : longest-count (before w) (drop i s) ≡ longest-count state (drop (suc p) s)
-  pub scan : (k : Stack) (n : ℕ) → scanned s (counting (before w), k) i n ≡ tested w s i n (refused NUMBER p)
+  pub reaches : Reaches s w i state (suc p) (λ k n. refused NUMBER p)
 
 -- digits with this value, or none, from place i to place j
 pub record DigitsAre (s : Bytes) (i v j : ℕ) : Type 0 where
@@ -68,13 +73,16 @@ pub record DigitsAre (s : Bytes) (i v j : ℕ) : Type 0 where
 
 unfoldable pub DigitsPost : Bytes → ℕ → DigitsRead → Type 0
 DigitsPost s i (digits.Number v next) = DigitsAre s i v (next .at) × ClassNot s (next .at) (count-char digit)
-DigitsPost s i (digits.Over p) = (w : CountNumber) → Overruns s w i p
+DigitsPost s i (digits.Large p) = (w : CountNumber) → Exceeds s w i p
 
 unfoldable pub within-atoms : (n start : ℕ) → CountResult → CountResult
 within-atoms n start found = cond (leb atom-limit n) (counted.Fault ATOMS start) found
 
-unfoldable pub check-count : Repeat → (n start : ℕ) → Cursor → CountResult
-check-count rep n start end = cond (ltb (rep .high) (rep .low)) (counted.Fault RANGE start) (within-atoms n start (counted.Repeat rep end))
+-- the refusals of what was read, in their order
+unfoldable pub judged : (n start : ℕ) → CountRead → CountResult
+judged n start (read.Repeat rep end) = cond (ltb (rep .high) (rep .low)) (counted.Fault RANGE start) (within-atoms n start (counted.Repeat rep end))
+judged n start (read.Large p) = within-atoms n start (counted.Fault NUMBER p)
+judged n start read.None = counted.Fault FORM start
 
 -- the scan goes on after the longest run
 pub record CountIs (s : Bytes) (i n : ℕ) (rep : Repeat) (next : Cursor) : Type 0 where
@@ -92,3 +100,11 @@ pub record CountRefused (s : Bytes) (i n f p : ℕ) : Type 0 where
 unfoldable pub CountPost : Bytes → (i n : ℕ) → CountResult → Type 0
 CountPost s i n (counted.Repeat rep next) = CountIs s i n rep next
 CountPost s i n (counted.Fault f p) = CountRefused s i n f p
+
+-- what was read is right, of whatever atom it is judged
+unfoldable pub CountReadPost : Bytes → ℕ → CountRead → Type 0
+CountReadPost s i r = (n : ℕ) → CountPost s i n (judged n i r)
+
+-- of whatever count comes to place j with its point
+unfoldable pub AfterPointPost : Bytes → (j low : ℕ) → CountRead → Type 0
+AfterPointPost s j low r = (i : ℕ) → i < j → low ≤ number-limit → Runs s the-first i (pointed low) j → CountReadPost s i r

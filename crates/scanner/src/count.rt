@@ -2,7 +2,7 @@
 ghost use mathlib.Core.Path.{_≡_};
 ghost use Prim.Native.Nat.{_≤_};
 ghost use lib.ListN.{length};
-ghost use Rattle.scanner.specs.Counts.{within-atoms, check-count, DigitsPost, CountPost};
+ghost use Rattle.scanner.specs.Counts.{DigitsPost, AfterPointPost, CountReadPost, within-atoms, judged, CountPost};
 use crate::cursor::Cursor;
 use crate::cursor::Digit;
 use crate::cursor::Point;
@@ -13,7 +13,14 @@ use pattern::repeat::Repeat;
 // A run of digits: its value, 0 for none, and where it ends; or the place of the digit that takes the value over the limit.
 enum DigitsRead {
     Number(u16, Cursor),
-    Over(usize),
+    Large(usize),
+}
+
+// What stands at a place: a count and where it ends, the digit that takes a number of it over the limit, or no count.
+enum CountRead {
+    Repeat(Repeat, Cursor),
+    Large(usize),
+    None,
 }
 
 pub enum CountResult {
@@ -21,7 +28,7 @@ pub enum CountResult {
     Fault(u32, usize),
 }
 
-// The limit's last digit is 9, so that one more digit goes over it just where the value so far is over a tenth of it.
+// The digits at the cursor. The limit ends in 9, so one more digit exceeds it just where the value so far exceeds a tenth of it.
 fn digits(s: &[u8], c: Cursor) -> DigitsRead
     requires { ⌜ c .at ≤ length (now s) ⌝ }
     ensures { λ r. ⌜ DigitsPost (now (s .entry)) (c .at) r ⌝ }
@@ -32,13 +39,51 @@ fn digits(s: &[u8], c: Cursor) -> DigitsRead
         match at.digit(s) {
             Digit::Is(d, next) => {
                 if limits::NUMBER_LIMIT / 10 < v {
-                    return DigitsRead::Over(at.at);
+                    return DigitsRead::Large(at.at);
                 }
                 v = 10 * v + d;
                 at = next;
             }
             Digit::None => return DigitsRead::Number(v, at),
         }
+    }
+}
+
+// The count whose first number is low, from after its point on.
+fn after_point(s: &[u8], c: Cursor, low: u16) -> CountRead
+    requires { ⌜ c .at ≤ length (now s) ⌝ }
+    ensures { λ r. ⌜ AfterPointPost (now (s .entry)) (c .at) low r ⌝ }
+{
+    let from = c.at;
+    match digits(s, c) {
+        DigitsRead::Large(p) => CountRead::Large(p),
+        DigitsRead::Number(high, end) => {
+            if end.at == from {
+                CountRead::Repeat(Repeat::open(low), end)
+            } else {
+                CountRead::Repeat(Repeat::closed(low, high), end)
+            }
+        }
+    }
+}
+
+fn read_count(s: &[u8], c: Cursor) -> CountRead
+    requires { ⌜ c .at ≤ length (now s) ⌝ }
+    ensures { λ r. ⌜ CountReadPost (now (s .entry)) (c .at) r ⌝ }
+{
+    let start = c.at;
+    match digits(s, c) {
+        DigitsRead::Large(p) => CountRead::Large(p),
+        DigitsRead::Number(low, end) => match end.point(s) {
+            Point::Is(next) => after_point(s, next, low),
+            Point::None => {
+                if end.at == start {
+                    CountRead::None
+                } else {
+                    CountRead::Repeat(Repeat::exact(low), end)
+                }
+            }
+        },
     }
 }
 
@@ -53,14 +98,20 @@ fn within_atoms(n: usize, start: usize, found: CountResult) -> CountResult
     }
 }
 
-// A count from start to end, of an atom after n others: its first fault, or the count.
-fn check_count(rep: Repeat, n: usize, start: usize, end: Cursor) -> CountResult
-    ensures { λ r. ⌜ r ≡ check-count rep n start end ⌝ }
+// The first fault of what was read at start, of an atom after n others, or the count.
+fn judge(read: CountRead, n: usize, start: usize) -> CountResult
+    ensures { λ r. ⌜ r ≡ judged n start read ⌝ }
 {
-    if rep.high < rep.low {
-        CountResult::Fault(refusal::RANGE, start)
-    } else {
-        within_atoms(n, start, CountResult::Repeat(rep, end))
+    match read {
+        CountRead::Repeat(rep, end) => {
+            if rep.high < rep.low {
+                CountResult::Fault(refusal::RANGE, start)
+            } else {
+                within_atoms(n, start, CountResult::Repeat(rep, end))
+            }
+        }
+        CountRead::Large(p) => { within_atoms(n, start, CountResult::Fault(refusal::NUMBER, p)) }
+        CountRead::None => CountResult::Fault(refusal::FORM, start),
     }
 }
 
@@ -70,31 +121,5 @@ pub fn count(s: &[u8], c: Cursor, n: usize) -> CountResult
     ensures { λ r. ⌜ CountPost (now (s .entry)) (c .at) n r ⌝ }
 {
     let start = c.at;
-    match digits(s, c) {
-        DigitsRead::Over(p) => { within_atoms(n, start, CountResult::Fault(refusal::NUMBER, p)) }
-        DigitsRead::Number(low, end) => match end.point(s) {
-            Point::Is(next) => {
-                let from = next.at;
-                match digits(s, next) {
-                    DigitsRead::Over(p) => {
-                        within_atoms(n, start, CountResult::Fault(refusal::NUMBER, p))
-                    }
-                    DigitsRead::Number(high, stop) => {
-                        if stop.at == from {
-                            check_count(Repeat::open(low), n, start, stop)
-                        } else {
-                            check_count(Repeat::closed(low, high), n, start, stop)
-                        }
-                    }
-                }
-            }
-            Point::None => {
-                if end.at == start {
-                    CountResult::Fault(refusal::FORM, start)
-                } else {
-                    check_count(Repeat::exact(low), n, start, end)
-                }
-            }
-        },
-    }
+    judge(read_count(s, c), n, start)
 }
