@@ -32,7 +32,7 @@ enum mpt_refusal {
     MPT_FORM = 2,      /* not a pattern */
     MPT_CODE = 3,      /* a letter other than A C E L N P U as a code */
     MPT_NUMBER = 4,    /* a repeat number over 9,999 */
-    MPT_RANGE = 5,     /* the second repeat number is less than the first */
+    MPT_RANGE = 5,     /* both repeat numbers fit and the second is less */
     MPT_ATOMS = 6,     /* a 65th atom */
     MPT_DEPTH = 7,     /* a group inside 8 others */
     MPT_ROOM = 8,      /* the lent output is too short */

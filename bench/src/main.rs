@@ -6,6 +6,7 @@
 //! sections each lies at one place.
 //!
 //! bench [--quick]
+//! bench [--quick] --tables    (a) and (b) alone
 //! bench [--quick] --batches    (f) alone
 //! bench [--quick] --registers    (g) alone
 //! bench --lines    the line tool in plain Rust, for the comparison
@@ -38,6 +39,9 @@ fn main() {
     }
     tables::compiling(rounds);
     tables::writing_back(rounds);
+    if given("--tables") {
+        return;
+    }
     if quick {
         matches::matching(&[(10, 9), (60, 9)]);
         matches::groups_of_groups(&[5, 10, 15, 20, 25, 50, 100, 150]);
