@@ -27,7 +27,7 @@ use Rattle.pattern.proofs.TableRows.{atom-fault-is, atom-fault, BothFit
 use Rattle.pattern.proofs.LongestCounts.{longest-next, longest-stop, grow-fit}
 
 -- a count whose first number fits has no lower second one
-Rises : CountState → Type 0
+pub Rises : CountState → Type 0
 Rises r = low r ≤ number-limit → UpTo (high r) (low r)
 
 -- how far a count was looked at once it has begun: its numbers fit so far, and its longest run r rises
@@ -104,7 +104,7 @@ unfolding UpTo
 upto-stable none n f = tt
 upto-stable (some m) n f = ⊎-elim (λ u. u) (λ u. absurd (f (λ v. omega arith))) (le-or-lt n m)
 
-atom-pass : (n : ℕ) (r : CountState) → (atom-fault n r ≡ none) ↔ (Rises r × (n < atom-limit))
+pub atom-pass : (n : ℕ) (r : CountState) → (atom-fault n r ≡ none) ↔ (Rises r × (n < atom-limit))
 unfolding Rises
 atom-pass n r =
     rw (atom-fault-is n r) (

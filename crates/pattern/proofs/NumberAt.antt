@@ -23,7 +23,7 @@ use Rattle.pattern.proofs.Least.{refused-exactly}
 use Rattle.pattern.proofs.ParserComplete.{state-on, state-append, state-exactly}
 
 -- the phase is in a count that ends in a number over 9,999
-InOver : Phase → Type 0
+unfoldable pub InOver : Phase → Type 0
 InOver (counting r) = Over r
 InOver (inside l h value) = ⊥
 InOver (after l h b) = ⊥
@@ -32,14 +32,14 @@ neither-holds : {X Y : Type 0} → ¬ X → ¬ Y → X ↔ Y
 neither-holds f g = (λ x. absurd (f x), λ y. absurd (g y))
 
 -- only a digit has the row of NUMBER
-Digitless : Begins → Type 0
+unfoldable pub Digitless : Begins → Type 0
 Digitless an-atom = Unit {0}
 Digitless (a-digit v) = ⊥
 Digitless a-code = Unit {0}
 Digitless a-group = Unit {0}
 Digitless nothing = Unit {0}
 
-no-row : (b : Begins) (d n c : ℕ) (s : Bytes) → Digitless b → ¬ Applies (rows b d n c s) NUMBER
+pub no-row : (b : Begins) (d n c : ℕ) (s : Bytes) → Digitless b → ¬ Applies (rows b d n c s) NUMBER
 unfolding rows Applies Digitless
 no-row an-atom d n c s h a = ⊎-elim (λ (x, y). omega arith) (⊎-elim (λ (x, y). omega arith) (λ b. b)) a
 no-row (a-digit v) d n c s h a = h
@@ -53,7 +53,7 @@ row-digit v d n c s =
     (⊎-elim (λ (x, y). leb→le (suc number-limit) (10 * v + (c - 48)) x) (λ b. absurd b), λ h. inl (le→leb (suc number-limit) (10 * v + (c - 48)) h, refl))
 
 -- the row of NUMBER applies just where the byte leads to such a phase
-RowRight : Begins → (d n c : ℕ) → Bytes → Option ParserState → Type 0
+unfoldable pub RowRight : Begins → (d n c : ℕ) → Bytes → Option ParserState → Type 0
 RowRight b d n c s o = On o (λ q. Applies (rows b d n c s) NUMBER ↔ InOver (q .0))
 
 module _ (d n c : ℕ) (s : Bytes) where
@@ -104,7 +104,7 @@ module _ (d n c : ℕ) (s : Bytes) where
   quoted-row l h value k quoting = neither-holds (no-row nothing d n c s tt) (λ x. x)
   quoted-row l h value k barred = tt
 
-  move-row : (p : Phase) (k : Stack) (x : CharClass) → char-class c ≡ x → RowRight (begins p x) d n c s (move p k x c)
+  pub move-row : (p : Phase) (k : Stack) (x : CharClass) → char-class c ≡ x → RowRight (begins p x) d n c s (move p k x c)
   unfolding move begins
   move-row (counting empty) k (count-char m) e = grow-row empty m k e
   move-row (counting (first x)) k (count-char m) e = grow-row (first x) m k e

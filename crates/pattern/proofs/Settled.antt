@@ -1,0 +1,141 @@
+-- NUMBER is settled by its digit: what follows does not matter. Assumes nothing.
+use mathlib.Core.Path.{_≡_, refl, ap, _∙_}
+use mathlib.Core.Logic.{_⊎_, inl, inr, ⊎-elim}
+use mathlib.Core.List.{[], _∷_, _++_}
+use mathlib.Core.Option.{Option, none, some}
+use Prim.Native.Nat.{ℕ, suc, _+_, _≤_, _<_}
+use native.Mathlib.Omega.{arith}
+use lib.ListN.{length}
+use Rattle.pattern.specs.Numbers.{source-limit, FORM, NUMBER}
+use Rattle.pattern.specs.Bytes.{Bytes}
+use Rattle.pattern.specs.Syntax.{pattern, Syntax, repeat}
+use Rattle.pattern.specs.Grammar.{CountChar, digit, point, CharClass, count-char, body-start, branch-end, char-class}
+use Rattle.pattern.specs.Parser.{CountState, empty, first, pointed, second, Phase, counting, inside, after, Stack, next, ParserState, grow, counted, move, step, finish, start}
+use Rattle.pattern.specs.Scan.{low, high, longest-count, depth, Begins, an-atom, a-digit, a-code, a-group, nothing, begins, begun, refuse, fault, Outcome, refused, accepted, scan, outcome}
+use Rattle.pattern.specs.Within.{Small}
+use Rattle.pattern.specs.Faults.{Over}
+use Rattle.pattern.proofs.TableRows.{refuse-applies, BothFit, unfit-fault}
+use Rattle.pattern.proofs.Least.{scan-refused, refused-exactly}
+use Rattle.pattern.proofs.NumberAt.{InOver, Digitless, no-row, RowRight, move-row}
+use Rattle.pattern.proofs.LongestCounts.{longest-fit}
+use Rattle.pattern.proofs.Accepted.{Rises, atom-pass}
+
+-- a count that ends in a number over 9,999 does not fit
+pub over-unfit : (r : CountState) → Over r → ¬ BothFit r
+unfolding Over low high Small
+over-unfit empty o h = o
+over-unfit (first n) o (x, y) = omega arith
+over-unfit (pointed n) o h = o
+over-unfit (second n m) o (x, y) = omega arith
+
+-- and so its longest run is no fault of RANGE
+over-rises : (r : CountState) (s : Bytes) → Over r → Rises (longest-count r s)
+unfolding refuse
+over-rises r s o = atom-pass 0 (longest-count r s) .0 (unfit-fault 0 _ (λ h. over-unfit r o (longest-fit s r h))) .0
+
+-- a byte ends a count, or the count goes on
+Goes : CountState → ℕ → Type 0
+Goes r c =
+    ((s : Bytes) → longest-count r (c ∷ s) ≡ r)
+    ⊎ ((r′ : CountState) × ((s : Bytes) → longest-count r (c ∷ s) ≡ longest-count r′ s) × ((k : Stack) → step (counting r, k) c ≡ some (counting r′, k)))
+
+goes : (r : CountState) (c : ℕ) → Goes r c
+unfolding Goes longest-count step move counted
+goes r c = go (char-class c) refl
+  where
+    more : (m : CountChar) → char-class c ≡ count-char m → (o : Option CountState) → grow r m c ≡ o → Goes r c
+    more m e none g = inl (λ s. rw (e, longest-count) (rw g))
+    more m e (some r′) g = inr (r′, λ s. rw (e, longest-count) (rw g), λ k. rw (e, step) (rw g))
+
+    go : (x : CharClass) → char-class c ≡ x → Goes r c
+    go (count-char m) e = more m e (grow r m c) refl
+    go (body-start b) e = inl (λ s. rw (e, longest-count))
+    go (branch-end b) e = inl (λ s. rw (e, longest-count))
+
+-- the scan at a byte c of class x
+abbrev scan-at : (i n c : ℕ) → Bytes → Phase → Stack → CharClass → Outcome
+scan-at i n c s a k x =
+    elim (move a k x c) [ none ↦ refused FORM i | some q ↦ elim (fault (begins a x) (depth k) n c s) [ some f ↦ refused f i | none ↦ scan q (suc i) (begun (begins a x) n) s ] ]
+
+-- NUMBER is found at this byte, or later
+abbrev Found : (i n : ℕ) → Bytes → ℕ → Option ParserState → Option ℕ → Type 0
+Found i n s p o x = (q : ParserState) × (o ≡ some q) × (((x ≡ some NUMBER) × (p ≡ i)) ⊎ ((x ≡ none) × (scan q (suc i) n s ≡ refused NUMBER p)))
+
+found : (q : ParserState) (i n c : ℕ) (s : Bytes) (p : ℕ) → scan q i n (c ∷ s) ≡ refused NUMBER p
+    → Found i (begun (begins (q .0) (char-class c)) n) s p (step q c) (fault (begins (q .0) (char-class c)) (depth (q .1)) n c s)
+unfolding scan
+found q i n c s p h = go (step q c) _ _ h
+  where
+    go : (o : Option ParserState) (x : Option ℕ) (n : ℕ) → elim o [ none ↦ refused FORM i | some q ↦ elim x [ some f ↦ refused f i | none ↦ scan q (suc i) n s ] ] ≡ refused NUMBER p → Found i n s p o x
+    go none x n h = absurd (let z : FORM ≡ NUMBER = cc in omega arith)
+    go (some q) none n h = (q, refl, inr (refl, h))
+    go (some q) (some f) n h = (q, refl, inl (cc, cc))
+
+-- it is not found before the place where the scan begins
+scan-from : (s : Bytes) (q : ParserState) (i n p : ℕ) → scan q i n s ≡ refused NUMBER p → i ≤ p
+scan-from [] q i n p h = go (finish (q .0) (q .1)) (unfold scan in h)
+  where
+    go : (o : Option (Syntax pattern)) → elim o [ none ↦ refused FORM i | some t ↦ accepted t ] ≡ refused NUMBER p → i ≤ p
+    go none h = absurd (let z : FORM ≡ NUMBER = cc in omega arith)
+    go (some t) h = absurd (let z : _≡_ {A = ℕ} 0 1 = cc in omega arith)
+scan-from (c ∷ s) q i n p h =
+    let (q′, e, x) = found q i n c s p h in
+    ⊎-elim (λ (f, y). omega arith) (λ (f, y). let l = scan-from s q′ (suc i) _ p y in omega arith) x
+
+module _ (w w′ : Bytes) (p : ℕ) where
+  -- a count that is no fault of RANGE with w is none with w′
+  run-settled : (u : Bytes) (r : CountState) (k : Stack) (i n : ℕ) → p < i + length u → scan (counting r, k) i n (u ++ w) ≡ refused NUMBER p
+      → Rises (longest-count r (u ++ w)) → Rises (longest-count r (u ++ w′))
+  unfolding Goes RowRight InOver step fault
+  run-settled [] r k i n l h f = absurd (omega (arith, scan-from w (counting r, k) i n p h))
+  run-settled (c ∷ u) r k i n l h f =
+      let (q, e, y) = found (counting r, k) i n c (u ++ w) p h in
+      let row = move-row (depth k) n c (u ++ w) (counting r) k (char-class c) refl in
+      ⊎-elim (λ a. rw (a (u ++ w′)) (rw (a (u ++ w)) at f)) (λ (r′, a, b).
+      let d : q ≡ (counting r′, k) = let z = b k in cc in
+      rw (a (u ++ w′)) (⊎-elim (λ (x, y). over-rises r′ (u ++ w′) ((rw (b k) at row) .0 (refuse-applies _ NUMBER x)))
+      (λ (x, g). run-settled u r′ k (suc i) _ (omega arith) (rw d at g) (rw (a (u ++ w)) at f)) y))
+      (goes r c)
+
+  -- NUMBER at a byte, or no fault, is so with w′ too
+  module _ (i n c : ℕ) (u : Bytes) (l : p < i + suc (length u)) where
+    abbrev Kept : Begins → ℕ → Type 0
+    Kept b d = (fault b d n c (u ++ w) ≡ some NUMBER → fault b d n c (u ++ w′) ≡ some NUMBER) × (fault b d n c (u ++ w) ≡ none → fault b d n c (u ++ w′) ≡ none)
+
+    kept : (b : Begins) (d : ℕ) → (Rises (longest-count empty (c ∷ u ++ w)) → Rises (longest-count empty (c ∷ u ++ w′))) → Kept b d
+    unfolding fault Digitless
+    kept an-atom d f = (λ e. absurd (no-row an-atom d n c (u ++ w) tt (refuse-applies _ NUMBER e)), λ e. let (x, y) = atom-pass n _ .0 e in atom-pass n _ .1 (f x, y))
+    kept (a-digit v) d f = (λ e. e, λ e. e)
+    kept a-code d f = (λ e. e, λ e. e)
+    kept a-group d f = (λ e. e, λ e. e)
+    kept nothing d f = (λ e. e, λ e. e)
+
+    kept-in : (a : Phase) (k : Stack) (x : CharClass) → char-class c ≡ x → scan-at i n c (u ++ w) a k x ≡ refused NUMBER p → Kept (begins a x) (depth k)
+    unfolding begins begun fault scan step move longest-count
+    kept-in a k (body-start b) e h = kept (begins a (body-start b)) (depth k) (λ f. rw (e, longest-count) (rw (e, longest-count) at f))
+    kept-in a k (branch-end b) e h = kept (begins a (branch-end b)) (depth k) (λ f. rw (e, longest-count) (rw (e, longest-count) at f))
+    kept-in (counting empty) k (count-char m) e h = kept an-atom (depth k) (run-settled (c ∷ u) empty k i n l (ap (scan-at i n c (u ++ w) (counting empty) k) e ∙ h))
+    kept-in (counting (first v)) k (count-char digit) e h = (λ e. e, λ e. e)
+    kept-in (counting (first v)) k (count-char point) e h = (λ e. e, λ e. e)
+    kept-in (counting (pointed v)) k (count-char m) e h = (λ e. e, λ e. e)
+    kept-in (counting (second v z)) k (count-char digit) e h = (λ e. e, λ e. e)
+    kept-in (counting (second v z)) k (count-char point) e h = (λ e. e, λ e. e)
+    kept-in (inside v z value) k (count-char m) e h = (λ e. e, λ e. e)
+    kept-in (after v z b) k (count-char m) e h =
+        let t : Stack = next k (repeat v z b) in
+        kept an-atom (depth k) (run-settled (c ∷ u) empty t i n l (ap (scan-at i n c (u ++ w) (counting empty) t) e ∙ h))
+
+  -- and so the scan finds NUMBER with w′ too
+  settled : (u : Bytes) (q : ParserState) (i n : ℕ) → p < i + length u → scan q i n (u ++ w) ≡ refused NUMBER p → scan q i n (u ++ w′) ≡ refused NUMBER p
+  unfolding scan step
+  settled [] q i n l h = absurd (omega (arith, scan-from w q i n p h))
+  settled (c ∷ u) q i n l h =
+      let (q′, e, y) = found q i n c (u ++ w) p h in
+      let (a, b) = kept-in i n c u l (q .0) (q .1) (char-class c) refl h in
+      rw (e, scan) (⊎-elim (λ (f, z). rw (a f) cc) (λ (f, g). rw (b f) (settled u q′ (suc i) _ (omega arith) g)) y)
+
+-- where NUMBER stands in u, it stands so whatever follows u
+pub number-settled : (u w w′ : Bytes) (p : ℕ) → p < length u → length (u ++ w′) ≤ source-limit → outcome (u ++ w) ≡ refused NUMBER p → outcome (u ++ w′) ≡ refused NUMBER p
+number-settled u w w′ p l m h =
+    let x : (length (u ++ w) ≤ source-limit) × _ = ⊎-elim (λ (a, b, c). absurd (omega arith)) (λ x. x) (refused-exactly (u ++ w) NUMBER p .0 h) in
+    refused-exactly (u ++ w′) NUMBER p .1 (inr (m, scan-refused (u ++ w′) NUMBER p .0 (settled w w′ p u start 0 0 (omega arith) (scan-refused (u ++ w) NUMBER p .1 (x .1)))))
