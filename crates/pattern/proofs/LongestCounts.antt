@@ -8,11 +8,11 @@ use Rattle.pattern.specs.Numbers.{point-byte}
 use Rattle.pattern.specs.Bytes.{Bytes, between}
 use Rattle.pattern.specs.Meaning.{Cut}
 use Rattle.pattern.specs.Grammar.{BodyStart, CountChar, digit, point, CharClass, count-char, body-start, branch-end, char-class, Number, Low, missing, given}
-use Rattle.pattern.specs.Parser.{CountState, empty, first, pointed, second, counting, top, ParserState, grow, counted, move, step, start}
+use Rattle.pattern.specs.Parser.{CountState, empty, first, pointed, second, counting, Stack, top, ParserState, grow, counted, move, step, start}
 use Rattle.pattern.specs.ParserInvariant.{state-after, AtomsBefore, AtBranchStart, CountSoFar, StackSoFar, ReadSoFar}
 use Rattle.pattern.specs.Scan.{low, high, longest-count}
 use Rattle.pattern.specs.Within.{Small}
-use Rattle.pattern.specs.Faults.{LongestCount}
+use Rattle.pattern.specs.Faults.{Over, LongestCount}
 use Rattle.pattern.proofs.Tests.{On}
 use Rattle.pattern.proofs.Notation.{ByteIn, class-byte}
 use Rattle.pattern.proofs.TableRows.{BothFit}
@@ -46,11 +46,15 @@ extends (c ∷ s) r u h = go (char-class c) refl (class-byte c) (λ r′ l. exte
     go (body-start b) k e f = ([], c ∷ s, refl, rw append-nil h, λ m i. absurd (let z : _≡_ {A = ℕ} 0 1 = cc in omega arith))
     go (branch-end b) k e f = ([], c ∷ s, refl, rw append-nil h, λ m i. absurd (let z : _≡_ {A = ℕ} 0 1 = cc in omega arith))
 
--- ---- one byte of the run
+-- ---- one byte
 
 pub longest-next : (r r′ : CountState) (m : CountChar) (c : ℕ) (s : Bytes) → char-class c ≡ count-char m → grow r m c ≡ some r′ → longest-count r (c ∷ s) ≡ longest-count r′ s
 unfolding longest-count
 longest-next r r′ m c s e g = rw (e, longest-count) (rw g)
+
+pub count-step : (r r′ : CountState) (m : CountChar) (c : ℕ) → char-class c ≡ count-char m → grow r m c ≡ some r′ → (k : Stack) → step (counting r, k) c ≡ some (counting r′, k)
+unfolding step move counted
+count-step r r′ m c e g k = rw e (rw g)
 
 pub longest-stop : (r : CountState) (b : BodyStart) (c : ℕ) (s : Bytes) → char-class c ≡ body-start b → longest-count r (c ∷ s) ≡ r
 unfolding longest-count
@@ -86,6 +90,14 @@ longest-fit (c ∷ s) r h = go (char-class c) (λ r′. longest-fit s r′) h
     go (count-char m) f h = more (grow r m c) (grow-fit r m c) f h
     go (body-start b) f h = h
     go (branch-end e) f h = h
+
+-- those that end in a number over the limit do not
+pub over-unfit : (r : CountState) → Over r → ¬ BothFit r
+unfolding Over low high Small
+over-unfit empty o h = o
+over-unfit (first n) o (x, y) = omega arith
+over-unfit (pointed n) o h = o
+over-unfit (second n m) o (x, y) = omega arith
 
 -- ---- no longer count
 

@@ -10,25 +10,16 @@ use Rattle.pattern.specs.Numbers.{source-limit, FORM, NUMBER}
 use Rattle.pattern.specs.Bytes.{Bytes}
 use Rattle.pattern.specs.Syntax.{pattern, Syntax, repeat}
 use Rattle.pattern.specs.Grammar.{CountChar, digit, point, CharClass, count-char, body-start, branch-end, char-class}
-use Rattle.pattern.specs.Parser.{CountState, empty, first, pointed, second, Phase, counting, inside, after, Stack, next, ParserState, grow, counted, move, step, finish, start}
-use Rattle.pattern.specs.Scan.{low, high, longest-count, depth, Begins, an-atom, a-digit, a-code, a-group, nothing, begins, begun, refuse, fault, Outcome, refused, accepted, scan, outcome}
-use Rattle.pattern.specs.Within.{Small}
+use Rattle.pattern.specs.Parser.{CountState, empty, first, pointed, second, Phase, counting, inside, after, Stack, next, ParserState, grow, move, step, finish, start}
+use Rattle.pattern.specs.Scan.{longest-count, depth, Begins, an-atom, a-digit, a-code, a-group, nothing, begins, begun, refuse, fault, Outcome, refused, accepted, scan, outcome}
 use Rattle.pattern.specs.Faults.{Over}
-use Rattle.pattern.proofs.TableRows.{refuse-applies, BothFit, unfit-fault}
+use Rattle.pattern.proofs.TableRows.{refuse-applies, unfit-fault}
 use Rattle.pattern.proofs.Least.{scan-refused, refused-exactly}
 use Rattle.pattern.proofs.NumberAt.{InOver, Digitless, no-row, RowRight, move-row}
-use Rattle.pattern.proofs.LongestCounts.{longest-fit}
+use Rattle.pattern.proofs.LongestCounts.{longest-next, count-step, longest-stop, over-unfit, longest-fit}
 use Rattle.pattern.proofs.Accepted.{Rises, atom-pass}
 
--- a count that ends in a number over 9,999 does not fit
-pub over-unfit : (r : CountState) → Over r → ¬ BothFit r
-unfolding Over low high Small
-over-unfit empty o h = o
-over-unfit (first n) o (x, y) = omega arith
-over-unfit (pointed n) o h = o
-over-unfit (second n m) o (x, y) = omega arith
-
--- and so its longest run is no fault of RANGE
+-- the longest run of a count that ends so far in a number over 9,999 is no fault of RANGE
 over-rises : (r : CountState) (s : Bytes) → Over r → Rises (longest-count r s)
 unfolding refuse
 over-rises r s o = atom-pass 0 (longest-count r s) .0 (unfit-fault 0 _ (λ h. over-unfit r o (longest-fit s r h))) .0
@@ -40,16 +31,16 @@ Goes r c =
     ⊎ ((r′ : CountState) × ((s : Bytes) → longest-count r (c ∷ s) ≡ longest-count r′ s) × ((k : Stack) → step (counting r, k) c ≡ some (counting r′, k)))
 
 goes : (r : CountState) (c : ℕ) → Goes r c
-unfolding Goes longest-count step move counted
+unfolding Goes longest-count
 goes r c = go (char-class c) refl
   where
     more : (m : CountChar) → char-class c ≡ count-char m → (o : Option CountState) → grow r m c ≡ o → Goes r c
     more m e none g = inl (λ s. rw (e, longest-count) (rw g))
-    more m e (some r′) g = inr (r′, λ s. rw (e, longest-count) (rw g), λ k. rw (e, step) (rw g))
+    more m e (some r′) g = inr (r′, λ s. longest-next r r′ m c s e g, λ k. count-step r r′ m c e g k)
 
     go : (x : CharClass) → char-class c ≡ x → Goes r c
     go (count-char m) e = more m e (grow r m c) refl
-    go (body-start b) e = inl (λ s. rw (e, longest-count))
+    go (body-start b) e = inl (λ s. longest-stop r b c s e)
     go (branch-end b) e = inl (λ s. rw (e, longest-count))
 
 -- the scan at a byte c of class x
@@ -57,21 +48,21 @@ abbrev scan-at : (i n c : ℕ) → Bytes → Phase → Stack → CharClass → O
 scan-at i n c s a k x =
     elim (move a k x c) [ none ↦ refused FORM i | some q ↦ elim (fault (begins a x) (depth k) n c s) [ some f ↦ refused f i | none ↦ scan q (suc i) (begun (begins a x) n) s ] ]
 
--- NUMBER is found at this byte, or later
-abbrev Found : (i n : ℕ) → Bytes → ℕ → Option ParserState → Option ℕ → Type 0
-Found i n s p o x = (q : ParserState) × (o ≡ some q) × (((x ≡ some NUMBER) × (p ≡ i)) ⊎ ((x ≡ none) × (scan q (suc i) n s ≡ refused NUMBER p)))
+-- NUMBER stands at this byte, or later
+abbrev HereOrLater : (i n : ℕ) → Bytes → ℕ → Option ParserState → Option ℕ → Type 0
+HereOrLater i n s p o x = (q : ParserState) × (o ≡ some q) × (((x ≡ some NUMBER) × (p ≡ i)) ⊎ ((x ≡ none) × (scan q (suc i) n s ≡ refused NUMBER p)))
 
-found : (q : ParserState) (i n c : ℕ) (s : Bytes) (p : ℕ) → scan q i n (c ∷ s) ≡ refused NUMBER p
-    → Found i (begun (begins (q .0) (char-class c)) n) s p (step q c) (fault (begins (q .0) (char-class c)) (depth (q .1)) n c s)
+here-or-later : (q : ParserState) (i n c : ℕ) (s : Bytes) (p : ℕ) → scan q i n (c ∷ s) ≡ refused NUMBER p
+    → HereOrLater i (begun (begins (q .0) (char-class c)) n) s p (step q c) (fault (begins (q .0) (char-class c)) (depth (q .1)) n c s)
 unfolding scan
-found q i n c s p h = go (step q c) _ _ h
+here-or-later q i n c s p h = go (step q c) _ _ h
   where
-    go : (o : Option ParserState) (x : Option ℕ) (n : ℕ) → elim o [ none ↦ refused FORM i | some q ↦ elim x [ some f ↦ refused f i | none ↦ scan q (suc i) n s ] ] ≡ refused NUMBER p → Found i n s p o x
+    go : (o : Option ParserState) (x : Option ℕ) (n : ℕ) → elim o [ none ↦ refused FORM i | some q ↦ elim x [ some f ↦ refused f i | none ↦ scan q (suc i) n s ] ] ≡ refused NUMBER p → HereOrLater i n s p o x
     go none x n h = absurd (let z : FORM ≡ NUMBER = cc in omega arith)
     go (some q) none n h = (q, refl, inr (refl, h))
     go (some q) (some f) n h = (q, refl, inl (cc, cc))
 
--- it is not found before the place where the scan begins
+-- it does not stand before the place where the scan begins
 scan-from : (s : Bytes) (q : ParserState) (i n p : ℕ) → scan q i n s ≡ refused NUMBER p → i ≤ p
 scan-from [] q i n p h = go (finish (q .0) (q .1)) (unfold scan in h)
   where
@@ -79,7 +70,7 @@ scan-from [] q i n p h = go (finish (q .0) (q .1)) (unfold scan in h)
     go none h = absurd (let z : FORM ≡ NUMBER = cc in omega arith)
     go (some t) h = absurd (let z : _≡_ {A = ℕ} 0 1 = cc in omega arith)
 scan-from (c ∷ s) q i n p h =
-    let (q′, e, x) = found q i n c s p h in
+    let (q′, e, x) = here-or-later q i n c s p h in
     ⊎-elim (λ (f, y). omega arith) (λ (f, y). let l = scan-from s q′ (suc i) _ p y in omega arith) x
 
 module _ (w w′ : Bytes) (p : ℕ) where
@@ -89,7 +80,7 @@ module _ (w w′ : Bytes) (p : ℕ) where
   unfolding Goes RowRight InOver step fault
   run-settled [] r k i n l h f = absurd (omega (arith, scan-from w (counting r, k) i n p h))
   run-settled (c ∷ u) r k i n l h f =
-      let (q, e, y) = found (counting r, k) i n c (u ++ w) p h in
+      let (q, e, y) = here-or-later (counting r, k) i n c (u ++ w) p h in
       let row = move-row (depth k) n c (u ++ w) (counting r) k (char-class c) refl in
       ⊎-elim (λ a. rw (a (u ++ w′)) (rw (a (u ++ w)) at f)) (λ (r′, a, b).
       let d : q ≡ (counting r′, k) = let z = b k in cc in
@@ -130,7 +121,7 @@ module _ (w w′ : Bytes) (p : ℕ) where
   unfolding scan step
   settled [] q i n l h = absurd (omega (arith, scan-from w q i n p h))
   settled (c ∷ u) q i n l h =
-      let (q′, e, y) = found q i n c (u ++ w) p h in
+      let (q′, e, y) = here-or-later q i n c (u ++ w) p h in
       let (a, b) = kept-in i n c u l (q .0) (q .1) (char-class c) refl h in
       rw (e, scan) (⊎-elim (λ (f, z). rw (a f) cc) (λ (f, g). rw (b f) (settled u q′ (suc i) _ (omega arith) g)) y)
 

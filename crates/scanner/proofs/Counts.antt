@@ -13,17 +13,15 @@ use lib.Seq.{drop-cons}
 use borrow.Author.Tests.{lt-ltb, le-ltb, leb-false}
 use Rattle.pattern.specs.Numbers.{number-limit, atom-limit, open-high, FORM, NUMBER, RANGE, ATOMS}
 use Rattle.pattern.specs.Bytes.{Bytes}
-use Rattle.pattern.specs.Within.{Small}
 use Rattle.pattern.specs.Table.{high-field}
 use Rattle.pattern.specs.Repeats.{repeat-of}
 use Rattle.pattern.specs.Grammar.{CountChar, digit, point, CharClass, count-char, body-start, branch-end}
 use Rattle.pattern.specs.Parser.{CountState, empty, first, pointed, second, counting, Stack, grow, move, step, finish}
 use Rattle.pattern.specs.Scan.{low, high, longest-count, falls, refuse, atom-rows, Outcome, refused}
-use Rattle.pattern.specs.Faults.{Over}
 use Rattle.pattern.specs.declared.repeat.Repeat.{Repeat}
 use Rattle.pattern.proofs.Tests.{le-or-lt}
 use Rattle.pattern.proofs.TableRows.{BothFit, fit-fault, unfit-fault}
-use Rattle.pattern.proofs.LongestCounts.{longest-fit}
+use Rattle.pattern.proofs.LongestCounts.{over-unfit, longest-fit}
 use Rattle.scanner.specs.declared.cursor.Cursor.{Cursor}
 use Rattle.scanner.specs.declared.cursor.Point.{Point}
 use Rattle.scanner.specs.declared.cursor.Point.the-variants as points
@@ -38,14 +36,6 @@ use Rattle.scanner.specs.Scans.{scanned}
 use Rattle.scanner.specs.Counts.{CountNumber, the-first, the-second, tested, Runs, Exceeds, DigitsAre, DigitsPost, within-atoms, judged, CountPost, CountReadPost, AfterPointPost}
 use Rattle.scanner.proofs.Steps.{stuck, short}
 use Rattle.scanner.proofs.Runs.{runs-point, point-more, then-reaches}
-
--- the longest run of a count with a number over the limit is no range
-over-unfit : (r : CountState) → Over r → ¬ BothFit r
-unfolding Over low high Small
-over-unfit empty o h = o
-over-unfit (first n) o (x, y) = omega arith
-over-unfit (pointed n) o h = o
-over-unfit (second n m) o (x, y) = omega arith
 
 -- a count that has begun
 Begun : CountState → Type 0

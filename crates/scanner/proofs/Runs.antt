@@ -10,23 +10,18 @@ use borrow.Author.Tests.{lt-ltb, le-ltb}
 use Rattle.pattern.specs.Numbers.{number-limit, NUMBER}
 use Rattle.pattern.specs.Bytes.{Bytes}
 use Rattle.pattern.specs.Grammar.{CountChar, digit, point, count-char}
-use Rattle.pattern.specs.Parser.{CountState, empty, first, pointed, second, counting, Stack, grow, counted, move, step}
+use Rattle.pattern.specs.Parser.{CountState, empty, first, pointed, second, counting, Stack, grow, step}
 use Rattle.pattern.specs.Scan.{longest-count, begins, begun, refuse, atom-rows, rows, fault, Outcome, refused}
 use Rattle.pattern.specs.Faults.{Over}
-use Rattle.pattern.proofs.LongestCounts.{longest-next}
+use Rattle.pattern.proofs.LongestCounts.{longest-next, count-step}
 use Rattle.scanner.specs.Places.{class-at}
 use Rattle.scanner.specs.Scans.{scanned}
 use Rattle.scanner.specs.Counts.{CountNumber, the-first, the-second, valued, begun-with, tested, Reaches, Runs, Exceeds}
 use Rattle.scanner.proofs.Steps.{fault-here, begun-here, stepped, onward, faulty}
 
--- a byte that belongs to a count
-module _ (s : Bytes) (j : ℕ) (l : j < length s) (m : CountChar) (e : class-at s j ≡ count-char m) (r r′ : CountState) (g : grow r m (getD s j 0) ≡ some r′) where
-  longest-on : longest-count r (drop j s) ≡ longest-count r′ (drop (suc j) s)
-  longest-on = rw (drop-cons s j 0 l) (longest-next r r′ m (getD s j 0) (drop (suc j) s) e g)
-
-  count-step : (k : Stack) → step (counting r, k) (getD s j 0) ≡ some (counting r′, k)
-  unfolding step move counted
-  count-step k = rw e (rw g)
+-- the longest run over a byte that belongs to it
+longest-on : (s : Bytes) (j : ℕ) → j < length s → (m : CountChar) → class-at s j ≡ count-char m → (r r′ : CountState) → grow r m (getD s j 0) ≡ some r′ → longest-count r (drop j s) ≡ longest-count r′ (drop (suc j) s)
+longest-on s j l m e r r′ g = rw (drop-cons s j 0 l) (longest-next r r′ m (getD s j 0) (drop (suc j) s) e g)
 
 -- a count begins at place j
 module _ (s : Bytes) (j : ℕ) (l : j < length s) (m : CountChar) (e : class-at s j ≡ count-char m) where
@@ -42,7 +37,7 @@ module _ (s : Bytes) (j : ℕ) (l : j < length s) (m : CountChar) (e : class-at 
   unfolding tested
   runs-begin r g = record {
     longest = longest-on s j l m e empty r g;
-    scan = λ k n. stepped s j n l (counting empty, k) (counting r, k) (count-step s j l m e empty r g k)
+    scan = λ k n. stepped s j n l (counting empty, k) (counting r, k) (count-step empty r m (getD s j 0) e g k)
         ∙ ap₂ (λ (o : Option ℕ) (b : ℕ). elim o [ some f ↦ refused f j | none ↦ scanned s (counting r, k) (suc j) b ]) (first-fault k n) (first-begun k n);
   }
 
@@ -57,7 +52,7 @@ module _ (s : Bytes) (j : ℕ) (l : j < length s) (e : class-at s j ≡ count-ch
   runs-start the-first = runs-begin s j l digit e (first d) refl
   runs-start (the-second x) = record {
     longest = longest-on s j l digit e (pointed x) (second x d) refl;
-    scan = λ k n. onward s j n l (counting (pointed x), k) (counting (second x d), k) (count-step s j l digit e (pointed x) (second x d) refl k) (rw e) (rw e);
+    scan = λ k n. onward s j n l (counting (pointed x), k) (counting (second x d), k) (count-step (pointed x) (second x d) digit (getD s j 0) e refl k) (rw e) (rw e);
   }
 
   -- one more of a number with value v
@@ -81,7 +76,7 @@ module _ (s : Bytes) (j : ℕ) (l : j < length s) (e : class-at s j ≡ count-ch
     digit-begun (the-second x) k n = rw e
 
     next-step : (w : CountNumber) (k : Stack) → step (counting (valued w v), k) (getD s j 0) ≡ some (counting (valued w value), k)
-    next-step w k = count-step s j l digit e (valued w v) (valued w value) (grows w) k
+    next-step w k = count-step (valued w v) (valued w value) digit (getD s j 0) e (grows w) k
 
     module _ (i : ℕ) (w : CountNumber) (h : Runs s w i (valued w v) j) where
       digit-reaches : (o : Stack → ℕ → Outcome) → ((k : Stack) (n : ℕ) → scanned s (counting (valued w v), k) j n ≡ o k n) → Reaches s w i (valued w value) (suc j) o
@@ -116,7 +111,7 @@ module _ (s : Bytes) (j : ℕ) (l : j < length s) (e : class-at s j ≡ count-ch
   unfolding grow fault rows refuse begins begun
   point-more i v h = record {
     longest = h .longest ∙ longest-on s j l point e (first v) (pointed v) refl;
-    scan = λ k n. h .scan k n ∙ ap (tested the-first s i n) (onward s j _ l (counting (first v), k) (counting (pointed v), k) (count-step s j l point e (first v) (pointed v) refl k) (rw e) (rw e));
+    scan = λ k n. h .scan k n ∙ ap (tested the-first s i n) (onward s j _ l (counting (first v), k) (counting (pointed v), k) (count-step (first v) (pointed v) point (getD s j 0) e refl k) (rw e) (rw e));
   }
 
 -- a second number after what came before it
