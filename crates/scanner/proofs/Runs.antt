@@ -20,7 +20,8 @@ use Rattle.scanner.specs.Counts.{CountNumber, the-first, the-second, val
 use Rattle.scanner.proofs.Steps.{fault-here, begun-here, stepped, onward, faulty}
 
 -- the longest run over a byte that belongs to it
-longest-on : (s : Bytes) (j : ℕ) → j < length s → (m : CountChar) → class-at s j ≡ count-char m → (r r′ : CountState) → grow r m (getD s j 0) ≡ some r′ → longest-count r (drop j s) ≡ longest-count r′ (drop (suc j) s)
+longest-on : (s : Bytes) (j : ℕ) → j < length s → (m : CountChar) → class-at s j ≡ count-char m → (r r′ : CountState) → grow r m (getD s j 0) ≡ some r′
+    → longest-count r (drop j s) ≡ longest-count r′ (drop (suc j) s)
 longest-on s j l m e r r′ g = rw (drop-cons s j 0 l) (longest-next r r′ m (getD s j 0) (drop (suc j) s) e g)
 
 -- a count begins at place j
