@@ -121,7 +121,7 @@ module _ (d n c : ℕ) (s : Bytes) where
   move-row (after l h b) k (branch-end x) e = leave-row k _ x
 
 -- the same for the rows in a state
-no-form : ¬ Applies form-row NUMBER
+pub no-form : ¬ Applies form-row NUMBER
 unfolding Applies
 no-form a = ⊎-elim (λ (x, y). omega arith) (λ b. b) a
 

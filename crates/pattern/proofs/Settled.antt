@@ -1,21 +1,25 @@
--- NUMBER is settled by its digit: what follows does not matter. Assumes nothing.
+-- NUMBER is settled by its digit: with it what follows does not matter, without it there is none. Assumes nothing.
 use mathlib.Core.Path.{_≡_, refl, ap, _∙_}
 use mathlib.Core.Logic.{_⊎_, inl, inr, ⊎-elim}
-use mathlib.Core.List.{[], _∷_, _++_}
+use mathlib.Core.Bool.{Bool}
+use mathlib.Core.List.{List, [], _∷_, _++_}
 use mathlib.Core.Option.{Option, none, some}
 use Prim.Native.Nat.{ℕ, suc, _+_, _≤_, _<_}
 use native.Mathlib.Omega.{arith}
-use lib.ListN.{length}
+use lib.ListN.{length, take, length-append}
+use lib.Seq.{length-take-le, take-append-le, take-take, take-at, drop-at}
 use Rattle.pattern.specs.Numbers.{source-limit, FORM, NUMBER}
 use Rattle.pattern.specs.Bytes.{Bytes}
 use Rattle.pattern.specs.Syntax.{pattern, Syntax, repeat}
-use Rattle.pattern.specs.Grammar.{CountChar, digit, point, CharClass, count-char, body-start, branch-end, char-class}
+use Rattle.pattern.specs.Grammar.{letter, CountChar, digit, point, CharClass, count-char, body-start, branch-end, char-class}
 use Rattle.pattern.specs.Parser.{CountState, empty, first, pointed, second, Phase, counting, inside, after, Stack, next, ParserState, grow, move, step, finish, start}
-use Rattle.pattern.specs.Scan.{longest-count, depth, Begins, an-atom, a-digit, a-code, a-group, nothing, begins, begun, refuse, fault, Outcome, refused, accepted, scan, outcome}
-use Rattle.pattern.specs.Faults.{Over}
+use Rattle.pattern.specs.Scan.{longest-count, depth, Begins, an-atom, a-digit, a-code, a-group, nothing, body-begins, begins, begun, refuse, rows, fault, Outcome, refused, accepted, scan, outcome}
+use Rattle.pattern.specs.ParserInvariant.{state-after, begun-at}
+use Rattle.pattern.specs.Faults.{Over, NumberAt, form-row, rows-there, rows-at, Applies}
+use Rattle.pattern.proofs.Tests.{below-suc}
 use Rattle.pattern.proofs.TableRows.{refuse-applies, unfit-fault}
 use Rattle.pattern.proofs.Least.{scan-refused, refused-exactly}
-use Rattle.pattern.proofs.NumberAt.{InOver, Digitless, no-row, RowRight, move-row}
+use Rattle.pattern.proofs.NumberAt.{InOver, Digitless, no-row, RowRight, move-row, no-form, number-exactly, number-first}
 use Rattle.pattern.proofs.LongestCounts.{longest-next, count-step, longest-stop, over-unfit, longest-fit}
 use Rattle.pattern.proofs.Accepted.{Rises, atom-pass}
 
@@ -130,3 +134,37 @@ pub number-settled : (u w w′ : Bytes) (p : ℕ) → p < length u → length (u
 number-settled u w w′ p l m h =
     let x : (length (u ++ w) ≤ source-limit) × _ = ⊎-elim (λ (a, b, c). absurd (omega arith)) (λ x. x) (refused-exactly (u ++ w) NUMBER p .0 h) in
     refused-exactly (u ++ w′) NUMBER p .1 (inr (m, scan-refused (u ++ w′) NUMBER p .0 (settled w w′ p u start 0 0 (omega arith) (scan-refused (u ++ w) NUMBER p .1 (x .1)))))
+
+-- a letter is no place of NUMBER
+letter-row : (q : Phase) (d n c : ℕ) (s : Bytes) → char-class c ≡ body-start letter → ¬ Applies (rows (begins q (char-class c)) d n c s) NUMBER
+unfolding begins body-begins Digitless
+letter-row (counting r) d n c s e = rw e (no-row a-code d n c s tt)
+letter-row (inside l h v) d n c s e = no-row nothing d n c s tt
+letter-row (after l h b) d n c s e = rw e (no-row a-code d n c s tt)
+
+letter-there : (o : Option ParserState) (c : ℕ) → char-class c ≡ body-start letter → ¬ Applies (rows-there o (c ∷ [])) NUMBER
+unfolding rows-there
+letter-there none c e = λ a. unfold Applies in a
+letter-there (some q) c e = go (step q c) _ (letter-row (q .0) (depth (q .1)) (begun-at (q .0) (q .1)) c [] e)
+  where
+    go : (o : Option ParserState) (rs : List (Bool × ℕ)) → ¬ Applies rs NUMBER → ¬ Applies (elim o [ none ↦ form-row | some q ↦ rs ]) NUMBER
+    go none rs f = no-form
+    go (some q) rs f = f
+
+-- without its digit, and with a letter there, NUMBER stands nowhere
+pub number-needed : (s : Bytes) (p j c : ℕ) → char-class c ≡ body-start letter → outcome s ≡ refused NUMBER p → ¬ (outcome (take p s ++ c ∷ []) ≡ refused NUMBER j)
+unfolding NumberAt rows-at
+number-needed s p j c e g h =
+    let (x, f) = number-first s p g in
+    let (y, z) = number-first (take p s ++ c ∷ []) j h in
+    let n : length (take p s) ≡ p = length-take-le p s (omega (arith, x .0)) in
+    let l : j < suc p = omega (arith, y .0, length-append (take p s) (c ∷ [])) in
+    ⊎-elim
+    (λ (d : j ≡ p).
+    let a : Applies (rows-at (take p s ++ c ∷ []) p) NUMBER = number-exactly (take p s ++ c ∷ []) p .1 (rw d at y) in
+    letter-there (state-after start (take p s)) c e (rw (take-at (take p s) (c ∷ []) p n, drop-at (take p s) (c ∷ []) p n) at a))
+    (λ (d : j < p).
+    let t : take (suc j) (take p s ++ c ∷ []) ≡ take (suc j) s = take-append-le (suc j) (take p s) (c ∷ []) (omega arith) ∙ take-take (suc j) p s d in
+    let (b, r, k, o, q) = y in
+    f j d (omega (arith, x .0), r, k, o, rw t at q))
+    (below-suc l)

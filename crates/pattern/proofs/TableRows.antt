@@ -1,4 +1,4 @@
--- The scan's fault in a state is the lowest of the refusal table's rows that apply there. Assumes nothing.
+-- The scan's fault in a state is the lowest of the refusal table's rows that apply there; those of an atom, by whether its numbers fit. Assumes nothing.
 use mathlib.Core.Path.{_≡_, refl, ap, _∙_}
 use mathlib.Core.Logic.{_⊎_, inl, inr, ⊎-elim}
 use mathlib.Core.Bool.{Bool, true, false, not, _&&_}

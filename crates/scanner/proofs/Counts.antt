@@ -8,6 +8,7 @@ use Prim.Native.Nat.{ℕ, suc, _≤_, _<_}
 use native.Mathlib.Nat.{eq-or-lt-of-le}
 use native.Mathlib.Omega.{arith}
 use lib.Dec.{leb, ltb}
+use lib.Arith.{lt-of-le-ne}
 use lib.ListN.{length, drop, getD, drop-of-length-le}
 use lib.Seq.{drop-cons}
 use borrow.Author.Tests.{lt-ltb, le-ltb, leb-false}
@@ -26,16 +27,16 @@ use Rattle.scanner.specs.declared.cursor.Cursor.{Cursor}
 use Rattle.scanner.specs.declared.cursor.Point.{Point}
 use Rattle.scanner.specs.declared.cursor.Point.the-variants as points
 use Rattle.scanner.specs.declared.count.DigitsRead.{DigitsRead}
-use Rattle.scanner.specs.declared.count.DigitsRead.the-variants as digits
+use Rattle.scanner.specs.declared.count.DigitsRead.the-variants as digits-read
 use Rattle.scanner.specs.declared.count.CountRead.{CountRead}
-use Rattle.scanner.specs.declared.count.CountRead.the-variants as read
+use Rattle.scanner.specs.declared.count.CountRead.the-variants as count-read
 use Rattle.scanner.specs.declared.count.CountResult.{CountResult}
 use Rattle.scanner.specs.declared.count.CountResult.the-variants as counted
 use Rattle.scanner.specs.Places.{Onward, class-at, ClassIs, ClassNot, PointPost}
 use Rattle.scanner.specs.Scans.{scanned}
-use Rattle.scanner.specs.Counts.{CountNumber, the-first, the-second, tested, Runs, Exceeds, DigitsAre, DigitsPost, within-atoms, judged, CountPost, CountReadPost, AfterPointPost}
+use Rattle.scanner.specs.Counts.{CountNumber, the-first, the-second, tested, GoesOn, Exceeds, DigitsAre, DigitsPost, within-atoms, judged, CountPost, CountReadPost, AfterPointPost}
 use Rattle.scanner.proofs.Steps.{stuck, short}
-use Rattle.scanner.proofs.Runs.{runs-point, point-more, then-reaches}
+use Rattle.scanner.proofs.Reaches.{point-begins, point-goes-on, then-reaches}
 
 -- a count that has begun
 Begun : CountState → Type 0
@@ -84,15 +85,15 @@ module _ (s : Bytes) (i n : ℕ) where
   unfolding tested
   tested-as x o e = ap (λ (y : Option ℕ). elim y [ none ↦ o | some f ↦ refused f i ]) e
 
-  large-right : (p : ℕ) → Exceeds s the-first i p → CountPost s i n (judged n i (read.Large p))
+  large-right : (p : ℕ) → Exceeds s the-first i p → CountPost s i n (judged n i (count-read.Large p))
   unfolding judged
   large-right p h =
       let u : ¬ BothFit (longest-count empty (drop i s)) = λ f. over-unfit (h .state) (h .over) (longest-fit (drop (suc p) s) (h .state) (rw (h .reaches .longest) at f)) in
       atoms-tested (λ k. refused NUMBER p) (counted.Fault NUMBER p) (λ k. h .reaches .scan k n ∙ tested-as _ _ (unfit-fault n _ u)) (λ l f. refused-here NUMBER p f)
 
-  repeat-right : (r : CountState) (end : Cursor) → Begun r → Runs s the-first i r (end .at) → low r ≤ number-limit → Onward s i end
+  repeat-right : (r : CountState) (end : Cursor) → Begun r → GoesOn s the-first i r (end .at) → low r ≤ number-limit → Onward s i end
       → ((m : CountChar) → end .at < length s → class-at s (end .at) ≡ count-char m → grow r m (getD s (end .at) 0) ≡ none)
-      → CountPost s i n (judged n i (read.Repeat (repeat-of (low r) (high r)) end))
+      → CountPost s i n (judged n i (count-read.Repeat (repeat-of (low r) (high r)) end))
   unfolding judged Begun
   repeat-right r end d h f o t =
       let l : longest-count empty (drop i s) ≡ r = h .longest ∙ longest-here s (end .at) r t in
@@ -107,55 +108,52 @@ module _ (s : Bytes) (i n : ℕ) where
 
 -- what the reader of digits found
 module _ (s : Bytes) (i : ℕ) (a : DigitsRead) (post : DigitsPost s i a) where
-  read-large : (p : ℕ) → a ≡ digits.Large p → (w : CountNumber) → Exceeds s w i p
+  read-large : (p : ℕ) → a ≡ digits-read.Large p → (w : CountNumber) → Exceeds s w i p
   unfolding DigitsPost
   read-large p e = subst (λ a. DigitsPost s i a) e post
 
-  read-number : (v : ℕ) (end : Cursor) → a ≡ digits.Number v end → DigitsAre s i v (end .at) × ClassNot s (end .at) (count-char digit)
+  read-number : (v : ℕ) (end : Cursor) → a ≡ digits-read.Number v end → DigitsAre s i v (end .at) × ClassNot s (end .at) (count-char digit)
   unfolding DigitsPost
   read-number v end e = subst (λ a. DigitsPost s i a) e post
 
 -- after the point, which is before place j
 module _ (s : Bytes) (j x : ℕ) (a : DigitsRead) (post : DigitsPost s j a) where
-  pub second-large : (p : ℕ) → a ≡ digits.Large p → AfterPointPost s j x (read.Large p)
+  pub second-large : (p : ℕ) → a ≡ digits-read.Large p → AfterPointPost s j x (count-read.Large p)
   unfolding AfterPointPost CountReadPost
   second-large p e = λ i l f h n.
       let g = read-large s j a post p e (the-second x) in
       large-right s i n p (record { state = g .state; over = g .over; reaches = then-reaches s i x j h (g .state) (suc p) _ (g .reaches) })
 
-  module _ (v : ℕ) (end : Cursor) (e : a ≡ digits.Number v end) (rep : Repeat) where
+  module _ (v : ℕ) (end : Cursor) (e : a ≡ digits-read.Number v end) (rep : Repeat) where
     there : DigitsAre s j v (end .at) × ClassNot s (end .at) (count-char digit)
     there = read-number s j a post v end e
 
     past : (i : ℕ) → i < j → Onward s i end
     past i l = let (d, z) = there in record { on = omega (arith, d .on); within = d .within }
 
-    pub count-open : end .at ≡ j → rep ≡ repeat-of x none → AfterPointPost s j x (read.Repeat rep end)
-    unfolding AfterPointPost CountReadPost low high Begun
-    count-open y g = λ i l f h n. rw g (repeat-right s i n (pointed x) end tt (rw y h) f (past i l) stops)
-      where
-        stops : (c : CountChar) → end .at < length s → class-at s (end .at) ≡ count-char c → grow (pointed x) c (getD s (end .at) 0) ≡ none
-        stops digit l k = absurd (there .1 .not l k)
-        stops point l k = unfold grow in refl
+    -- no point goes on with a count that has one
+    stops : (r : CountState) → grow r point (getD s (end .at) 0) ≡ none → (m : CountChar) → end .at < length s → class-at s (end .at) ≡ count-char m → grow r m (getD s (end .at) 0) ≡ none
+    stops r f digit l k = absurd (there .1 .not l k)
+    stops r f point l k = f
 
-    pub count-closed : ¬ (end .at ≡ j) → rep ≡ repeat-of x (some v) → AfterPointPost s j x (read.Repeat rep end)
+    pub count-open : end .at ≡ j → rep ≡ repeat-of x none → AfterPointPost s j x (count-read.Repeat rep end)
+    unfolding AfterPointPost CountReadPost low high Begun
+    count-open y g = λ i l f h n. rw g (repeat-right s i n (pointed x) end tt (rw y h) f (past i l) (stops (pointed x) (unfold grow in refl)))
+
+    pub count-closed : ¬ (end .at ≡ j) → rep ≡ repeat-of x (some v) → AfterPointPost s j x (count-read.Repeat rep end)
     unfolding AfterPointPost CountReadPost low high Begun
     count-closed y g = λ i l f h n.
         let (d, z) = there in
-        let m : j < end .at = ⊎-elim (λ z. absurd (y (sym z))) (λ z. z) (eq-or-lt-of-le (d .on)) in
-        rw g (repeat-right s i n (second x v) end tt (then-reaches s i x j h (second x v) (end .at) _ (d .runs m (the-second x))) f (past i l) stops)
-      where
-        stops : (c : CountChar) → end .at < length s → class-at s (end .at) ≡ count-char c → grow (second x v) c (getD s (end .at) 0) ≡ none
-        stops digit l k = absurd (there .1 .not l k)
-        stops point l k = unfold grow in refl
+        let m : j < end .at = lt-of-le-ne (d .on) (λ z. y (sym z)) in
+        rw g (repeat-right s i n (second x v) end tt (then-reaches s i x j h (second x v) (end .at) _ (d .goes-on m (the-second x))) f (past i l) (stops (second x v) (unfold grow in refl)))
 
 -- from the first byte
 module _ (s : Bytes) (i : ℕ) (a : DigitsRead) (post : DigitsPost s i a) where
-  pub first-large : (p : ℕ) → a ≡ digits.Large p → CountReadPost s i (read.Large p)
+  pub first-large : (p : ℕ) → a ≡ digits-read.Large p → CountReadPost s i (count-read.Large p)
   unfolding CountReadPost
   first-large p e = λ n. large-right s i n p (read-large s i a post p e the-first)
 
-  module _ (v : ℕ) (end : Cursor) (e : a ≡ digits.Number v end) (y : Point) (point-post : PointPost s (end .at) y) where
+  module _ (v : ℕ) (end : Cursor) (e : a ≡ digits-read.Number v end) (y : Point) (point-post : PointPost s (end .at) y) where
     here : DigitsAre s i v (end .at) × ClassNot s (end .at) (count-char digit)
     here = read-number s i a post v end e
 
@@ -165,7 +163,7 @@ module _ (s : Bytes) (i : ℕ) (a : DigitsRead) (post : DigitsPost s i a) where
       no-point = subst (λ y. PointPost s (end .at) y) f point-post
 
       -- no count at all
-      pub count-none : end .at ≡ i → CountReadPost s i read.None
+      pub count-none : end .at ≡ i → CountReadPost s i count-read.None
       unfolding CountReadPost judged step finish
       count-none g = λ n.
           let u : ClassNot s i (count-char digit) = rw g at (here .1) in
@@ -178,12 +176,12 @@ module _ (s : Bytes) (i : ℕ) (a : DigitsRead) (post : DigitsPost s i a) where
           go (body-start b) u w k = unfold move in refl
           go (branch-end b) u w k = unfold move in refl
 
-      pub count-exact : (rep : Repeat) → ¬ (end .at ≡ i) → rep ≡ repeat-of v (some v) → CountReadPost s i (read.Repeat rep end)
+      pub count-exact : (rep : Repeat) → ¬ (end .at ≡ i) → rep ≡ repeat-of v (some v) → CountReadPost s i (count-read.Repeat rep end)
       unfolding CountReadPost low high Begun
       count-exact rep g h = λ n.
           let (d, z) = here in
-          let l : i < end .at = ⊎-elim (λ x. absurd (g (sym x))) (λ x. x) (eq-or-lt-of-le (d .on)) in
-          rw h (repeat-right s i n (first v) end tt (d .runs l the-first) (d .fits) (record { on = l; within = d .within }) stops)
+          let l : i < end .at = lt-of-le-ne (d .on) (λ x. g (sym x)) in
+          rw h (repeat-right s i n (first v) end tt (d .goes-on l the-first) (d .fits) (record { on = l; within = d .within }) stops)
         where
           stops : (m : CountChar) → end .at < length s → class-at s (end .at) ≡ count-char m → grow (first v) m (getD s (end .at) 0) ≡ none
           stops digit l k = absurd (here .1 .not l k)
@@ -197,22 +195,22 @@ module _ (s : Bytes) (i : ℕ) (a : DigitsRead) (post : DigitsPost s i a) where
       pub point-within : next .at ≤ length s
       point-within = let k = point-here in omega (arith, k .within, k .past)
 
-      pointed-runs : Runs s the-first i (pointed v) (next .at)
-      pointed-runs =
+      pointed-goes-on : GoesOn s the-first i (pointed v) (next .at)
+      pointed-goes-on =
           let (d, z) = here in
           let k = point-here in
           rw (k .past) (⊎-elim
-          (λ (g : i ≡ end .at). rw (d .missing (sym g), g) (runs-point s (end .at) (k .within) (k .kind)))
-          (λ l. point-more s (end .at) (k .within) (k .kind) i v (d .runs l the-first))
+          (λ (g : i ≡ end .at). rw (d .missing (sym g), g) (point-begins s (end .at) (k .within) (k .kind)))
+          (λ l. point-goes-on s (end .at) (k .within) (k .kind) i v (d .goes-on l the-first))
           (eq-or-lt-of-le (d .on)))
 
       pub count-pointed : (r : CountRead) → AfterPointPost s (next .at) v r → CountReadPost s i r
       unfolding AfterPointPost
-      count-pointed r h = let (d, z) = here in let k = point-here in h i (omega (arith, d .on, k .past)) (d .fits) pointed-runs
+      count-pointed r h = let (d, z) = here in let k = point-here in h i (omega (arith, d .on, k .past)) (d .fits) pointed-goes-on
 
 -- the cases of what was read
 module _ (n start : ℕ) (r : CountRead) where
-  module _ (rep : Repeat) (end : Cursor) (e : r ≡ read.Repeat rep end) where
+  module _ (rep : Repeat) (end : Cursor) (e : r ≡ count-read.Repeat rep end) where
     pub judged-range : rep .high < rep .low → counted.Fault RANGE start ≡ judged n start r
     unfolding judged
     judged-range h = rw e (simp (lt-ltb (rep .high) (rep .low) h))
@@ -221,10 +219,10 @@ module _ (n start : ℕ) (r : CountRead) where
     unfolding judged
     judged-repeat h = rw e (simp (le-ltb (rep .high) (rep .low) h))
 
-  pub judged-large : (p : ℕ) → r ≡ read.Large p → within-atoms n start (counted.Fault NUMBER p) ≡ judged n start r
+  pub judged-large : (p : ℕ) → r ≡ count-read.Large p → within-atoms n start (counted.Fault NUMBER p) ≡ judged n start r
   unfolding judged
   judged-large p e = rw e
 
-  pub judged-none : r ≡ read.None → counted.Fault FORM start ≡ judged n start r
+  pub judged-none : r ≡ count-read.None → counted.Fault FORM start ≡ judged n start r
   unfolding judged
   judged-none e = rw e

@@ -2,6 +2,6 @@ pub mod Places
 pub mod Steps
 mod Texts
 mod Bodies
-mod Runs
+mod Reaches
 mod Digits
 mod Counts

@@ -15,9 +15,9 @@ use Rattle.pattern.specs.Faults.{Over}
 use Rattle.pattern.specs.declared.repeat.Repeat.{Repeat}
 use Rattle.scanner.specs.declared.cursor.Cursor.{Cursor}
 use Rattle.scanner.specs.declared.count.DigitsRead.{DigitsRead}
-use Rattle.scanner.specs.declared.count.DigitsRead.the-variants as digits
+use Rattle.scanner.specs.declared.count.DigitsRead.the-variants as digits-read
 use Rattle.scanner.specs.declared.count.CountRead.{CountRead}
-use Rattle.scanner.specs.declared.count.CountRead.the-variants as read
+use Rattle.scanner.specs.declared.count.CountRead.the-variants as count-read
 use Rattle.scanner.specs.declared.count.CountResult.{CountResult}
 use Rattle.scanner.specs.declared.count.CountResult.the-variants as counted
 use Rattle.scanner.specs.Places.{Onward, class-at, ClassNot}
@@ -54,8 +54,8 @@ pub record Reaches (s : Bytes) (w : CountNumber) (i : ℕ) (r : CountState) (j :
   pub scan : (k : Stack) (n : ℕ) → scanned s (counting (awaiting w), k) i n ≡ tested w s i n (o k (begun-with w n))
 
 -- the scan goes on there in that state
-abbrev pub Runs : Bytes → CountNumber → ℕ → CountState → ℕ → Type 0
-Runs s w i r j = Reaches s w i r j (λ k n. scanned s (counting r, k) j n)
+abbrev pub GoesOn : Bytes → CountNumber → ℕ → CountState → ℕ → Type 0
+GoesOn s w i r j = Reaches s w i r j (λ k n. scanned s (counting r, k) j n)
 
 -- the digit at place p takes a number of the count over the limit
 pub record Exceeds (s : Bytes) (w : CountNumber) (i p : ℕ) : Type 0 where
@@ -69,20 +69,20 @@ pub record DigitsAre (s : Bytes) (i v j : ℕ) : Type 0 where
   pub missing : j ≡ i → v ≡ 0
   pub on : i ≤ j
   pub within : j ≤ length s
-  pub runs : i < j → (w : CountNumber) → Runs s w i (valued w v) j
+  pub goes-on : i < j → (w : CountNumber) → GoesOn s w i (valued w v) j
 
 unfoldable pub DigitsPost : Bytes → ℕ → DigitsRead → Type 0
-DigitsPost s i (digits.Number v next) = DigitsAre s i v (next .at) × ClassNot s (next .at) (count-char digit)
-DigitsPost s i (digits.Large p) = (w : CountNumber) → Exceeds s w i p
+DigitsPost s i (digits-read.Number v next) = DigitsAre s i v (next .at) × ClassNot s (next .at) (count-char digit)
+DigitsPost s i (digits-read.Large p) = (w : CountNumber) → Exceeds s w i p
 
 unfoldable pub within-atoms : (n start : ℕ) → CountResult → CountResult
 within-atoms n start found = cond (leb atom-limit n) (counted.Fault ATOMS start) found
 
 -- the refusals of what was read, in their order
 unfoldable pub judged : (n start : ℕ) → CountRead → CountResult
-judged n start (read.Repeat rep end) = cond (ltb (rep .high) (rep .low)) (counted.Fault RANGE start) (within-atoms n start (counted.Repeat rep end))
-judged n start (read.Large p) = within-atoms n start (counted.Fault NUMBER p)
-judged n start read.None = counted.Fault FORM start
+judged n start (count-read.Repeat rep end) = cond (ltb (rep .high) (rep .low)) (counted.Fault RANGE start) (within-atoms n start (counted.Repeat rep end))
+judged n start (count-read.Large p) = within-atoms n start (counted.Fault NUMBER p)
+judged n start count-read.None = counted.Fault FORM start
 
 -- the scan goes on after the longest run
 pub record CountIs (s : Bytes) (i n : ℕ) (rep : Repeat) (next : Cursor) : Type 0 where
@@ -107,4 +107,4 @@ CountReadPost s i r = (n : ℕ) → CountPost s i n (judged n i r)
 
 -- of whatever count comes to place j with its point
 unfoldable pub AfterPointPost : Bytes → (j low : ℕ) → CountRead → Type 0
-AfterPointPost s j low r = (i : ℕ) → i < j → low ≤ number-limit → Runs s the-first i (pointed low) j → CountReadPost s i r
+AfterPointPost s j low r = (i : ℕ) → i < j → low ≤ number-limit → GoesOn s the-first i (pointed low) j → CountReadPost s i r

@@ -67,6 +67,7 @@ fn after_point(s: &[u8], c: Cursor, low: u16) -> CountRead
     }
 }
 
+// The count at the cursor.
 fn read_count(s: &[u8], c: Cursor) -> CountRead
     requires { ⌜ c .at ≤ length (now s) ⌝ }
     ensures { λ r. ⌜ CountReadPost (now (s .entry)) (c .at) r ⌝ }
@@ -110,12 +111,12 @@ fn judge(read: CountRead, n: usize, start: usize) -> CountResult
                 within_atoms(n, start, CountResult::Repeat(rep, end))
             }
         }
-        CountRead::Large(p) => { within_atoms(n, start, CountResult::Fault(refusal::NUMBER, p)) }
+        CountRead::Large(p) => within_atoms(n, start, CountResult::Fault(refusal::NUMBER, p)),
         CountRead::None => CountResult::Fault(refusal::FORM, start),
     }
 }
 
-// The count at the cursor, of an atom after n others.
+// The count at the cursor, of an atom after n others, or its first fault.
 pub fn count(s: &[u8], c: Cursor, n: usize) -> CountResult
     requires { ⌜ c .at ≤ length (now s) ⌝ }
     ensures { λ r. ⌜ CountPost (now (s .entry)) (c .at) n r ⌝ }
