@@ -9,7 +9,7 @@ use native.Mathlib.Omega.{arith}
 use lib.Dec.{leb→le, le→leb}
 use lib.ListN.{length, take, drop, getD, drop-of-length-le}
 use lib.Seq.{drop-cons, take-suc}
-use Rattle.pattern.specs.Numbers.{number-limit, NUMBER}
+use Rattle.pattern.specs.Numbers.{number-limit, FORM, NUMBER}
 use Rattle.pattern.specs.Bytes.{Bytes}
 use Rattle.pattern.specs.Syntax.{pattern, atom, body, Syntax, codes, literal, group}
 use Rattle.pattern.specs.Grammar.{BodyStart, letter, quote, opening, BranchEnd, closing, comma, neither, CountChar, digit, point, CharClass, count-char, body-start, branch-end, char-class, LiteralClass, plain, quoting, barred, literal-class}
@@ -28,7 +28,7 @@ InOver (counting r) = Over r
 InOver (inside l h value) = ⊥
 InOver (after l h b) = ⊥
 
-neither-holds : {X Y : Type 0} → ¬ X → ¬ Y → X ↔ Y
+pub neither-holds : {X Y : Type 0} → ¬ X → ¬ Y → X ↔ Y
 neither-holds f g = (λ x. absurd (f x), λ y. absurd (g y))
 
 -- only a digit has the row of NUMBER
@@ -121,13 +121,13 @@ module _ (d n c : ℕ) (s : Bytes) where
   move-row (after l h b) k (branch-end x) e = leave-row k _ x
 
 -- the same for the rows in a state
-pub no-form : ¬ Applies form-row NUMBER
+pub no-form : (f : ℕ) → FORM < f → ¬ Applies form-row f
 unfolding Applies
-no-form a = ⊎-elim (λ (x, y). omega arith) (λ b. b) a
+no-form f l a = ⊎-elim (λ (x, y). omega arith) (λ b. b) a
 
 row-leads : (o : Option ParserState) (rs : List (Bool × ℕ)) → On o (λ q. Applies rs NUMBER ↔ InOver (q .0))
     → Applies (elim o [ none ↦ form-row | some q ↦ rs ]) NUMBER ↔ ((q : ParserState) × (_≡_ {A = Option ParserState} (elim o [ none ↦ none | some q ↦ some q ]) (some q)) × InOver (q .0))
-row-leads none rs h = neither-holds no-form (λ (q, e, x). Option·none-ne-some q e)
+row-leads none rs h = neither-holds (no-form NUMBER (omega arith)) (λ (q, e, x). Option·none-ne-some q e)
 row-leads (some q) rs h = (λ a. (q, refl, h .0 a), λ (q′, e, x). let f : q ≡ q′ = cc in h .1 (rw f x))
 
 there : (o : Option ParserState) (c : ℕ) (s : Bytes) → Applies (rows-there o (c ∷ s)) NUMBER ↔ ((q : ParserState) × (state-on o (c ∷ []) ≡ some q) × InOver (q .0))
@@ -135,13 +135,13 @@ unfolding rows-there state-on state-after Applies
 there none c s = neither-holds (λ a. a) (λ (q, e, x). Option·none-ne-some q e)
 there (some q) c s = row-leads (step q c) _ (unfold step RowRight in move-row (depth (q .1)) (begun-at (q .0) (q .1)) c s (q .0) (q .1) (char-class c) refl)
 
-at-end : (o : Option ParserState) → ¬ Applies (rows-there o []) NUMBER
+pub at-end : (f : ℕ) → FORM < f → (o : Option ParserState) → ¬ Applies (rows-there o []) f
 unfolding rows-there Applies
-at-end none a = a
-at-end (some q) a = go (finish (q .0) (q .1)) a
+at-end f l none a = a
+at-end f l (some q) a = go (finish (q .0) (q .1)) a
   where
-    go : (o : Option (Syntax pattern)) → ¬ Applies (elim o [ none ↦ form-row | some t ↦ [] ]) NUMBER
-    go none = no-form
+    go : (o : Option (Syntax pattern)) → ¬ Applies (elim o [ none ↦ form-row | some t ↦ [] ]) f
+    go none = no-form f l
     go (some t) = λ a. a
 
 -- such a phase is in a count
@@ -160,7 +160,7 @@ number-exactly s p = ⊎-elim short within-it (le-or-lt (length s) p)
     o = state-after start (take p s)
 
     short : length s ≤ p → Applies (rows-there o (drop p s)) NUMBER ↔ NumberAt s p
-    short l = neither-holds (λ a. at-end o (rw (drop-of-length-le s l) at a)) (λ (h, r, k, x, y). omega arith)
+    short l = neither-holds (λ a. at-end NUMBER (omega arith) o (rw (drop-of-length-le s l) at a)) (λ (h, r, k, x, y). omega arith)
 
     within-it : p < length s → Applies (rows-there o (drop p s)) NUMBER ↔ NumberAt s p
     within-it l =

@@ -148,7 +148,7 @@ letter-there none c e = λ a. unfold Applies in a
 letter-there (some q) c e = go (step q c) _ (letter-row (q .0) (depth (q .1)) (begun-at (q .0) (q .1)) c [] e)
   where
     go : (o : Option ParserState) (rs : List (Bool × ℕ)) → ¬ Applies rs NUMBER → ¬ Applies (elim o [ none ↦ form-row | some q ↦ rs ]) NUMBER
-    go none rs f = no-form
+    go none rs f = no-form NUMBER (omega arith)
     go (some q) rs f = f
 
 -- without its digit, and with a letter there, NUMBER stands nowhere

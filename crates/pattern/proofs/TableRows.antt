@@ -63,7 +63,7 @@ refuse-lowest (t ∷ ts) d f g (h, k) e a = go (t .0) (refuse-lowest ts (t .1) f
 -- ---- the rows of an atom, by whether the numbers of its count fit
 
 -- where the first number fits and the second is less, both fit
-range-row : (l : ℕ) (h : Option ℕ) → leb l number-limit && not (large h) && falls l h ≡ leb l number-limit && falls l h
+pub range-row : (l : ℕ) (h : Option ℕ) → leb l number-limit && not (large h) && falls l h ≡ leb l number-limit && falls l h
 unfolding large falls
 range-row l none = go (leb l number-limit)
   where

@@ -11,7 +11,7 @@ use Rattle.pattern.specs.Numbers.{number-limit, FORM}
 use Rattle.pattern.specs.Bytes.{Bytes}
 use Rattle.pattern.specs.Syntax.{pattern, Syntax}
 use Rattle.pattern.specs.Grammar.{char-class, Derives}
-use Rattle.pattern.specs.Parser.{CountState, empty, first, pointed, second, counting, Stack, top, ParserState, step, finish, start}
+use Rattle.pattern.specs.Parser.{CountState, empty, first, pointed, second, Phase, counting, inside, after, Stack, top, ParserState, step, finish, start}
 use Rattle.pattern.specs.ParserInvariant.{state-after, CountSoFar, ReadSoFar, begun-at}
 use Rattle.pattern.specs.Scan.{depth, begins, rows, Outcome, refused, accepted}
 
@@ -63,3 +63,17 @@ Least s (accepted t) = (j g : ℕ) → ¬ Applies (rows-at s j) g
 unfoldable pub LongestCount : CountState → Bytes → Type 0
 LongestCount r s =
     (w rest : Bytes) × (s ≡ w ++ rest) × CountSoFar (top []) r w × ((x y : Bytes) (r′ : CountState) → rest ≡ x ++ y → CountSoFar (top []) r′ (w ++ x) → x ≡ [])
+
+-- an atom may begin there: at the start of a branch or after another atom
+unfoldable pub MayBegin : Phase → Type 0
+MayBegin (counting empty) = Unit {0}
+MayBegin (counting (first n)) = ⊥
+MayBegin (counting (pointed n)) = ⊥
+MayBegin (counting (second n m)) = ⊥
+MayBegin (inside l h value) = ⊥
+MayBegin (after l h b) = Unit {0}
+
+-- RANGE, by what the bytes spell: an atom begins there, and of its count "both numbers fit and the second is less"
+unfoldable pub RangeAt : Bytes → ℕ → Type 0
+RangeAt s p =
+    (q : Phase) × (k : Stack) × MayBegin q × ReadSoFar q k (take p s) × (n m : ℕ) × LongestCount (second n m) (drop p s) × (n ≤ number-limit) × (m ≤ number-limit) × (m < n)
