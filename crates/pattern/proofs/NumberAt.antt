@@ -9,15 +9,16 @@ use native.Mathlib.Omega.{arith}
 use lib.Dec.{leb→le, le→leb}
 use lib.ListN.{length, take, drop, getD, drop-of-length-le}
 use lib.Seq.{drop-cons, take-suc}
-use Rattle.pattern.specs.Numbers.{number-limit, FORM, NUMBER}
+use Rattle.pattern.specs.Numbers.{number-limit, NUMBER}
 use Rattle.pattern.specs.Bytes.{Bytes}
 use Rattle.pattern.specs.Syntax.{pattern, atom, body, Syntax, codes, literal, group}
 use Rattle.pattern.specs.Grammar.{BodyStart, letter, quote, opening, BranchEnd, closing, comma, neither, CountChar, digit, point, CharClass, count-char, body-start, branch-end, char-class, LiteralClass, plain, quoting, barred, literal-class}
 use Rattle.pattern.specs.Parser.{CountState, empty, first, pointed, second, Phase, counting, inside, after, Stack, top, within, ParserState, enter, extend, leave, quoted, grow, counted, move, step, finish, start}
 use Rattle.pattern.specs.ParserInvariant.{state-after, ReadSoFar, begun-at}
-use Rattle.pattern.specs.Scan.{depth, Begins, an-atom, a-digit, a-code, a-group, nothing, body-begins, begins, rows, refused, outcome}
+use Rattle.pattern.specs.Scan.{depth, Begins, an-atom, a-digit, nothing, body-begins, begins, rows, refused, outcome}
 use Rattle.pattern.specs.Faults.{Over, NumberAt, form-row, rows-there, rows-at, Applies, Least}
-use Rattle.pattern.proofs.Tests.{On, le-or-lt}
+use Rattle.pattern.proofs.Tests.{On, neither-holds, le-or-lt}
+use Rattle.pattern.proofs.TableRows.{lacking, body-row, end-row}
 use Rattle.pattern.proofs.Notation.{digit-byte}
 use Rattle.pattern.proofs.Least.{refused-exactly}
 use Rattle.pattern.proofs.ParserComplete.{state-on, state-append, state-exactly}
@@ -27,25 +28,6 @@ unfoldable pub InOver : Phase → Type 0
 InOver (counting r) = Over r
 InOver (inside l h value) = ⊥
 InOver (after l h b) = ⊥
-
-pub neither-holds : {X Y : Type 0} → ¬ X → ¬ Y → X ↔ Y
-neither-holds f g = (λ x. absurd (f x), λ y. absurd (g y))
-
--- only a digit has the row of NUMBER
-unfoldable pub Digitless : Begins → Type 0
-Digitless an-atom = Unit {0}
-Digitless (a-digit v) = ⊥
-Digitless a-code = Unit {0}
-Digitless a-group = Unit {0}
-Digitless nothing = Unit {0}
-
-pub no-row : (b : Begins) (d n c : ℕ) (s : Bytes) → Digitless b → ¬ Applies (rows b d n c s) NUMBER
-unfolding rows Applies Digitless
-no-row an-atom d n c s h a = ⊎-elim (λ (x, y). omega arith) (⊎-elim (λ (x, y). omega arith) (λ b. b)) a
-no-row (a-digit v) d n c s h a = h
-no-row a-code d n c s h a = ⊎-elim (λ (x, y). omega arith) (λ b. b) a
-no-row a-group d n c s h a = ⊎-elim (λ (x, y). omega arith) (λ b. b) a
-no-row nothing d n c s h a = a
 
 row-digit : (v d n c : ℕ) (s : Bytes) → Applies (rows (a-digit v) d n c s) NUMBER ↔ (number-limit < 10 * v + (c - 48))
 unfolding rows Applies
@@ -58,50 +40,46 @@ RowRight b d n c s o = On o (λ q. Applies (rows b d n c s) NUMBER ↔ InOver (q
 
 module _ (d n c : ℕ) (s : Bytes) where
   grow-row : (r : CountState) (m : CountChar) (k : Stack) → char-class c ≡ count-char m → RowRight (begins (counting r) (count-char m)) d n c s (counted k (grow r m c))
-  unfolding RowRight begins counted grow InOver Over Digitless
-  grow-row empty digit k e = neither-holds (no-row an-atom d n c s tt) (λ h. omega (arith, digit-byte c e))
-  grow-row empty point k e = neither-holds (no-row an-atom d n c s tt) (λ h. h)
+  unfolding RowRight begins counted grow InOver Over rows
+  grow-row empty digit k e = neither-holds (lacking (rows an-atom d n c s) NUMBER (tt, (tt, tt))) (λ h. omega (arith, digit-byte c e))
+  grow-row empty point k e = neither-holds (lacking (rows an-atom d n c s) NUMBER (tt, (tt, tt))) (λ h. h)
   grow-row (first x) digit k e = row-digit x d n c s
-  grow-row (first x) point k e = neither-holds (no-row nothing d n c s tt) (λ h. h)
-  grow-row (pointed x) digit k e = neither-holds (no-row nothing d n c s tt) (λ h. omega (arith, digit-byte c e))
+  grow-row (first x) point k e = neither-holds (lacking [] NUMBER tt) (λ h. h)
+  grow-row (pointed x) digit k e = neither-holds (lacking [] NUMBER tt) (λ h. omega (arith, digit-byte c e))
   grow-row (pointed x) point k e = tt
   grow-row (second x y) digit k e = row-digit y d n c s
   grow-row (second x y) point k e = tt
 
-  -- a byte that is no digit
-  body-row : (b : BodyStart) → ¬ Applies (rows (body-begins b) d n c s) NUMBER
-  unfolding body-begins Digitless
-  body-row letter = no-row a-code d n c s tt
-  body-row quote = no-row nothing d n c s tt
-  body-row opening = no-row a-group d n c s tt
+  no-body-row : (b : BodyStart) → ¬ Applies (rows (body-begins b) d n c s) NUMBER
+  no-body-row b = body-row NUMBER tt tt b d n c s
 
   enter-row : (l : ℕ) (h : Option ℕ) (k : Stack) (b : BodyStart) → Applies (rows (body-begins b) d n c s) NUMBER ↔ InOver (enter l h k b c .0)
   unfolding enter InOver Over
-  enter-row l h k letter = neither-holds (body-row letter) (λ x. x)
-  enter-row l h k quote = neither-holds (body-row quote) (λ x. x)
-  enter-row l h k opening = neither-holds (body-row opening) (λ x. x)
+  enter-row l h k letter = neither-holds (no-body-row letter) (λ x. x)
+  enter-row l h k quote = neither-holds (no-body-row quote) (λ x. x)
+  enter-row l h k opening = neither-holds (no-body-row opening) (λ x. x)
 
   extend-row : (l : ℕ) (h : Option ℕ) (b : Syntax body) (k : Stack) (x : BodyStart) → RowRight (body-begins x) d n c s (extend l h b k x c)
   unfolding RowRight extend InOver
-  extend-row l h (codes set) k letter = neither-holds (body-row letter) (λ x. x)
+  extend-row l h (codes set) k letter = neither-holds (no-body-row letter) (λ x. x)
   extend-row l h (codes set) k quote = tt
   extend-row l h (codes set) k opening = tt
   extend-row l h (literal value) k letter = tt
-  extend-row l h (literal value) k quote = neither-holds (body-row quote) (λ x. x)
+  extend-row l h (literal value) k quote = neither-holds (no-body-row quote) (λ x. x)
   extend-row l h (literal value) k opening = tt
   extend-row l h (group bs) k x = tt
 
   leave-row : (k : Stack) (a : Syntax atom) (x : BranchEnd) → RowRight nothing d n c s (leave k a x)
-  unfolding RowRight leave InOver Over Digitless
+  unfolding RowRight leave InOver Over rows
   leave-row (top before) a x = tt
-  leave-row (within k l h others before) a closing = neither-holds (no-row nothing d n c s tt) (λ x. x)
-  leave-row (within k l h others before) a comma = neither-holds (no-row nothing d n c s tt) (λ x. x)
+  leave-row (within k l h others before) a closing = neither-holds (lacking [] NUMBER tt) (λ x. x)
+  leave-row (within k l h others before) a comma = neither-holds (lacking [] NUMBER tt) (λ x. x)
   leave-row (within k l h others before) a neither = tt
 
   quoted-row : (l : ℕ) (h : Option ℕ) (value : Bytes) (k : Stack) (x : LiteralClass) → RowRight nothing d n c s (quoted l h value k x c)
-  unfolding RowRight quoted InOver Digitless
-  quoted-row l h value k plain = neither-holds (no-row nothing d n c s tt) (λ x. x)
-  quoted-row l h value k quoting = neither-holds (no-row nothing d n c s tt) (λ x. x)
+  unfolding RowRight quoted InOver rows
+  quoted-row l h value k plain = neither-holds (lacking [] NUMBER tt) (λ x. x)
+  quoted-row l h value k quoting = neither-holds (lacking [] NUMBER tt) (λ x. x)
   quoted-row l h value k barred = tt
 
   pub move-row : (p : Phase) (k : Stack) (x : CharClass) → char-class c ≡ x → RowRight (begins p x) d n c s (move p k x c)
@@ -121,28 +99,15 @@ module _ (d n c : ℕ) (s : Bytes) where
   move-row (after l h b) k (branch-end x) e = leave-row k _ x
 
 -- the same for the rows in a state
-pub no-form : (f : ℕ) → FORM < f → ¬ Applies form-row f
-unfolding Applies
-no-form f l a = ⊎-elim (λ (x, y). omega arith) (λ b. b) a
-
 row-leads : (o : Option ParserState) (rs : List (Bool × ℕ)) → On o (λ q. Applies rs NUMBER ↔ InOver (q .0))
     → Applies (elim o [ none ↦ form-row | some q ↦ rs ]) NUMBER ↔ ((q : ParserState) × (_≡_ {A = Option ParserState} (elim o [ none ↦ none | some q ↦ some q ]) (some q)) × InOver (q .0))
-row-leads none rs h = neither-holds (no-form NUMBER (omega arith)) (λ (q, e, x). Option·none-ne-some q e)
+row-leads none rs h = neither-holds (lacking form-row NUMBER (tt, tt)) (λ (q, e, x). Option·none-ne-some q e)
 row-leads (some q) rs h = (λ a. (q, refl, h .0 a), λ (q′, e, x). let f : q ≡ q′ = cc in h .1 (rw f x))
 
 there : (o : Option ParserState) (c : ℕ) (s : Bytes) → Applies (rows-there o (c ∷ s)) NUMBER ↔ ((q : ParserState) × (state-on o (c ∷ []) ≡ some q) × InOver (q .0))
 unfolding rows-there state-on state-after Applies
 there none c s = neither-holds (λ a. a) (λ (q, e, x). Option·none-ne-some q e)
 there (some q) c s = row-leads (step q c) _ (unfold step RowRight in move-row (depth (q .1)) (begun-at (q .0) (q .1)) c s (q .0) (q .1) (char-class c) refl)
-
-pub at-end : (f : ℕ) → FORM < f → (o : Option ParserState) → ¬ Applies (rows-there o []) f
-unfolding rows-there Applies
-at-end f l none a = a
-at-end f l (some q) a = go (finish (q .0) (q .1)) a
-  where
-    go : (o : Option (Syntax pattern)) → ¬ Applies (elim o [ none ↦ form-row | some t ↦ [] ]) f
-    go none = no-form f l
-    go (some t) = λ a. a
 
 -- such a phase is in a count
 in-count : (p : Phase) (k : Stack) (u : Bytes) → InOver p → ReadSoFar p k u → (r : CountState) × (l : Stack) × Over r × ReadSoFar (counting r) l u
@@ -160,7 +125,7 @@ number-exactly s p = ⊎-elim short within-it (le-or-lt (length s) p)
     o = state-after start (take p s)
 
     short : length s ≤ p → Applies (rows-there o (drop p s)) NUMBER ↔ NumberAt s p
-    short l = neither-holds (λ a. at-end NUMBER (omega arith) o (rw (drop-of-length-le s l) at a)) (λ (h, r, k, x, y). omega arith)
+    short l = neither-holds (λ a. end-row NUMBER (tt, tt) o (rw (drop-of-length-le s l) at a)) (λ (h, r, k, x, y). omega arith)
 
     within-it : p < length s → Applies (rows-there o (drop p s)) NUMBER ↔ NumberAt s p
     within-it l =

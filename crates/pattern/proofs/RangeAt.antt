@@ -15,10 +15,9 @@ use Rattle.pattern.specs.Parser.{CountState, empty, first, pointed, seco
 use Rattle.pattern.specs.ParserInvariant.{state-after, begun-at}
 use Rattle.pattern.specs.Scan.{low, high, longest-count, depth, Begins, an-atom, a-digit, nothing, body-begins, begins, falls, atom-rows, rows}
 use Rattle.pattern.specs.Faults.{form-row, rows-there, rows-at, Applies, MayBegin, RangeAt}
-use Rattle.pattern.proofs.Tests.{Decides, both, via, no-test, leb-decides}
-use Rattle.pattern.proofs.TableRows.{range-row}
+use Rattle.pattern.proofs.Tests.{neither-holds, Decides, both, via, no-test, leb-decides}
+use Rattle.pattern.proofs.TableRows.{lacking, body-row, end-row, range-row}
 use Rattle.pattern.proofs.ParserComplete.{state-exactly}
-use Rattle.pattern.proofs.NumberAt.{neither-holds, no-form, at-end}
 use Rattle.pattern.proofs.LongestCounts.{longest-stop, count-longest, longest-one}
 
 -- both numbers of the count fit and the second is less
@@ -50,6 +49,16 @@ atom-row n r = (
   λ h. inl (rw (range-row (low r) (high r)) (falls-decides r .complete h), refl),
 )
 
+-- a count that has begun
+not-first : (v : ℕ) → ¬ (first v ≡ empty)
+not-first v e = let z : _≡_ {A = ℕ} 0 1 = cc in omega arith
+
+not-pointed : (v : ℕ) → ¬ (pointed v ≡ empty)
+not-pointed v e = let z : _≡_ {A = ℕ} 0 1 = cc in omega arith
+
+not-second : (v w : ℕ) → ¬ (second v w ≡ empty)
+not-second v w e = let z : _≡_ {A = ℕ} 0 1 = cc in omega arith
+
 module _ (d n c : ℕ) (s : Bytes) where
   -- the row of RANGE applies just where an atom may begin, with such a count
   RowRight : Phase → Begins → Option ParserState → Type 0
@@ -58,22 +67,19 @@ module _ (d n c : ℕ) (s : Bytes) where
   -- where no atom begins
   no-atom : (p : Phase) (b : Begins) (o : Option ParserState) → ¬ Applies (rows b d n c s) RANGE → ¬ (MayBegin p × Falls (longest-count empty (c ∷ s))) → RowRight p b o
   unfolding RowRight
-  no-atom p b none f g = neither-holds (no-form RANGE (omega arith)) g
+  no-atom p b none f g = neither-holds (lacking form-row RANGE (tt, tt)) g
   no-atom p b (some q) f g = neither-holds f g
 
   digit-row : (v : ℕ) → ¬ Applies (rows (a-digit v) d n c s) RANGE
-  unfolding rows Applies
-  digit-row v a = ⊎-elim (λ (x, y). omega arith) (λ b. b) a
+  unfolding rows
+  digit-row v = lacking _ RANGE (tt, tt)
 
   no-row : ¬ Applies (rows nothing d n c s) RANGE
-  unfolding rows Applies
-  no-row a = a
+  unfolding rows
+  no-row = lacking [] RANGE tt
 
-  body-row : (b : BodyStart) → ¬ Applies (rows (body-begins b) d n c s) RANGE
-  unfolding body-begins rows Applies
-  body-row letter a = ⊎-elim (λ (x, y). omega arith) (λ b. b) a
-  body-row quote a = a
-  body-row opening a = ⊎-elim (λ (x, y). omega arith) (λ b. b) a
+  no-body-row : (b : BodyStart) → ¬ Applies (rows (body-begins b) d n c s) RANGE
+  no-body-row b = body-row RANGE tt tt b d n c s
 
   -- an atom begins with a byte of a count
   an-atom-row : (p : Phase) (m : CountChar) (k : Stack) → MayBegin p → RowRight p an-atom (counted k (grow empty m c))
@@ -87,30 +93,30 @@ module _ (d n c : ℕ) (s : Bytes) where
 
   move-row : (p : Phase) (k : Stack) (x : CharClass) → char-class c ≡ x → RowRight p (begins p x) (move p k x c)
   unfolding move begins MayBegin
-  move-row (counting empty) k (count-char m) e = an-atom-row (counting empty) m k tt
-  move-row (counting empty) k (body-start b) e = other-row _ _ _ (body-row b) (longest-stop empty b c s e)
+  move-row (counting empty) k (count-char m) e = an-atom-row (counting empty) m k refl
+  move-row (counting empty) k (body-start b) e = other-row _ _ _ (no-body-row b) (longest-stop empty b c s e)
   move-row (counting empty) k (branch-end b) e = other-row _ _ _ no-row (unfold longest-count in rw (e, longest-count))
-  move-row (counting (first v)) k (count-char digit) e = no-atom _ _ _ (digit-row v) (λ (x, y). x)
-  move-row (counting (first v)) k (count-char point) e = no-atom _ _ _ no-row (λ (x, y). x)
-  move-row (counting (first v)) k (body-start b) e = no-atom _ _ _ (body-row b) (λ (x, y). x)
-  move-row (counting (first v)) k (branch-end b) e = no-atom _ _ _ no-row (λ (x, y). x)
-  move-row (counting (pointed v)) k (count-char m) e = no-atom _ _ _ no-row (λ (x, y). x)
-  move-row (counting (pointed v)) k (body-start b) e = no-atom _ _ _ (body-row b) (λ (x, y). x)
-  move-row (counting (pointed v)) k (branch-end b) e = no-atom _ _ _ no-row (λ (x, y). x)
-  move-row (counting (second v w)) k (count-char digit) e = no-atom _ _ _ (digit-row w) (λ (x, y). x)
-  move-row (counting (second v w)) k (count-char point) e = no-atom _ _ _ no-row (λ (x, y). x)
-  move-row (counting (second v w)) k (body-start b) e = no-atom _ _ _ (body-row b) (λ (x, y). x)
-  move-row (counting (second v w)) k (branch-end b) e = no-atom _ _ _ no-row (λ (x, y). x)
+  move-row (counting (first v)) k (count-char digit) e = no-atom _ _ _ (digit-row v) (λ (x, y). not-first v x)
+  move-row (counting (first v)) k (count-char point) e = no-atom _ _ _ no-row (λ (x, y). not-first v x)
+  move-row (counting (first v)) k (body-start b) e = no-atom _ _ _ (no-body-row b) (λ (x, y). not-first v x)
+  move-row (counting (first v)) k (branch-end b) e = no-atom _ _ _ no-row (λ (x, y). not-first v x)
+  move-row (counting (pointed v)) k (count-char m) e = no-atom _ _ _ no-row (λ (x, y). not-pointed v x)
+  move-row (counting (pointed v)) k (body-start b) e = no-atom _ _ _ (no-body-row b) (λ (x, y). not-pointed v x)
+  move-row (counting (pointed v)) k (branch-end b) e = no-atom _ _ _ no-row (λ (x, y). not-pointed v x)
+  move-row (counting (second v w)) k (count-char digit) e = no-atom _ _ _ (digit-row w) (λ (x, y). not-second v w x)
+  move-row (counting (second v w)) k (count-char point) e = no-atom _ _ _ no-row (λ (x, y). not-second v w x)
+  move-row (counting (second v w)) k (body-start b) e = no-atom _ _ _ (no-body-row b) (λ (x, y). not-second v w x)
+  move-row (counting (second v w)) k (branch-end b) e = no-atom _ _ _ no-row (λ (x, y). not-second v w x)
   move-row (inside l h value) k x e = no-atom _ _ _ no-row (λ (x, y). x)
   move-row (after l h b) k (count-char m) e = an-atom-row (after l h b) m _ tt
-  move-row (after l h b) k (body-start x) e = other-row _ _ _ (body-row x) (longest-stop empty x c s e)
+  move-row (after l h b) k (body-start x) e = other-row _ _ _ (no-body-row x) (longest-stop empty x c s e)
   move-row (after l h b) k (branch-end x) e = other-row _ _ _ no-row (unfold longest-count in rw (e, longest-count))
 
 -- the same for the rows in a state
 there : (o : Option ParserState) (s : Bytes) → Applies (rows-there o s) RANGE ↔ ((q : ParserState) × (o ≡ some q) × MayBegin (q .0) × Falls (longest-count empty s))
 unfolding rows-there Applies longest-count RowRight step
 there none s = neither-holds (λ a. a) (λ (q, e, x, y). Option·none-ne-some q e)
-there (some q) [] = neither-holds (at-end RANGE (omega arith) (some q)) (λ (q, e, x, y). no-count empty refl y)
+there (some q) [] = neither-holds (end-row RANGE (tt, tt) (some q)) (λ (q, e, x, y). no-count empty refl y)
 there (some q) (c ∷ s) =
     let h = move-row (depth (q .1)) (begun-at (q .0) (q .1)) c s (q .0) (q .1) (char-class c) refl in
     (λ a. let (x, y) = h .0 a in (q, refl, x, y), λ (q′, e, x, y). let f : q ≡ q′ = cc in h .1 (rw f x, y))

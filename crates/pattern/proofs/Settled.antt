@@ -17,9 +17,9 @@ use Rattle.pattern.specs.Scan.{longest-count, depth, Begins, an-atom, a-
 use Rattle.pattern.specs.ParserInvariant.{state-after, begun-at}
 use Rattle.pattern.specs.Faults.{Over, NumberAt, form-row, rows-there, rows-at, Applies}
 use Rattle.pattern.proofs.Tests.{below-suc}
-use Rattle.pattern.proofs.TableRows.{refuse-applies, unfit-fault}
+use Rattle.pattern.proofs.TableRows.{refuse-applies, lacking, unfit-fault}
 use Rattle.pattern.proofs.Least.{scan-refused, refused-exactly}
-use Rattle.pattern.proofs.NumberAt.{InOver, Digitless, no-row, RowRight, move-row, no-form, number-exactly, number-first}
+use Rattle.pattern.proofs.NumberAt.{InOver, RowRight, move-row, number-exactly, number-first}
 use Rattle.pattern.proofs.LongestCounts.{longest-next, count-step, longest-stop, over-unfit, longest-fit}
 use Rattle.pattern.proofs.Accepted.{Rises, atom-pass}
 
@@ -98,8 +98,8 @@ module _ (w w′ : Bytes) (p : ℕ) where
     Kept b d = (fault b d n c (u ++ w) ≡ some NUMBER → fault b d n c (u ++ w′) ≡ some NUMBER) × (fault b d n c (u ++ w) ≡ none → fault b d n c (u ++ w′) ≡ none)
 
     kept : (b : Begins) (d : ℕ) → (Rises (longest-count empty (c ∷ u ++ w)) → Rises (longest-count empty (c ∷ u ++ w′))) → Kept b d
-    unfolding fault Digitless
-    kept an-atom d f = (λ e. absurd (no-row an-atom d n c (u ++ w) tt (refuse-applies _ NUMBER e)), λ e. let (x, y) = atom-pass n _ .0 e in atom-pass n _ .1 (f x, y))
+    unfolding fault rows
+    kept an-atom d f = (λ e. absurd (lacking (rows an-atom d n c (u ++ w)) NUMBER (tt, (tt, tt)) (refuse-applies _ NUMBER e)), λ e. let (x, y) = atom-pass n _ .0 e in atom-pass n _ .1 (f x, y))
     kept (a-digit v) d f = (λ e. e, λ e. e)
     kept a-code d f = (λ e. e, λ e. e)
     kept a-group d f = (λ e. e, λ e. e)
@@ -137,10 +137,10 @@ number-settled u w w′ p l m h =
 
 -- a letter is no place of NUMBER
 letter-row : (q : Phase) (d n c : ℕ) (s : Bytes) → char-class c ≡ body-start letter → ¬ Applies (rows (begins q (char-class c)) d n c s) NUMBER
-unfolding begins body-begins Digitless
-letter-row (counting r) d n c s e = rw e (no-row a-code d n c s tt)
-letter-row (inside l h v) d n c s e = no-row nothing d n c s tt
-letter-row (after l h b) d n c s e = rw e (no-row a-code d n c s tt)
+unfolding begins body-begins rows
+letter-row (counting r) d n c s e = rw e (lacking (rows a-code d n c s) NUMBER (tt, tt))
+letter-row (inside l h v) d n c s e = lacking [] NUMBER tt
+letter-row (after l h b) d n c s e = rw e (lacking (rows a-code d n c s) NUMBER (tt, tt))
 
 letter-there : (o : Option ParserState) (c : ℕ) → char-class c ≡ body-start letter → ¬ Applies (rows-there o (c ∷ [])) NUMBER
 unfolding rows-there
@@ -148,7 +148,7 @@ letter-there none c e = λ a. unfold Applies in a
 letter-there (some q) c e = go (step q c) _ (letter-row (q .0) (depth (q .1)) (begun-at (q .0) (q .1)) c [] e)
   where
     go : (o : Option ParserState) (rs : List (Bool × ℕ)) → ¬ Applies rs NUMBER → ¬ Applies (elim o [ none ↦ form-row | some q ↦ rs ]) NUMBER
-    go none rs f = no-form NUMBER (omega arith)
+    go none rs f = lacking form-row NUMBER (tt, tt)
     go (some q) rs f = f
 
 -- without its digit, and with a letter there, NUMBER stands nowhere

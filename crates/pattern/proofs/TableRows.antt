@@ -6,15 +6,15 @@ use mathlib.Core.List.{List, [], _∷_}
 use mathlib.Core.Option.{Option, none, some, Option·none-ne-some, Option·some-ne-none}
 use Prim.Native.Nat.{ℕ, suc, _≤_, _<_}
 use native.Mathlib.Omega.{arith}
-use lib.Dec.{T, leb, ltb, leb→le}
+use lib.Dec.{T, leb, ltb, leb→le, eqb, eqb-refl, T-not}
 use borrow.Author.Tests.{le-leb, lt-ltb}
-use Rattle.pattern.specs.Numbers.{atom-limit, number-limit, FORM, RANGE, ATOMS, DEPTH}
+use Rattle.pattern.specs.Numbers.{atom-limit, number-limit, FORM, CODE, RANGE, ATOMS, DEPTH}
 use Rattle.pattern.specs.Bytes.{Bytes}
 use Rattle.pattern.specs.Syntax.{pattern, Syntax}
-use Rattle.pattern.specs.Grammar.{char-class}
+use Rattle.pattern.specs.Grammar.{BodyStart, letter, quote, opening, char-class}
 use Rattle.pattern.specs.Parser.{CountState, ParserState, step, finish}
 use Rattle.pattern.specs.ParserInvariant.{begun-at}
-use Rattle.pattern.specs.Scan.{low, high, depth, Begins, an-atom, a-digit, a-code, a-group, nothing, begins, large, falls, refuse, atom-rows, rows, fault}
+use Rattle.pattern.specs.Scan.{low, high, depth, Begins, an-atom, a-digit, a-code, a-group, nothing, body-begins, begins, large, falls, refuse, atom-rows, rows, fault}
 use Rattle.pattern.specs.Within.{Small}
 use Rattle.pattern.specs.Faults.{form-row, rows-there, Applies}
 use Rattle.pattern.proofs.Tests.{le-or-lt}
@@ -59,6 +59,33 @@ refuse-lowest (t ∷ ts) d f g (h, k) e a = go (t .0) (refuse-lowest ts (t .1) f
     go : (b : Bool) → (refuse ts ≡ some f → Applies ts g → f ≤ g) → _≡_ {A = Option ℕ} (elim b [ true ↦ some (t .1) | false ↦ refuse ts ]) (some f) → (T b × (t .1 ≡ g)) ⊎ Applies ts g → f ≤ g
     go true i e a = let z : t .1 ≡ f = cc in ⊎-elim (λ (x, y). omega arith) (λ b. let m = above-applies ts (t .1) g k b in omega arith) a
     go false i e a = ⊎-elim (λ (x, y). absurd x) (i e) a
+
+-- no test has this number
+abbrev pub Lacks : ℕ → List (Bool × ℕ) → Type 0
+Lacks f [] = Unit {0}
+Lacks f (t ∷ ts) = T (not (eqb (t .1) f)) × Lacks f ts
+
+pub lacking : (ts : List (Bool × ℕ)) (f : ℕ) → Lacks f ts → ¬ Applies ts f
+unfolding Applies
+lacking [] f h a = a
+lacking (t ∷ ts) f (h, k) a = ⊎-elim (λ (x, y). T-not (eqb (t .1) f) h (rw y (eqb-refl f))) (lacking ts f k) a
+
+-- a body's first byte has rows of CODE and DEPTH only
+pub body-row : (f : ℕ) → T (not (eqb CODE f)) → T (not (eqb DEPTH f)) → (b : BodyStart) (d n c : ℕ) (s : Bytes) → ¬ Applies (rows (body-begins b) d n c s) f
+unfolding body-begins rows
+body-row f h i letter d n c s = lacking _ f (h, tt)
+body-row f h i quote d n c s = lacking [] f tt
+body-row f h i opening d n c s = lacking _ f (i, tt)
+
+-- at the end of the source there is FORM only
+pub end-row : (f : ℕ) → Lacks f form-row → (o : Option ParserState) → ¬ Applies (rows-there o []) f
+unfolding rows-there Applies
+end-row f l none a = a
+end-row f l (some q) a = go (finish (q .0) (q .1)) a
+  where
+    go : (o : Option (Syntax pattern)) → ¬ Applies (elim o [ none ↦ form-row | some t ↦ [] ]) f
+    go none = lacking form-row f l
+    go (some t) = λ a. a
 
 -- ---- the rows of an atom, by whether the numbers of its count fit
 

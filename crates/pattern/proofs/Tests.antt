@@ -11,6 +11,10 @@ use lib.Dec.{T, leb, ltb, leb→le, le→leb, eqb, eqb→eq, eqb-refl}
 use borrow.Author.Tests.{lt-ltb}
 use Rattle.pattern.specs.Decision.{any}
 
+-- two facts of which neither holds
+pub neither-holds : {X Y : Type 0} → ¬ X → ¬ Y → X ↔ Y
+neither-holds f g = (λ x. absurd (f x), λ y. absurd (g y))
+
 -- the test passes just when the fact holds
 pub record Decides (x : Bool) (X : Type 0) : Type 0 where
   pub sound : T x → X

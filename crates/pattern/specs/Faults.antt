@@ -66,10 +66,7 @@ LongestCount r s =
 
 -- an atom may begin there: at the start of a branch or after another atom
 unfoldable pub MayBegin : Phase → Type 0
-MayBegin (counting empty) = Unit {0}
-MayBegin (counting (first n)) = ⊥
-MayBegin (counting (pointed n)) = ⊥
-MayBegin (counting (second n m)) = ⊥
+MayBegin (counting r) = r ≡ empty
 MayBegin (inside l h value) = ⊥
 MayBegin (after l h b) = Unit {0}
 

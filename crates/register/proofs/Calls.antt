@@ -115,11 +115,11 @@ back lent m h o =
     ap (λ (x : Bytes). take preamble-size lent ++ (y ++ x)) b ∙ ap (λ (x : Bytes). take preamble-size lent ++ x) (append-nil y) ∙ ap (λ (x : Bytes). x ++ y) o ∙ ap (λ (x : Bytes). preamble ++ (section m ++ x)) d
 
 -- the table of number k lies there
-pub record NumberAt (lent : Bytes) (k : ℕ) (at : Location) : Type 0 where
+pub record TableAt (lent : Bytes) (k : ℕ) (at : Location) : Type 0 where
   pub lies : location.At at ≡ located k (registerOf lent)
   pub small : k < numbers
 
-module _ {lent : Bytes} {k : ℕ} {at : Location} (w : NumberAt lent k at) where
+module _ {lent : Bytes} {k : ℕ} {at : Location} (w : TableAt lent k at) where
   in-map : (m : Map) × LocatedIn (registerOf lent) k at m
   in-map = located-in (registerOf lent) k at (w .lies)
 

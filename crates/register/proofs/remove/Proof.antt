@@ -2,23 +2,23 @@
 use mathlib.Core.Path.{sym, _∙_}
 use native.Mathlib.Omega.{arith}
 use Rattle.register.proofs.Maps.{none-allowed}
-use Rattle.register.proofs.Calls.{NumberAt, lent-places, lent-put, removed-none, removed-missing, removed-done}
+use Rattle.register.proofs.Calls.{TableAt, lent-places, lent-put, removed-none, removed-missing, removed-done}
 use borrow.Author.Needs.{needs}
 use Rattle.register.proofs.remove.Statement.{statement}
 use Rattle.register.proofs.remove.Tie as tie
 
 -- where the number's table lies
-number-at : (c : tie.After-known-told) → NumberAt (c .before .before .before .before .before .before .args .lent .now) (c .before .before .before .before .before .before .args .number) (c .before .at .given .0 .0)
-number-at c = record { lies = sym (c .before .at .given .1) ∙ c .before .before .before .find .ensures; small = omega (arith, c .before .before .before .before .before .before .fits) }
+table-at : (c : tie.After-known-told) → TableAt (c .before .before .before .before .before .before .args .lent .now) (c .before .before .before .before .before .before .args .number) (c .before .at .given .0 .0)
+table-at c = record { lies = sym (c .before .at .given .1) ∙ c .before .before .before .find .ensures; small = omega (arith, c .before .before .before .before .before .before .fits) }
 
 put-table-requires : tie.Need-put-table-requires
-put-table-requires c κs = lent-put (number-at (c .before .before .before .before)) _ none-allowed (omega arith)
+put-table-requires c κs = lent-put (table-at (c .before .before .before .before)) _ none-allowed (omega arith)
 
 returns-3 : tie.Need-returns-3
 returns-3 c =
     let after-put = c .before .before in
     let after-if1 = after-put .before .before .before in
-    removed-done (number-at (after-if1 .before .before)) (λ e. after-if1 .if1 .left (omega (arith, e))) _ (after-put .put-table .ensures)
+    removed-done (table-at (after-if1 .before .before)) (λ e. after-if1 .if1 .left (omega (arith, e))) _ (after-put .put-table .ensures)
 
 pub remove-spec : {M : Type 1} → statement M
 remove-spec =
@@ -28,9 +28,9 @@ remove-spec =
     (search needs)
     (search needs)
     (search needs)
-    (λ c. removed-missing (number-at (c .before .before)) (omega (arith, c .if1 .taken)))
-    (λ c. omega (arith, lent-places (number-at (c .before .before))))
-    (λ c. omega (arith, lent-places (number-at (c .before .before))))
+    (λ c. removed-missing (table-at (c .before .before)) (omega (arith, c .if1 .taken)))
+    (λ c. omega (arith, lent-places (table-at (c .before .before))))
+    (λ c. omega (arith, lent-places (table-at (c .before .before))))
     (search needs)
     (search needs)
     put-table-requires

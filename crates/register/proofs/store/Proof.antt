@@ -3,34 +3,34 @@ use mathlib.Core.Path.{sym, _∙_}
 use native.Mathlib.Omega.{arith}
 use Rattle.register.proofs.Maps.{table-allowed}
 use Rattle.register.proofs.Testing.{bad-table, good-table}
-use Rattle.register.proofs.Calls.{NumberAt, lent-places, lent-put, stored-none, stored-bad, stored-full, stored-done}
+use Rattle.register.proofs.Calls.{TableAt, lent-places, lent-put, stored-none, stored-bad, stored-full, stored-done}
 use borrow.Author.Needs.{needs}
 use Rattle.register.proofs.store.Statement.{statement}
 use Rattle.register.proofs.store.Tie as tie
 
 -- where the number's table lies
-number-at : (c : tie.After-known-told) → NumberAt (c .before .before .before .before .before .before .before .args .lent .now) (c .before .before .before .before .before .before .before .args .number) (c .before .at .given .0 .0)
-number-at c = record { lies = sym (c .before .at .given .1) ∙ c .before .before .before .find .ensures; small = omega (arith, c .before .before .before .before .before .before .before .fits) }
+table-at : (c : tie.After-known-told) → TableAt (c .before .before .before .before .before .before .before .args .lent .now) (c .before .before .before .before .before .before .before .args .number) (c .before .at .given .0 .0)
+table-at c = record { lies = sym (c .before .at .given .1) ∙ c .before .before .before .find .ensures; small = omega (arith, c .before .before .before .before .before .before .before .fits) }
 
 returns : tie.Need-returns
 returns c =
     let after-told = c .before .before .before in
-    stored-full (number-at (after-told .before .before .before)) _ (good-table _ _ (sym (after-told .enum-told3 .given .1) ∙ after-told .before .before .test .ensures)) (omega (arith, c .if1 .taken))
+    stored-full (table-at (after-told .before .before .before)) _ (good-table _ _ (sym (after-told .enum-told3 .given .1) ∙ after-told .before .before .test .ensures)) (omega (arith, c .if1 .taken))
 
 put-table-requires : tie.Need-put-table-requires
 put-table-requires c κs =
     let after-told = c .before .before .before .before in
-    lent-put (number-at (after-told .before .before .before)) _ (table-allowed _ (good-table _ _ (sym (after-told .enum-told3 .given .1) ∙ after-told .before .before .test .ensures))) (omega (arith, c .before .if1 .left))
+    lent-put (table-at (after-told .before .before .before)) _ (table-allowed _ (good-table _ _ (sym (after-told .enum-told3 .given .1) ∙ after-told .before .before .test .ensures))) (omega (arith, c .before .if1 .left))
 
 returns-3 : tie.Need-returns-3
-returns-3 c = stored-bad (number-at (c .before .before .before)) _ (bad-table _ (sym (c .enum-told2 .given .1) ∙ c .before .before .test .ensures))
+returns-3 c = stored-bad (table-at (c .before .before .before)) _ (bad-table _ (sym (c .enum-told2 .given .1) ∙ c .before .before .test .ensures))
 
 returns-4 : tie.Need-returns-4
 returns-4 c =
     let after-put = c .before .before in
     let after-if1 = after-put .before .before in
     let after-told = after-if1 .before .before .before in
-    stored-done (number-at (after-told .before .before .before)) _ (good-table _ _ (sym (after-told .enum-told3 .given .1) ∙ after-told .before .before .test .ensures)) (omega (arith, after-if1 .if1 .left)) _ (after-put .put-table .ensures)
+    stored-done (table-at (after-told .before .before .before)) _ (good-table _ _ (sym (after-told .enum-told3 .given .1) ∙ after-told .before .before .test .ensures)) (omega (arith, after-if1 .if1 .left)) _ (after-put .put-table .ensures)
 
 pub store-spec : {M : Type 1} → statement M
 store-spec =
@@ -42,14 +42,14 @@ store-spec =
     (λ c κs. search needs)
     (search needs)
     (search needs)
-    (λ c. omega (arith, lent-places (number-at (c .before .before .before))))
-    (λ c. omega (arith, lent-places (number-at (c .before .before .before .before))))
-    (λ c. omega (arith, lent-places (number-at (c .before .before .before .before .before))))
-    (λ c. omega (arith, lent-places (number-at (c .before .before .before .before .before)), c .before .before .before .before .before .before .before .before .before .before .before .before .good))
+    (λ c. omega (arith, lent-places (table-at (c .before .before .before))))
+    (λ c. omega (arith, lent-places (table-at (c .before .before .before .before))))
+    (λ c. omega (arith, lent-places (table-at (c .before .before .before .before .before))))
+    (λ c. omega (arith, lent-places (table-at (c .before .before .before .before .before)), c .before .before .before .before .before .before .before .before .before .before .before .before .good))
     (search needs)
     returns
-    (λ c. omega (arith, lent-places (number-at (c .before .before .before .before .before .before))))
-    (λ c. omega (arith, lent-places (number-at (c .before .before .before .before .before .before))))
+    (λ c. omega (arith, lent-places (table-at (c .before .before .before .before .before .before))))
+    (λ c. omega (arith, lent-places (table-at (c .before .before .before .before .before .before))))
     (search needs)
     put-table-requires
     (search needs)
