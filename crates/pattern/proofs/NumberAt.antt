@@ -11,9 +11,9 @@ use lib.ListN.{length, take, drop, getD, drop-of-length-le}
 use lib.Seq.{drop-cons, take-suc}
 use Rattle.pattern.specs.Numbers.{number-limit, NUMBER}
 use Rattle.pattern.specs.Bytes.{Bytes}
-use Rattle.pattern.specs.Syntax.{pattern, atom, body, Syntax, codes, literal, group}
+use Rattle.pattern.specs.Syntax.{atom, body, Syntax, codes, literal, group}
 use Rattle.pattern.specs.Grammar.{BodyStart, letter, quote, opening, BranchEnd, closing, comma, neither, CountChar, digit, point, CharClass, count-char, body-start, branch-end, char-class, LiteralClass, plain, quoting, barred, literal-class}
-use Rattle.pattern.specs.Parser.{CountState, empty, first, pointed, second, Phase, counting, inside, after, Stack, top, within, ParserState, enter, extend, leave, quoted, grow, counted, move, step, finish, start}
+use Rattle.pattern.specs.Parser.{CountState, empty, first, pointed, second, Phase, counting, inside, after, Stack, top, within, ParserState, enter, extend, leave, quoted, grow, counted, move, step, start}
 use Rattle.pattern.specs.ParserInvariant.{state-after, ReadSoFar, begun-at}
 use Rattle.pattern.specs.Scan.{depth, Begins, an-atom, a-digit, nothing, body-begins, begins, rows, refused, outcome}
 use Rattle.pattern.specs.Faults.{Over, NumberAt, form-row, rows-there, rows-at, Applies, Least}

@@ -10,7 +10,7 @@ use lib.Dec.{leb}
 use lib.ListN.{take, drop}
 use Rattle.pattern.specs.Numbers.{number-limit, RANGE}
 use Rattle.pattern.specs.Bytes.{Bytes}
-use Rattle.pattern.specs.Grammar.{BodyStart, letter, quote, opening, CountChar, digit, point, CharClass, count-char, body-start, branch-end, char-class}
+use Rattle.pattern.specs.Grammar.{BodyStart, CountChar, digit, point, CharClass, count-char, body-start, branch-end, char-class}
 use Rattle.pattern.specs.Parser.{CountState, empty, first, pointed, second, Phase, counting, inside, after, Stack, ParserState, grow, counted, move, step, start}
 use Rattle.pattern.specs.ParserInvariant.{state-after, begun-at}
 use Rattle.pattern.specs.Scan.{low, high, longest-count, depth, Begins, an-atom, a-digit, nothing, body-begins, begins, falls, atom-rows, rows}
