@@ -27,7 +27,7 @@ pub mod Union
 pub mod Rooms
 pub mod Nodes
 pub mod LongestCounts
-pub mod RangeAt
+pub mod AtomAt
 pub mod Computed
 pub mod Examples
 pub mod Sources

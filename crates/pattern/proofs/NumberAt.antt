@@ -18,7 +18,7 @@ use Rattle.pattern.specs.ParserInvariant.{state-after, ReadSoFar, begun-
 use Rattle.pattern.specs.Scan.{depth, Begins, an-atom, a-digit, nothing, body-begins, begins, rows, refused, outcome}
 use Rattle.pattern.specs.Faults.{Over, NumberAt, form-row, rows-there, rows-at, Applies, Least}
 use Rattle.pattern.proofs.Tests.{On, neither-holds, le-or-lt}
-use Rattle.pattern.proofs.TableRows.{lacking, body-row, end-row}
+use Rattle.pattern.proofs.TableRows.{lacking, end-row}
 use Rattle.pattern.proofs.Notation.{digit-byte}
 use Rattle.pattern.proofs.Least.{refused-exactly}
 use Rattle.pattern.proofs.ParserComplete.{state-on, state-append, state-exactly}
@@ -50,22 +50,25 @@ module _ (d n c : ℕ) (s : Bytes) where
   grow-row (second x y) digit k e = row-digit y d n c s
   grow-row (second x y) point k e = tt
 
-  no-body-row : (b : BodyStart) → ¬ Applies (rows (body-begins b) d n c s) NUMBER
-  no-body-row b = body-row NUMBER tt tt b d n c s
+  body-row : (b : BodyStart) → ¬ Applies (rows (body-begins b) d n c s) NUMBER
+  unfolding body-begins rows
+  body-row letter = lacking _ NUMBER (tt, tt)
+  body-row quote = lacking [] NUMBER tt
+  body-row opening = lacking _ NUMBER (tt, tt)
 
   enter-row : (l : ℕ) (h : Option ℕ) (k : Stack) (b : BodyStart) → Applies (rows (body-begins b) d n c s) NUMBER ↔ InOver (enter l h k b c .0)
   unfolding enter InOver Over
-  enter-row l h k letter = neither-holds (no-body-row letter) (λ x. x)
-  enter-row l h k quote = neither-holds (no-body-row quote) (λ x. x)
-  enter-row l h k opening = neither-holds (no-body-row opening) (λ x. x)
+  enter-row l h k letter = neither-holds (body-row letter) (λ x. x)
+  enter-row l h k quote = neither-holds (body-row quote) (λ x. x)
+  enter-row l h k opening = neither-holds (body-row opening) (λ x. x)
 
   extend-row : (l : ℕ) (h : Option ℕ) (b : Syntax body) (k : Stack) (x : BodyStart) → RowRight (body-begins x) d n c s (extend l h b k x c)
   unfolding RowRight extend InOver
-  extend-row l h (codes set) k letter = neither-holds (no-body-row letter) (λ x. x)
+  extend-row l h (codes set) k letter = neither-holds (body-row letter) (λ x. x)
   extend-row l h (codes set) k quote = tt
   extend-row l h (codes set) k opening = tt
   extend-row l h (literal value) k letter = tt
-  extend-row l h (literal value) k quote = neither-holds (no-body-row quote) (λ x. x)
+  extend-row l h (literal value) k quote = neither-holds (body-row quote) (λ x. x)
   extend-row l h (literal value) k opening = tt
   extend-row l h (group bs) k x = tt
 

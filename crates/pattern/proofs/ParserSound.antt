@@ -22,7 +22,7 @@ unfolding BranchesBefore fork Derives Cut
 fork-derives [] bs u w e h = rw e h
 fork-derives (p ∷ others) bs u w (x, y, e, o, s) h = rw e (simp append-assoc (fork-derives others (or p bs) x (y ++ 44 ∷ w) o (y, w, refl, s, h)))
 
-next-stack : (k : Stack) (a : Syntax atom) (u w : Bytes) → StackSoFar k u → Derives a w → StackSoFar (next k a) (u ++ w)
+pub next-stack : (k : Stack) (a : Syntax atom) (u w : Bytes) → StackSoFar k u → Derives a w → StackSoFar (next k a) (u ++ w)
 unfolding StackSoFar next AtomsBefore Cut
 next-stack (top before) a u v h s = (u, v, refl, h, s)
 next-stack (within k low high others before) a u v (x, y, z, w, e, f, g, o, b) s =

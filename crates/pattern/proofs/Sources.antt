@@ -39,7 +39,7 @@ sources =
     ∷ (bytes "1z", CODE, 1)
     ∷ (bytes "4N(ITEM)", FORM, 2)
     -- a second number is never the open end; leading zeros; more digits after the one that is too many; the end of the source after it;
-    -- in a group and in a later atom; no range where a number does not fit
+    -- in a group and in a later atom; a range that falls there, none where a number does not fit
     ∷ (bytes ".65535N", NUMBER, 5)
     ∷ (bytes "0020000N", NUMBER, 6)
     ∷ (bytes "2000000N", NUMBER, 4)
@@ -47,14 +47,15 @@ sources =
     ∷ (bytes "20000", NUMBER, 4)
     ∷ (bytes "1(20000N)", NUMBER, 6)
     ∷ (bytes "1N3.10000N", NUMBER, 8)
+    ∷ (bytes "1N1(5.3N)", RANGE, 4)
     ∷ (bytes "10000.5N", NUMBER, 4)
     ∷ (bytes "9999.10000N", NUMBER, 9)
     ∷ (bytes "20000.10000N", NUMBER, 4)
-    ∷ (bytes "1N1(5.3N)", RANGE, 4)
-    -- 64 atoms; a 65th: plain, with too large a first number, with a range that falls, with too large a second number, not a pattern
+    -- 64 atoms; a 65th: plain, with too large a first number, also in a group, with a range that falls, with too large a second number, not a pattern
     ∷ (times 64 (bytes "1N"), 0, 0)
     ∷ (times 64 (bytes "1N") ++ bytes "1N", ATOMS, 128)
     ∷ (times 64 (bytes "1N") ++ bytes "20000N", ATOMS, 128)
+    ∷ (times 63 (bytes "1N") ++ bytes "1(20000N)", ATOMS, 128)
     ∷ (times 64 (bytes "1N") ++ bytes "5.3", RANGE, 128)
     ∷ (times 64 (bytes "1N") ++ bytes "5.10000N", ATOMS, 128)
     ∷ (times 64 (bytes "1N") ++ bytes "(", FORM, 128)

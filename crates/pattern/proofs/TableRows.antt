@@ -8,13 +8,13 @@ use Prim.Native.Nat.{ℕ, suc, _≤_, _<_}
 use native.Mathlib.Omega.{arith}
 use lib.Dec.{T, leb, ltb, leb→le, eqb, eqb-refl, T-not}
 use borrow.Author.Tests.{le-leb, lt-ltb}
-use Rattle.pattern.specs.Numbers.{atom-limit, number-limit, FORM, CODE, RANGE, ATOMS, DEPTH}
+use Rattle.pattern.specs.Numbers.{atom-limit, number-limit, FORM, RANGE, ATOMS, DEPTH}
 use Rattle.pattern.specs.Bytes.{Bytes}
 use Rattle.pattern.specs.Syntax.{pattern, Syntax}
-use Rattle.pattern.specs.Grammar.{BodyStart, letter, quote, opening, char-class}
+use Rattle.pattern.specs.Grammar.{char-class}
 use Rattle.pattern.specs.Parser.{CountState, ParserState, step, finish}
 use Rattle.pattern.specs.ParserInvariant.{begun-at}
-use Rattle.pattern.specs.Scan.{low, high, depth, Begins, an-atom, a-digit, a-code, a-group, nothing, body-begins, begins, large, falls, refuse, atom-rows, rows, fault}
+use Rattle.pattern.specs.Scan.{low, high, depth, Begins, an-atom, a-digit, a-code, a-group, nothing, begins, large, falls, refuse, atom-rows, rows, fault}
 use Rattle.pattern.specs.Within.{Small}
 use Rattle.pattern.specs.Faults.{form-row, rows-there, Applies}
 use Rattle.pattern.proofs.Tests.{le-or-lt}
@@ -69,13 +69,6 @@ pub lacking : (ts : List (Bool × ℕ)) (f : ℕ) → Lacks f ts → ¬ Applies 
 unfolding Applies
 lacking [] f h a = a
 lacking (t ∷ ts) f (h, k) a = ⊎-elim (λ (x, y). T-not (eqb (t .1) f) h (rw y (eqb-refl f))) (lacking ts f k) a
-
--- a body's first byte has rows of CODE and DEPTH only
-pub body-row : (f : ℕ) → T (not (eqb CODE f)) → T (not (eqb DEPTH f)) → (b : BodyStart) (d n c : ℕ) (s : Bytes) → ¬ Applies (rows (body-begins b) d n c s) f
-unfolding body-begins rows
-body-row f h i letter d n c s = lacking _ f (h, tt)
-body-row f h i quote d n c s = lacking [] f tt
-body-row f h i opening d n c s = lacking _ f (i, tt)
 
 -- at the end of the source there is FORM only
 pub end-row : (f : ℕ) → Lacks f form-row → (o : Option ParserState) → ¬ Applies (rows-there o []) f

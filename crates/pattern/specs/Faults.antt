@@ -1,4 +1,5 @@
--- The refusals of a source as the paper lists them: where FORM stands, and which rows of the table apply at each position. To be believed.
+-- The refusals of a source as the paper lists them: which rows of the table apply at each position, and where FORM, NUMBER, RANGE and ATOMS stand by
+-- what the bytes spell. To be believed.
 use mathlib.Core.Path.{_≡_}
 use mathlib.Core.Logic.{_⊎_}
 use mathlib.Core.Bool.{Bool, true}
@@ -7,12 +8,12 @@ use mathlib.Core.Option.{Option, none, some}
 use Prim.Native.Nat.{ℕ, suc, _≤_, _<_}
 use lib.Dec.{T}
 use lib.ListN.{length, take, drop}
-use Rattle.pattern.specs.Numbers.{number-limit, FORM}
+use Rattle.pattern.specs.Numbers.{atom-limit, number-limit, FORM}
 use Rattle.pattern.specs.Bytes.{Bytes}
 use Rattle.pattern.specs.Syntax.{pattern, Syntax}
-use Rattle.pattern.specs.Grammar.{char-class, Derives}
-use Rattle.pattern.specs.Parser.{CountState, empty, first, pointed, second, Phase, counting, inside, after, Stack, top, ParserState, step, finish, start}
-use Rattle.pattern.specs.ParserInvariant.{state-after, CountSoFar, ReadSoFar, begun-at}
+use Rattle.pattern.specs.Grammar.{CountChar, count-char, char-class, Derives}
+use Rattle.pattern.specs.Parser.{CountState, empty, first, pointed, second, counting, Stack, top, ParserState, step, finish, start}
+use Rattle.pattern.specs.ParserInvariant.{state-after, CountSoFar, StackSoFar, ReadSoFar, stack-size, begun-at}
 use Rattle.pattern.specs.Scan.{depth, begins, rows, Outcome, refused, accepted}
 
 -- bytes that some pattern begins with
@@ -23,7 +24,7 @@ Viable u = (w : Bytes) × (t : Syntax pattern) × Derives t (u ++ w)
 unfoldable pub FormAt : Bytes → ℕ → Type 0
 FormAt s p = Viable (take p s) × (((p < length s) × ¬ Viable (take (suc p) s)) ⊎ ((p ≡ length s) × ¬ ((t : Syntax pattern) × Derives t s)))
 
--- bytes of a count so far that end in a number over 9,999
+-- a count so far that ends in a number over 9,999
 unfoldable pub Over : CountState → Type 0
 Over empty = ⊥
 Over (first n) = number-limit < n
@@ -64,13 +65,15 @@ unfoldable pub LongestCount : CountState → Bytes → Type 0
 LongestCount r s =
     (w rest : Bytes) × (s ≡ w ++ rest) × CountSoFar (top []) r w × ((x y : Bytes) (r′ : CountState) → rest ≡ x ++ y → CountSoFar (top []) r′ (w ++ x) → x ≡ [])
 
--- an atom may begin there: at the start of a branch or after another atom
-unfoldable pub MayBegin : Phase → Type 0
-MayBegin (counting r) = r ≡ empty
-MayBegin (inside l h value) = ⊥
-MayBegin (after l h b) = Unit {0}
-
--- RANGE, by what the bytes spell: an atom begins there, and of its count "both numbers fit and the second is less"
+-- RANGE, by what the bytes spell: all that is before an atom, and then a count of which "both numbers fit and the second is less"
 unfoldable pub RangeAt : Bytes → ℕ → Type 0
-RangeAt s p =
-    (q : Phase) × (k : Stack) × MayBegin q × ReadSoFar q k (take p s) × (n m : ℕ) × LongestCount (second n m) (drop p s) × (n ≤ number-limit) × (m ≤ number-limit) × (m < n)
+RangeAt s p = (k : Stack) × StackSoFar k (take p s) × (n m : ℕ) × LongestCount (second n m) (drop p s) × (n ≤ number-limit) × (m ≤ number-limit) × (m < n)
+
+-- an atom begins with a byte of a count
+unfoldable pub AtomBegins : Bytes → Type 0
+AtomBegins [] = ⊥
+AtomBegins (c ∷ s) = (m : CountChar) × (char-class c ≡ count-char m)
+
+-- ATOMS likewise: all that is before an atom, with 64 atoms in it or more, and then an atom begins
+unfoldable pub AtomsAt : Bytes → ℕ → Type 0
+AtomsAt s p = (k : Stack) × StackSoFar k (take p s) × (atom-limit ≤ stack-size k) × AtomBegins (drop p s)

@@ -39,11 +39,11 @@ use Rattle.scanner.proofs.Steps.{stuck, short}
 use Rattle.scanner.proofs.Reaches.{point-begins, point-goes-on, then-reaches}
 
 -- a count that has begun
-Begun : CountState → Type 0
-Begun empty = ⊥
-Begun (first n) = Unit {0}
-Begun (pointed n) = Unit {0}
-Begun (second n m) = Unit {0}
+NotEmpty : CountState → Type 0
+NotEmpty empty = ⊥
+NotEmpty (first n) = Unit {0}
+NotEmpty (pointed n) = Unit {0}
+NotEmpty (second n m) = Unit {0}
 
 -- the longest run is over
 module _ (s : Bytes) (j : ℕ) (r : CountState) (stops : (m : CountChar) → j < length s → class-at s j ≡ count-char m → grow r m (getD s j 0) ≡ none) where
@@ -91,10 +91,10 @@ module _ (s : Bytes) (i n : ℕ) where
       let u : ¬ BothFit (longest-count empty (drop i s)) = λ f. over-unfit (h .state) (h .over) (longest-fit (drop (suc p) s) (h .state) (rw (h .reaches .longest) at f)) in
       atoms-tested (λ k. refused NUMBER p) (counted.Fault NUMBER p) (λ k. h .reaches .scan k n ∙ tested-as _ _ (unfit-fault n _ u)) (λ l f. refused-here NUMBER p f)
 
-  repeat-right : (r : CountState) (end : Cursor) → Begun r → GoesOn s the-first i r (end .at) → low r ≤ number-limit → Onward s i end
+  repeat-right : (r : CountState) (end : Cursor) → NotEmpty r → GoesOn s the-first i r (end .at) → low r ≤ number-limit → Onward s i end
       → ((m : CountChar) → end .at < length s → class-at s (end .at) ≡ count-char m → grow r m (getD s (end .at) 0) ≡ none)
       → CountPost s i n (judged n i (count-read.Repeat (repeat-of (low r) (high r)) end))
-  unfolding judged Begun
+  unfolding judged NotEmpty
   repeat-right r end d h f o t =
       let l : longest-count empty (drop i s) ≡ r = h .longest ∙ longest-here s (end .at) r t in
       rw (falls-fields (low r) (high r) f) (go (falls (low r) (high r)) (λ k. h .scan k n ∙ tested-as _ _ (ap (λ x. refuse (atom-rows n x)) l ∙ fit-fault n r f)))
@@ -104,7 +104,7 @@ module _ (s : Bytes) (i n : ℕ) where
       go true a = refused-here RANGE i (unfold refuse in a)
       go false a =
           atoms-tested (λ k. scanned s (counting r, k) (end .at) (suc n)) (counted.Repeat (repeat-of (low r) (high r)) end) (unfold refuse in a)
-          (λ l a. unfold CountPost in record { state = r; begun = λ e. subst Begun e d; rep-is = refl; onward = o; room = l; stops = t; scan = a })
+          (λ l a. unfold CountPost in record { state = r; begun = λ e. subst NotEmpty e d; rep-is = refl; onward = o; room = l; stops = t; scan = a })
 
 -- what the reader of digits found
 module _ (s : Bytes) (i : ℕ) (a : DigitsRead) (post : DigitsPost s i a) where
@@ -137,11 +137,11 @@ module _ (s : Bytes) (j x : ℕ) (a : DigitsRead) (post : DigitsPost s j a) wher
     stops r f point l k = f
 
     pub count-open : end .at ≡ j → rep ≡ repeat-of x none → AfterPointPost s j x (count-read.Repeat rep end)
-    unfolding AfterPointPost CountReadPost low high Begun
+    unfolding AfterPointPost CountReadPost low high NotEmpty
     count-open y g = λ i l f h n. rw g (repeat-right s i n (pointed x) end tt (rw y h) f (past i l) (stops (pointed x) (unfold grow in refl)))
 
     pub count-closed : ¬ (end .at ≡ j) → rep ≡ repeat-of x (some v) → AfterPointPost s j x (count-read.Repeat rep end)
-    unfolding AfterPointPost CountReadPost low high Begun
+    unfolding AfterPointPost CountReadPost low high NotEmpty
     count-closed y g = λ i l f h n.
         let (d, z) = there in
         let m : j < end .at = lt-of-le-ne (d .on) (λ z. y (sym z)) in
@@ -177,7 +177,7 @@ module _ (s : Bytes) (i : ℕ) (a : DigitsRead) (post : DigitsPost s i a) where
           go (branch-end b) u w k = unfold move in refl
 
       pub count-exact : (rep : Repeat) → ¬ (end .at ≡ i) → rep ≡ repeat-of v (some v) → CountReadPost s i (count-read.Repeat rep end)
-      unfolding CountReadPost low high Begun
+      unfolding CountReadPost low high NotEmpty
       count-exact rep g h = λ n.
           let (d, z) = here in
           let l : i < end .at = lt-of-le-ne (d .on) (λ x. g (sym x)) in
