@@ -75,6 +75,7 @@ unfoldable pub DigitsPost : Bytes → ℕ → DigitsRead → Type 0
 DigitsPost s i (digits-read.Number v next) = DigitsAre s i v (next .at) × ClassNot s (next .at) (count-char digit)
 DigitsPost s i (digits-read.Large p) = (w : CountNumber) → Exceeds s w i p
 
+-- what was found at a count, unless its atom is one too many
 unfoldable pub within-atoms : (n start : ℕ) → CountResult → CountResult
 within-atoms n start found = cond (leb atom-limit n) (counted.Fault ATOMS start) found
 
