@@ -198,10 +198,10 @@ unfolding atom-rows Applies
 atoms-of-atom n r = (⊎-elim (λ (t, e). absurd (omega arith)) (⊎-elim (λ (t, e). leb-decides atom-limit n .sound t) (λ b. absurd b)), λ h. inr (inl (leb-decides atom-limit n .complete h, refl)))
 
 -- where there is a count, an atom begins
-count-begins : (s : Bytes) → FitsAndFalls (longest-count empty s) → AtomBegins s
+falls-begins : (s : Bytes) → FitsAndFalls (longest-count empty s) → AtomBegins s
 unfolding longest-count AtomBegins
-count-begins [] h = absurd (no-count h)
-count-begins (c ∷ s) h = go (char-class c) refl
+falls-begins [] h = absurd (no-count h)
+falls-begins (c ∷ s) h = go (char-class c) refl
   where
     go : (x : CharClass) → char-class c ≡ x → (m : CountChar) × (char-class c ≡ count-char m)
     go (count-char m) e = (m, e)
@@ -214,7 +214,7 @@ unfolding RangeAt FitsAndFalls
 range-exactly s p =
     let (i, j) = atom-exactly RANGE (λ n r. FitsAndFalls r) range-of-atom tt tt tt tt s p in (
       λ a. let (k, h, x, (n, m, e, y, z, l)) = i a in (k, h, n, m, rw e at (count-longest (drop p s)), y, z, l),
-      λ (k, h, n, m, l, x, y, z). let g : FitsAndFalls (longest-count empty (drop p s)) = (n, m, sym (longest-one (drop p s) (second n m) l), x, y, z) in j (k, h, count-begins (drop p s) g, g),
+      λ (k, h, n, m, l, x, y, z). let g : FitsAndFalls (longest-count empty (drop p s)) = (n, m, sym (longest-one (drop p s) (second n m) l), x, y, z) in j (k, h, falls-begins (drop p s) g, g),
     )
 
 -- ATOMS applies just where an atom begins after 64 others
