@@ -82,15 +82,15 @@ body-atomless quote = tt
 body-atomless opening = tt
 
 -- an atom begins with a byte of this class, and its stack is k′
-abbrev Beginning : Phase → Stack → CharClass → Stack → Type 0
-Beginning p k (count-char m) k′ = Before p k k′
-Beginning p k (body-start b) k′ = ⊥
-Beginning p k (branch-end e) k′ = ⊥
+abbrev StartsAtom : Phase → Stack → CharClass → Stack → Type 0
+StartsAtom p k (count-char m) k′ = Before p k k′
+StartsAtom p k (body-start b) k′ = ⊥
+StartsAtom p k (branch-end e) k′ = ⊥
 
-begins-so : (p : Phase) (k k′ : Stack) (x : CharClass) → Beginning p k x k′ → Before p k k′ × ((m : CountChar) × (x ≡ count-char m))
-begins-so p k k′ (count-char m) b = (b, (m, refl))
-begins-so p k k′ (body-start x) b = absurd b
-begins-so p k k′ (branch-end x) b = absurd b
+starts-so : (p : Phase) (k k′ : Stack) (x : CharClass) → StartsAtom p k x k′ → Before p k k′ × ((m : CountChar) × (x ≡ count-char m))
+starts-so p k k′ (count-char m) b = (b, (m, refl))
+starts-so p k k′ (body-start x) b = absurd b
+starts-so p k k′ (branch-end x) b = absurd b
 
 -- f is the number of a row that an atom has just where F holds of the atoms before it and of its count, and that nothing else has
 module _ (f : ℕ) (F : ℕ → CountState → Type 0) (row : (n : ℕ) (r : CountState) → Applies (atom-rows n r) f ↔ F n r)
@@ -108,48 +108,48 @@ module _ (f : ℕ) (F : ℕ → CountState → Type 0) (row : (n : ℕ) (r : Cou
     AtomRow : Phase → Stack → CharClass → Option ParserState → Type 0
     AtomRow p k x o =
         Applies (elim o [ none ↦ form-row | some q ↦ rows (begins p x) d (begun-at p k) c s ]) f
-        ↔ ((k′ : Stack) × Beginning p k x k′ × F (stack-size k′) (longest-count empty (c ∷ s)))
+        ↔ ((k′ : Stack) × StartsAtom p k x k′ × F (stack-size k′) (longest-count empty (c ∷ s)))
 
-    no-beginning : (p : Phase) (k : Stack) (x : CharClass) (o : Option ParserState) → Atomless (begins p x) → ((k′ : Stack) → ¬ Beginning p k x k′) → AtomRow p k x o
+    no-start : (p : Phase) (k : Stack) (x : CharClass) (o : Option ParserState) → Atomless (begins p x) → ((k′ : Stack) → ¬ StartsAtom p k x k′) → AtomRow p k x o
     unfolding AtomRow
-    no-beginning p k x none h g = neither-holds (lacking form-row f (form, tt)) (λ (k′, e, y). g k′ e)
-    no-beginning p k x (some q) h g = neither-holds (no-atom (begins p x) d (begun-at p k) c s h) (λ (k′, e, y). g k′ e)
+    no-start p k x none h g = neither-holds (lacking form-row f (form, tt)) (λ (k′, e, y). g k′ e)
+    no-start p k x (some q) h g = neither-holds (no-atom (begins p x) d (begun-at p k) c s h) (λ (k′, e, y). g k′ e)
 
-    beginning : (p : Phase) (k k′ : Stack) (m : CountChar) (q : ParserState) → begins p (count-char m) ≡ an-atom → Before p k k′ → ((k″ : Stack) → Before p k k″ → k′ ≡ k″) → AtomRow p k (count-char m) (some q)
+    starts : (p : Phase) (k k′ : Stack) (m : CountChar) (q : ParserState) → begins p (count-char m) ≡ an-atom → Before p k k′ → ((k″ : Stack) → Before p k k″ → k′ ≡ k″) → AtomRow p k (count-char m) (some q)
     unfolding AtomRow rows
-    beginning p k k′ m q a b g =
+    starts p k k′ m q a b g =
         let (i, j) = row (stack-size k′) (longest-count empty (c ∷ s)) in
         rw (a, before-begun p k k′ b) (λ h. (k′, b, i h), λ (k″, e, y). j (rw (g k″ e) y))
 
-    move-right : (p : Phase) (k : Stack) (x : CharClass) → AtomRow p k x (move p k x c)
+    atom-move : (p : Phase) (k : Stack) (x : CharClass) → AtomRow p k x (move p k x c)
     unfolding move begins counted grow Before
-    move-right (counting empty) k (count-char digit) = beginning _ k k digit _ refl refl (λ k′ e. e)
-    move-right (counting empty) k (count-char point) = beginning _ k k point _ refl refl (λ k′ e. e)
-    move-right (counting (first v)) k (count-char digit) = no-beginning _ _ _ _ tt (λ k′ e. e)
-    move-right (counting (first v)) k (count-char point) = no-beginning _ _ _ _ tt (λ k′ e. e)
-    move-right (counting (pointed v)) k (count-char m) = no-beginning _ _ _ _ tt (λ k′ e. e)
-    move-right (counting (second v w)) k (count-char digit) = no-beginning _ _ _ _ tt (λ k′ e. e)
-    move-right (counting (second v w)) k (count-char point) = no-beginning _ _ _ _ tt (λ k′ e. e)
-    move-right (counting r) k (body-start b) = no-beginning _ _ _ _ (body-atomless b) (λ k′ e. e)
-    move-right (counting r) k (branch-end x) = no-beginning _ _ _ _ tt (λ k′ e. e)
-    move-right (inside l h value) k (count-char m) = no-beginning _ _ _ _ tt (λ k′ e. e)
-    move-right (inside l h value) k (body-start b) = no-beginning _ _ _ _ tt (λ k′ e. e)
-    move-right (inside l h value) k (branch-end x) = no-beginning _ _ _ _ tt (λ k′ e. e)
-    move-right (after l h b) k (count-char digit) = beginning _ k (next k (repeat l h b)) digit _ refl refl (λ k′ e. e)
-    move-right (after l h b) k (count-char point) = beginning _ k (next k (repeat l h b)) point _ refl refl (λ k′ e. e)
-    move-right (after l h b) k (body-start x) = no-beginning _ _ _ _ (body-atomless x) (λ k′ e. e)
-    move-right (after l h b) k (branch-end x) = no-beginning _ _ _ _ tt (λ k′ e. e)
+    atom-move (counting empty) k (count-char digit) = starts _ k k digit _ refl refl (λ k′ e. e)
+    atom-move (counting empty) k (count-char point) = starts _ k k point _ refl refl (λ k′ e. e)
+    atom-move (counting (first v)) k (count-char digit) = no-start _ _ _ _ tt (λ k′ e. e)
+    atom-move (counting (first v)) k (count-char point) = no-start _ _ _ _ tt (λ k′ e. e)
+    atom-move (counting (pointed v)) k (count-char m) = no-start _ _ _ _ tt (λ k′ e. e)
+    atom-move (counting (second v w)) k (count-char digit) = no-start _ _ _ _ tt (λ k′ e. e)
+    atom-move (counting (second v w)) k (count-char point) = no-start _ _ _ _ tt (λ k′ e. e)
+    atom-move (counting r) k (body-start b) = no-start _ _ _ _ (body-atomless b) (λ k′ e. e)
+    atom-move (counting r) k (branch-end x) = no-start _ _ _ _ tt (λ k′ e. e)
+    atom-move (inside l h value) k (count-char m) = no-start _ _ _ _ tt (λ k′ e. e)
+    atom-move (inside l h value) k (body-start b) = no-start _ _ _ _ tt (λ k′ e. e)
+    atom-move (inside l h value) k (branch-end x) = no-start _ _ _ _ tt (λ k′ e. e)
+    atom-move (after l h b) k (count-char digit) = starts _ k (next k (repeat l h b)) digit _ refl refl (λ k′ e. e)
+    atom-move (after l h b) k (count-char point) = starts _ k (next k (repeat l h b)) point _ refl refl (λ k′ e. e)
+    atom-move (after l h b) k (body-start x) = no-start _ _ _ _ (body-atomless x) (λ k′ e. e)
+    atom-move (after l h b) k (branch-end x) = no-start _ _ _ _ tt (λ k′ e. e)
 
   -- the same for the rows in a state
-  state-right : (o : Option ParserState) (s : Bytes)
+  atom-state : (o : Option ParserState) (s : Bytes)
       → Applies (rows-there o s) f ↔ ((q : ParserState) × (k : Stack) × (o ≡ some q) × Before (q .0) (q .1) k × AtomBegins s × F (stack-size k) (longest-count empty s))
   unfolding rows-there Applies AtomBegins AtomRow step
-  state-right none s = neither-holds (λ a. a) (λ (q, k, e, b, x, y). Option·none-ne-some q e)
-  state-right (some q) [] = neither-holds (end-row f (form, tt) (some q)) (λ (q, k, e, b, x, y). x)
-  state-right (some q) (c ∷ s) =
-      let (i, j) = move-right (depth (q .1)) c s (q .0) (q .1) (char-class c) in (
+  atom-state none s = neither-holds (λ a. a) (λ (q, k, e, b, x, y). Option·none-ne-some q e)
+  atom-state (some q) [] = neither-holds (end-row f (form, tt) (some q)) (λ (q, k, e, b, x, y). x)
+  atom-state (some q) (c ∷ s) =
+      let (i, j) = atom-move (depth (q .1)) c s (q .0) (q .1) (char-class c) in (
         λ a. let (k, b, y) = i a in
-            let (z, x) = begins-so (q .0) (q .1) k (char-class c) b in
+            let (z, x) = starts-so (q .0) (q .1) k (char-class c) b in
             (q, k, refl, z, x, y),
         λ (q′, k, e, b, (m, x), y). let g : q ≡ q′ = cc in j (k, rw (x, g) b, y),
       )
@@ -157,7 +157,7 @@ module _ (f : ℕ) (F : ℕ → CountState → Type 0) (row : (n : ℕ) (r : Cou
   atom-exactly : (s : Bytes) (p : ℕ) → Applies (rows-at s p) f ↔ ((k : Stack) × StackSoFar k (take p s) × AtomBegins (drop p s) × F (stack-size k) (longest-count empty (drop p s)))
   unfolding rows-at
   atom-exactly s p =
-      let (i, j) = state-right (state-after start (take p s)) (drop p s) in (
+      let (i, j) = atom-state (state-after start (take p s)) (drop p s) in (
         λ a. let (q, k, e, b, x, y) = i a in (k, before-reads (q .0) (q .1) k (take p s) b (state-exactly (take p s) q .0 e), x, y),
         λ (k, h, x, y). let (q, b, r) = reads-before k (take p s) h in j (q, k, state-exactly (take p s) q .1 r, b, x, y),
       )

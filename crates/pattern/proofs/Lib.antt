@@ -17,7 +17,7 @@ pub mod FormAt
 pub mod NumberAt
 pub mod Begun
 pub mod Accepted
-pub mod Settled
+pub mod NumberSettled
 pub mod Printed
 pub mod Shortest
 pub mod Records

@@ -165,13 +165,13 @@ count-longest s =
     go w rest h halts [] y r′ f g = refl
     go w rest h halts (c ∷ x) y r′ f g = absurd (no-longer (longest-count empty s) r′ w c x y h (rw f at halts) g)
 
--- of two beginnings of the same bytes, one goes on from the other
-beginnings : (u v x y : Bytes) → u ++ x ≡ v ++ y → ((z : Bytes) × (v ≡ u ++ z) × (x ≡ z ++ y)) ⊎ ((z : Bytes) × (u ≡ v ++ z) × (y ≡ z ++ x))
-beginnings [] v x y e = inl (v, refl, e)
-beginnings (a ∷ u) [] x y e = inr (a ∷ u, refl, sym e)
-beginnings (a ∷ u) (b ∷ v) x y e =
+-- of two prefixes of the same bytes, one goes on from the other
+prefixes : (u v x y : Bytes) → u ++ x ≡ v ++ y → ((z : Bytes) × (v ≡ u ++ z) × (x ≡ z ++ y)) ⊎ ((z : Bytes) × (u ≡ v ++ z) × (y ≡ z ++ x))
+prefixes [] v x y e = inl (v, refl, e)
+prefixes (a ∷ u) [] x y e = inr (a ∷ u, refl, sym e)
+prefixes (a ∷ u) (b ∷ v) x y e =
     let h : a ≡ b = cc in
-    ⊎-elim (λ (z, f, g). inl (z, rw (h, f), g)) (λ (z, f, g). inr (z, rw (h, f), g)) (beginnings u v x y cc)
+    ⊎-elim (λ (z, f, g). inl (z, rw (h, f), g)) (λ (z, f, g). inr (z, rw (h, f), g)) (prefixes u v x y cc)
 
 -- and there is only one longest
 pub longest-one : (s : Bytes) (r : CountState) → LongestCount r s → r ≡ longest-count empty s
@@ -182,7 +182,7 @@ longest-one s r (w, x, e, h, f) =
     ⊎-elim
     (λ (z, a, b). a ∙ rw (f z y (longest-count empty s) b (rw a at i)) (append-nil w))
     (λ (z, a, b). sym (a ∙ rw (j z x r b (rw a at h)) (append-nil v)))
-    (beginnings w v x y (sym e ∙ g)) in
+    (prefixes w v x y (sym e ∙ g)) in
     let k = sym (count-state-leads r w h) ∙ ap (state-after start) (sym same) ∙ count-state-leads (longest-count empty s) v i in
     let l : _≡_ {A = ParserState} (counting r, top []) (counting (longest-count empty s), top []) = cc in
     let m = ap (λ q. q .0) l in

@@ -1,4 +1,4 @@
--- The place of NUMBER, by what the bytes before it spell. Assumes nothing.
+-- The place of NUMBER, by what the bytes up to it spell. Assumes nothing.
 use mathlib.Core.Path.{_≡_, refl, sym, ap, _∙_}
 use mathlib.Core.Logic.{_↔_, ⊎-elim, inl}
 use mathlib.Core.Bool.{Bool}
@@ -119,7 +119,7 @@ in-count (counting r) k u x h = (r, k, x, h)
 in-count (inside l h value) k u x g = absurd x
 in-count (after l h b) k u x g = absurd x
 
--- NUMBER applies at a position just where the bytes up to it are a count that ends in a number over 9,999
+-- NUMBER applies at a position just where the bytes up to it end in a count so far whose last number is over 9,999
 pub number-exactly : (s : Bytes) (p : ℕ) → Applies (rows-at s p) NUMBER ↔ NumberAt s p
 unfolding rows-at NumberAt InOver
 number-exactly s p = ⊎-elim short within-it (le-or-lt (length s) p)

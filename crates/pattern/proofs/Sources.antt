@@ -26,8 +26,9 @@ sources =
     ∷ (bytes "20000N", NUMBER, 4)
     ∷ (bytes "3.10000N", NUMBER, 6)
     ∷ (bytes "9999N", 0, 0)
-    -- a body without a count, a literal that does not end, a byte 127 and a byte 200 in one
+    -- a body without a count, a letter that is no code after one that is, a literal that does not end, a byte 127 and a byte 200 in one
     ∷ (bytes "N", FORM, 0)
+    ∷ (bytes "3NQ", CODE, 2)
     ∷ (bytes "1\"a", FORM, 3)
     ∷ (49 ∷ 34 ∷ 127 ∷ 34 ∷ [], FORM, 2)
     ∷ (49 ∷ 34 ∷ 200 ∷ 34 ∷ [], FORM, 2)
@@ -59,10 +60,11 @@ sources =
     ∷ (times 64 (bytes "1N") ++ bytes "5.3", RANGE, 128)
     ∷ (times 64 (bytes "1N") ++ bytes "5.10000N", ATOMS, 128)
     ∷ (times 64 (bytes "1N") ++ bytes "(", FORM, 128)
-    -- 8 groups, 8 that do not end, 9
+    -- 8 groups, 8 that do not end, 9, also where no pattern goes on after the ninth
     ∷ (times 8 (bytes "1(") ++ bytes "1N" ++ times 8 (bytes ")"), 0, 0)
     ∷ (times 8 (bytes "1("), FORM, 16)
     ∷ (times 9 (bytes "1("), DEPTH, 17)
+    ∷ (times 9 (bytes "1(") ++ bytes ")", DEPTH, 17)
     -- 512 bytes, and 513
     ∷ (times 511 (bytes "0") ++ bytes "N", 0, 0)
     ∷ (times 513 (bytes "1"), LONG, 512)

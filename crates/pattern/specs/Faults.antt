@@ -31,7 +31,7 @@ Over (first n) = number-limit < n
 Over (pointed n) = ⊥
 Over (second n m) = number-limit < m
 
--- NUMBER, by what the bytes up to and with that digit spell: whatever may stand before an atom, and such a count so far. The least such
+-- NUMBER, by what the bytes up to and with that digit spell: all that is before an atom, and then such a count so far. The least such
 -- position is "the first digit that takes the value above 9,999"
 unfoldable pub NumberAt : Bytes → ℕ → Type 0
 NumberAt s p = (p < length s) × (r : CountState) × (k : Stack) × Over r × ReadSoFar (counting r) k (take (suc p) s)
@@ -65,7 +65,8 @@ unfoldable pub LongestCount : CountState → Bytes → Type 0
 LongestCount r s =
     (w rest : Bytes) × (s ≡ w ++ rest) × CountSoFar (top []) r w × ((x y : Bytes) (r′ : CountState) → rest ≡ x ++ y → CountSoFar (top []) r′ (w ++ x) → x ≡ [])
 
--- RANGE, by what the bytes spell: all that is before an atom, and then a count of which "both numbers fit and the second is less"
+-- RANGE at the "first byte of the count": all that is before an atom stands before it, and then a count of which "both numbers fit and the
+-- second is less"
 unfoldable pub RangeAt : Bytes → ℕ → Type 0
 RangeAt s p = (k : Stack) × StackSoFar k (take p s) × (n m : ℕ) × LongestCount (second n m) (drop p s) × (n ≤ number-limit) × (m ≤ number-limit) × (m < n)
 
@@ -74,6 +75,6 @@ unfoldable pub AtomBegins : Bytes → Type 0
 AtomBegins [] = ⊥
 AtomBegins (c ∷ s) = (m : CountChar) × (char-class c ≡ count-char m)
 
--- ATOMS likewise: all that is before an atom, with 64 atoms in it or more, and then an atom begins
+-- ATOMS, "a 65th atom begins", at "its first byte": all that is before an atom stands before it, with 64 atoms in it or more
 unfoldable pub AtomsAt : Bytes → ℕ → Type 0
 AtomsAt s p = (k : Stack) × StackSoFar k (take p s) × (atom-limit ≤ stack-size k) × AtomBegins (drop p s)

@@ -83,15 +83,15 @@ refuse [] = none
 refuse (t ∷ ts) = elim (t .0) [ true ↦ some (t .1) | false ↦ refuse ts ]
 
 -- rows 5 and 6 of the refusal table for an atom that begins after n others with this count: "both numbers fit and the second is less",
--- and too many atoms
+-- and "a 65th atom begins"
 unfoldable pub atom-rows : ℕ → CountState → List (Bool × ℕ)
 atom-rows n r =
     (leb (low r) number-limit && not (large (high r)) && falls (low r) (high r), RANGE)
     ∷ (leb atom-limit n, ATOMS)
     ∷ []
 
--- rows 3 to 7 for what begins with the byte c, inside d groups and after n atoms; s is the source after it. NUMBER stands at a digit that
--- takes the value above 9,999; the first digit of a number never does
+-- rows 3 to 7 for what begins with the byte c, inside d groups and after n atoms; s is the source after it. NUMBER applies at a digit with
+-- which the value is above 9,999, and the least such "takes" it there; the first digit of a number is none
 unfoldable pub rows : Begins → (d n c : ℕ) → Bytes → List (Bool × ℕ)
 unfolding atom-rows
 rows an-atom d n c s = atom-rows n (longest-count empty (c ∷ s))

@@ -34,7 +34,7 @@ use Rattle.scanner.specs.declared.count.CountResult.{CountResult}
 use Rattle.scanner.specs.declared.count.CountResult.the-variants as counted
 use Rattle.scanner.specs.Places.{Onward, class-at, ClassIs, ClassNot, PointPost}
 use Rattle.scanner.specs.Scans.{scanned}
-use Rattle.scanner.specs.Counts.{CountNumber, the-first, the-second, tested, GoesOn, Exceeds, DigitsAre, DigitsPost, within-atoms, judged, CountPost, CountReadPost, AfterPointPost}
+use Rattle.scanner.specs.Counts.{CountNumber, the-first, the-second, faults-first, Advances, Exceeds, DigitsAre, DigitsPost, within-atoms, judged, CountPost, CountReadPost, AfterPointPost}
 use Rattle.scanner.proofs.Steps.{stuck, short}
 use Rattle.scanner.proofs.Reaches.{point-begins, point-goes-on, then-reaches}
 
@@ -81,8 +81,8 @@ module _ (s : Bytes) (i n : ℕ) where
       go true e h = refused-here ATOMS i h
       go false e h = f (leb-false atom-limit n e) h
 
-  tested-as : (x : Option ℕ) (o : Outcome) → refuse (atom-rows n (longest-count empty (drop i s))) ≡ x → tested the-first s i n o ≡ elim x [ none ↦ o | some f ↦ refused f i ]
-  unfolding tested
+  tested-as : (x : Option ℕ) (o : Outcome) → refuse (atom-rows n (longest-count empty (drop i s))) ≡ x → faults-first the-first s i n o ≡ elim x [ none ↦ o | some f ↦ refused f i ]
+  unfolding faults-first
   tested-as x o e = ap (λ (y : Option ℕ). elim y [ none ↦ o | some f ↦ refused f i ]) e
 
   large-right : (p : ℕ) → Exceeds s the-first i p → CountPost s i n (judged n i (count-read.Large p))
@@ -91,7 +91,7 @@ module _ (s : Bytes) (i n : ℕ) where
       let u : ¬ BothFit (longest-count empty (drop i s)) = λ f. over-unfit (h .state) (h .over) (longest-fit (drop (suc p) s) (h .state) (rw (h .reaches .longest) at f)) in
       atoms-tested (λ k. refused NUMBER p) (counted.Fault NUMBER p) (λ k. h .reaches .scan k n ∙ tested-as _ _ (unfit-fault n _ u)) (λ l f. refused-here NUMBER p f)
 
-  repeat-right : (r : CountState) (end : Cursor) → NotEmpty r → GoesOn s the-first i r (end .at) → low r ≤ number-limit → Onward s i end
+  repeat-right : (r : CountState) (end : Cursor) → NotEmpty r → Advances s the-first i r (end .at) → low r ≤ number-limit → Onward s i end
       → ((m : CountChar) → end .at < length s → class-at s (end .at) ≡ count-char m → grow r m (getD s (end .at) 0) ≡ none)
       → CountPost s i n (judged n i (count-read.Repeat (repeat-of (low r) (high r)) end))
   unfolding judged NotEmpty
@@ -195,7 +195,7 @@ module _ (s : Bytes) (i : ℕ) (a : DigitsRead) (post : DigitsPost s i a) where
       pub point-within : next .at ≤ length s
       point-within = let k = point-here in omega (arith, k .within, k .past)
 
-      pointed-goes-on : GoesOn s the-first i (pointed v) (next .at)
+      pointed-goes-on : Advances s the-first i (pointed v) (next .at)
       pointed-goes-on =
           let (d, z) = here in
           let k = point-here in

@@ -16,7 +16,7 @@ use Rattle.pattern.specs.Faults.{Over}
 use Rattle.pattern.proofs.LongestCounts.{longest-next, count-step}
 use Rattle.scanner.specs.Places.{class-at}
 use Rattle.scanner.specs.Scans.{scanned}
-use Rattle.scanner.specs.Counts.{CountNumber, the-first, the-second, valued, begun-with, tested, Reaches, GoesOn, Exceeds}
+use Rattle.scanner.specs.Counts.{CountNumber, the-first, the-second, valued, begun-with, faults-first, Reaches, Advances, Exceeds}
 use Rattle.scanner.proofs.Steps.{fault-here, begun-here, stepped, onward, faulty}
 
 -- the longest run over a byte that belongs to it
@@ -34,9 +34,9 @@ module _ (s : Bytes) (j : ℕ) (l : j < length s) (m : CountChar) (e : class-at 
   unfolding begins begun
   first-begun k n = rw e
 
-  count-begins : (r : CountState) → grow empty m (getD s j 0) ≡ some r → GoesOn s the-first j r (suc j)
-  unfolding tested
-  count-begins r g = record {
+  first-byte : (r : CountState) → grow empty m (getD s j 0) ≡ some r → Advances s the-first j r (suc j)
+  unfolding faults-first
+  first-byte r g = record {
     longest = longest-on s j l m e empty r g;
     scan = λ k n. stepped s j n l (counting empty, k) (counting r, k) (count-step empty r m (getD s j 0) e g k)
         ∙ ap₂ (λ (o : Option ℕ) (b : ℕ). elim o [ some f ↦ refused f j | none ↦ scanned s (counting r, k) (suc j) b ]) (first-fault k n) (first-begun k n);
@@ -48,9 +48,9 @@ module _ (s : Bytes) (j : ℕ) (l : j < length s) (e : class-at s j ≡ count-ch
   d = getD s j 0 - 48
 
   -- the first of a number
-  pub number-begins : (w : CountNumber) → GoesOn s w j (valued w d) (suc j)
-  unfolding grow tested fault rows begins begun refuse
-  number-begins the-first = count-begins s j l digit e (first d) refl
+  pub number-begins : (w : CountNumber) → Advances s w j (valued w d) (suc j)
+  unfolding grow faults-first fault rows begins begun refuse
+  number-begins the-first = first-byte s j l digit e (first d) refl
   number-begins (the-second x) = record {
     longest = longest-on s j l digit e (pointed x) (second x d) refl;
     scan = λ k n. onward s j n l (counting (pointed x), k) (counting (second x d), k) (count-step (pointed x) (second x d) digit (getD s j 0) e refl k) (rw e) (rw e);
@@ -79,14 +79,14 @@ module _ (s : Bytes) (j : ℕ) (l : j < length s) (e : class-at s j ≡ count-ch
     next-step : (w : CountNumber) (k : Stack) → step (counting (valued w v), k) (getD s j 0) ≡ some (counting (valued w value), k)
     next-step w k = count-step (valued w v) (valued w value) digit (getD s j 0) e (grows w) k
 
-    module _ (i : ℕ) (w : CountNumber) (h : GoesOn s w i (valued w v) j) where
+    module _ (i : ℕ) (w : CountNumber) (h : Advances s w i (valued w v) j) where
       digit-reaches : (o : Stack → ℕ → Outcome) → ((k : Stack) (n : ℕ) → scanned s (counting (valued w v), k) j n ≡ o k n) → Reaches s w i (valued w value) (suc j) o
       digit-reaches o f = record {
         longest = h .longest ∙ longest-on s j l digit e (valued w v) (valued w value) (grows w);
-        scan = λ k n. h .scan k n ∙ ap (tested w s i n) (f k (begun-with w n));
+        scan = λ k n. h .scan k n ∙ ap (faults-first w s i n) (f k (begun-with w n));
       }
 
-      pub number-goes-on : value ≤ number-limit → GoesOn s w i (valued w value) (suc j)
+      pub number-goes-on : value ≤ number-limit → Advances s w i (valued w value) (suc j)
       unfolding refuse
       number-goes-on g = digit-reaches _ (λ k n. onward s j n l (counting (valued w v), k) (counting (valued w value), k) (next-step w k) (digit-fault w k n ∙ rw (le-ltb number-limit value g)) (digit-begun w k n))
 
@@ -104,18 +104,18 @@ module _ (s : Bytes) (j : ℕ) (l : j < length s) (e : class-at s j ≡ count-ch
 
 -- a point at place j
 module _ (s : Bytes) (j : ℕ) (l : j < length s) (e : class-at s j ≡ count-char point) where
-  pub point-begins : GoesOn s the-first j (pointed 0) (suc j)
+  pub point-begins : Advances s the-first j (pointed 0) (suc j)
   unfolding grow
-  point-begins = count-begins s j l point e (pointed 0) refl
+  point-begins = first-byte s j l point e (pointed 0) refl
 
-  pub point-goes-on : (i v : ℕ) → GoesOn s the-first i (first v) j → GoesOn s the-first i (pointed v) (suc j)
+  pub point-goes-on : (i v : ℕ) → Advances s the-first i (first v) j → Advances s the-first i (pointed v) (suc j)
   unfolding grow fault rows refuse begins begun
   point-goes-on i v h = record {
     longest = h .longest ∙ longest-on s j l point e (first v) (pointed v) refl;
-    scan = λ k n. h .scan k n ∙ ap (tested the-first s i n) (onward s j _ l (counting (first v), k) (counting (pointed v), k) (count-step (first v) (pointed v) point (getD s j 0) e refl k) (rw e) (rw e));
+    scan = λ k n. h .scan k n ∙ ap (faults-first the-first s i n) (onward s j _ l (counting (first v), k) (counting (pointed v), k) (count-step (first v) (pointed v) point (getD s j 0) e refl k) (rw e) (rw e));
   }
 
 -- a second number after what came before it
-pub then-reaches : (s : Bytes) (i x j : ℕ) → GoesOn s the-first i (pointed x) j → (r : CountState) (m : ℕ) (o : Stack → ℕ → Outcome) → Reaches s (the-second x) j r m o → Reaches s the-first i r m o
-unfolding tested
-then-reaches s i x j h r m o g = record { longest = h .longest ∙ g .longest; scan = λ k n. h .scan k n ∙ ap (tested the-first s i n) (g .scan k (suc n)) }
+pub then-reaches : (s : Bytes) (i x j : ℕ) → Advances s the-first i (pointed x) j → (r : CountState) (m : ℕ) (o : Stack → ℕ → Outcome) → Reaches s (the-second x) j r m o → Reaches s the-first i r m o
+unfolding faults-first
+then-reaches s i x j h r m o g = record { longest = h .longest ∙ g .longest; scan = λ k n. h .scan k n ∙ ap (faults-first the-first s i n) (g .scan k (suc n)) }

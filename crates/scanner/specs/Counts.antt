@@ -44,18 +44,18 @@ begun-with the-first n = suc n
 begun-with (the-second x) n = n
 
 -- what the scan answers at place i if it would answer o further on: at an atom's first byte the faults of the atom come before
-unfoldable pub tested : CountNumber → Bytes → (i n : ℕ) → Outcome → Outcome
-tested the-first s i n o = elim (refuse (atom-rows n (longest-count empty (drop i s)))) [ none ↦ o | some f ↦ refused f i ]
-tested (the-second x) s i n o = o
+unfoldable pub faults-first : CountNumber → Bytes → (i n : ℕ) → Outcome → Outcome
+faults-first the-first s i n o = elim (refuse (atom-rows n (longest-count empty (drop i s)))) [ none ↦ o | some f ↦ refused f i ]
+faults-first (the-second x) s i n o = o
 
 -- from before a number at place i the scan comes to place j, where it answers o; the longest run goes on there from state r
 pub record Reaches (s : Bytes) (w : CountNumber) (i : ℕ) (r : CountState) (j : ℕ) (o : Stack → ℕ → Outcome) : Type 0 where
   pub longest : longest-count (awaiting w) (drop i s) ≡ longest-count r (drop j s)
-  pub scan : (k : Stack) (n : ℕ) → scanned s (counting (awaiting w), k) i n ≡ tested w s i n (o k (begun-with w n))
+  pub scan : (k : Stack) (n : ℕ) → scanned s (counting (awaiting w), k) i n ≡ faults-first w s i n (o k (begun-with w n))
 
 -- the scan goes on there in that state
-abbrev pub GoesOn : Bytes → CountNumber → ℕ → CountState → ℕ → Type 0
-GoesOn s w i r j = Reaches s w i r j (λ k n. scanned s (counting r, k) j n)
+abbrev pub Advances : Bytes → CountNumber → ℕ → CountState → ℕ → Type 0
+Advances s w i r j = Reaches s w i r j (λ k n. scanned s (counting r, k) j n)
 
 -- the digit at place p takes a number of the count over the limit
 pub record Exceeds (s : Bytes) (w : CountNumber) (i p : ℕ) : Type 0 where
@@ -69,7 +69,7 @@ pub record DigitsAre (s : Bytes) (i v j : ℕ) : Type 0 where
   pub missing : j ≡ i → v ≡ 0
   pub on : i ≤ j
   pub within : j ≤ length s
-  pub goes-on : i < j → (w : CountNumber) → GoesOn s w i (valued w v) j
+  pub goes-on : i < j → (w : CountNumber) → Advances s w i (valued w v) j
 
 unfoldable pub DigitsPost : Bytes → ℕ → DigitsRead → Type 0
 DigitsPost s i (digits-read.Number v next) = DigitsAre s i v (next .at) × ClassNot s (next .at) (count-char digit)
@@ -108,4 +108,4 @@ CountReadPost s i r = (n : ℕ) → CountPost s i n (judged n i r)
 
 -- of whatever count comes to place j with its point
 unfoldable pub AfterPointPost : Bytes → (j low : ℕ) → CountRead → Type 0
-AfterPointPost s j low r = (i : ℕ) → i < j → low ≤ number-limit → GoesOn s the-first i (pointed low) j → CountReadPost s i r
+AfterPointPost s j low r = (i : ℕ) → i < j → low ≤ number-limit → Advances s the-first i (pointed low) j → CountReadPost s i r

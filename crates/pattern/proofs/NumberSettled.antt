@@ -1,12 +1,13 @@
--- NUMBER is settled by its digit: with it what follows does not matter, without it there is none. Assumes nothing.
+-- NUMBER is settled by its digit: with it what follows does not matter, without it NUMBER stands later if at all. Assumes nothing.
 use mathlib.Core.Path.{_≡_, refl, ap, _∙_}
 use mathlib.Core.Logic.{_⊎_, inl, inr, ⊎-elim}
 use mathlib.Core.Bool.{Bool}
 use mathlib.Core.List.{List, [], _∷_, _++_}
 use mathlib.Core.Option.{Option, none, some}
 use Prim.Native.Nat.{ℕ, suc, _+_, _≤_, _<_}
+use native.Mathlib.Nat.{eq-or-lt-of-le}
 use native.Mathlib.Omega.{arith}
-use lib.ListN.{length, take, length-append}
+use lib.ListN.{length, take}
 use lib.Seq.{length-take-le, take-append-le, take-take, take-at, drop-at}
 use Rattle.pattern.specs.Numbers.{source-limit, FORM, NUMBER}
 use Rattle.pattern.specs.Bytes.{Bytes}
@@ -16,7 +17,7 @@ use Rattle.pattern.specs.Parser.{CountState, empty, first, pointed, seco
 use Rattle.pattern.specs.Scan.{longest-count, depth, Begins, an-atom, a-digit, a-code, a-group, nothing, body-begins, begins, begun, refuse, rows, fault, Outcome, refused, accepted, scan, outcome}
 use Rattle.pattern.specs.ParserInvariant.{state-after, begun-at}
 use Rattle.pattern.specs.Faults.{Over, NumberAt, form-row, rows-there, rows-at, Applies}
-use Rattle.pattern.proofs.Tests.{below-suc}
+use Rattle.pattern.proofs.Tests.{le-or-lt}
 use Rattle.pattern.proofs.TableRows.{refuse-applies, lacking, unfit-fault}
 use Rattle.pattern.proofs.Least.{scan-refused, refused-exactly}
 use Rattle.pattern.proofs.NumberAt.{InOver, RowRight, move-row, number-exactly, number-first}
@@ -94,10 +95,10 @@ module _ (w w′ : Bytes) (p : ℕ) where
 
   -- NUMBER at a byte, or no fault, is so with w′ too
   module _ (i n c : ℕ) (u : Bytes) (l : p < i + suc (length u)) where
-    abbrev Kept : Begins → ℕ → Type 0
-    Kept b d = (fault b d n c (u ++ w) ≡ some NUMBER → fault b d n c (u ++ w′) ≡ some NUMBER) × (fault b d n c (u ++ w) ≡ none → fault b d n c (u ++ w′) ≡ none)
+    abbrev SameFault : Begins → ℕ → Type 0
+    SameFault b d = (fault b d n c (u ++ w) ≡ some NUMBER → fault b d n c (u ++ w′) ≡ some NUMBER) × (fault b d n c (u ++ w) ≡ none → fault b d n c (u ++ w′) ≡ none)
 
-    kept : (b : Begins) (d : ℕ) → (Rises (longest-count empty (c ∷ u ++ w)) → Rises (longest-count empty (c ∷ u ++ w′))) → Kept b d
+    kept : (b : Begins) (d : ℕ) → (Rises (longest-count empty (c ∷ u ++ w)) → Rises (longest-count empty (c ∷ u ++ w′))) → SameFault b d
     unfolding fault rows
     kept an-atom d f = (λ e. absurd (lacking (rows an-atom d n c (u ++ w)) NUMBER (tt, (tt, tt)) (refuse-applies _ NUMBER e)), λ e. let (x, y) = atom-pass n _ .0 e in atom-pass n _ .1 (f x, y))
     kept (a-digit v) d f = (λ e. e, λ e. e)
@@ -105,7 +106,7 @@ module _ (w w′ : Bytes) (p : ℕ) where
     kept a-group d f = (λ e. e, λ e. e)
     kept nothing d f = (λ e. e, λ e. e)
 
-    kept-in : (a : Phase) (k : Stack) (x : CharClass) → char-class c ≡ x → scan-at i n c (u ++ w) a k x ≡ refused NUMBER p → Kept (begins a x) (depth k)
+    kept-in : (a : Phase) (k : Stack) (x : CharClass) → char-class c ≡ x → scan-at i n c (u ++ w) a k x ≡ refused NUMBER p → SameFault (begins a x) (depth k)
     unfolding begins begun fault scan step move longest-count
     kept-in a k (body-start b) e h = kept (begins a (body-start b)) (depth k) (λ f. rw (e, longest-count) (rw (e, longest-count) at f))
     kept-in a k (branch-end b) e h = kept (begins a (branch-end b)) (depth k) (λ f. rw (e, longest-count) (rw (e, longest-count) at f))
@@ -142,29 +143,31 @@ letter-row (counting r) d n c s e = rw e (lacking (rows a-code d n c s) NUMBER (
 letter-row (inside l h v) d n c s e = lacking [] NUMBER tt
 letter-row (after l h b) d n c s e = rw e (lacking (rows a-code d n c s) NUMBER (tt, tt))
 
-letter-there : (o : Option ParserState) (c : ℕ) → char-class c ≡ body-start letter → ¬ Applies (rows-there o (c ∷ [])) NUMBER
+letter-there : (o : Option ParserState) (c : ℕ) (s : Bytes) → char-class c ≡ body-start letter → ¬ Applies (rows-there o (c ∷ s)) NUMBER
 unfolding rows-there
-letter-there none c e = λ a. unfold Applies in a
-letter-there (some q) c e = go (step q c) _ (letter-row (q .0) (depth (q .1)) (begun-at (q .0) (q .1)) c [] e)
+letter-there none c s e = λ a. unfold Applies in a
+letter-there (some q) c s e = go (step q c) _ (letter-row (q .0) (depth (q .1)) (begun-at (q .0) (q .1)) c s e)
   where
     go : (o : Option ParserState) (rs : List (Bool × ℕ)) → ¬ Applies rs NUMBER → ¬ Applies (elim o [ none ↦ form-row | some q ↦ rs ]) NUMBER
     go none rs f = lacking form-row NUMBER (tt, tt)
     go (some q) rs f = f
 
--- without its digit, and with a letter there, NUMBER stands nowhere
-pub number-needed : (s : Bytes) (p j c : ℕ) → char-class c ≡ body-start letter → outcome s ≡ refused NUMBER p → ¬ (outcome (take p s ++ c ∷ []) ≡ refused NUMBER j)
+-- with a letter in place of its digit, and whatever after it, NUMBER stands later if at all
+pub number-needed : (s w : Bytes) (p j c : ℕ) → char-class c ≡ body-start letter → outcome s ≡ refused NUMBER p → outcome (take p s ++ c ∷ w) ≡ refused NUMBER j → p < j
 unfolding NumberAt rows-at
-number-needed s p j c e g h =
+number-needed s w p j c e g h =
     let (x, f) = number-first s p g in
-    let (y, z) = number-first (take p s ++ c ∷ []) j h in
+    let (y, z) = number-first (take p s ++ c ∷ w) j h in
     let n : length (take p s) ≡ p = length-take-le p s (omega (arith, x .0)) in
-    let l : j < suc p = omega (arith, y .0, length-append (take p s) (c ∷ [])) in
     ⊎-elim
+    (λ l. absurd (⊎-elim
     (λ (d : j ≡ p).
-    let a : Applies (rows-at (take p s ++ c ∷ []) p) NUMBER = number-exactly (take p s ++ c ∷ []) p .1 (rw d at y) in
-    letter-there (state-after start (take p s)) c e (rw (take-at (take p s) (c ∷ []) p n, drop-at (take p s) (c ∷ []) p n) at a))
+    let a : Applies (rows-at (take p s ++ c ∷ w) p) NUMBER = number-exactly (take p s ++ c ∷ w) p .1 (rw d at y) in
+    letter-there (state-after start (take p s)) c w e (rw (take-at (take p s) (c ∷ w) p n, drop-at (take p s) (c ∷ w) p n) at a))
     (λ (d : j < p).
-    let t : take (suc j) (take p s ++ c ∷ []) ≡ take (suc j) s = take-append-le (suc j) (take p s) (c ∷ []) (omega arith) ∙ take-take (suc j) p s d in
+    let t : take (suc j) (take p s ++ c ∷ w) ≡ take (suc j) s = take-append-le (suc j) (take p s) (c ∷ w) (omega arith) ∙ take-take (suc j) p s d in
     let (b, r, k, o, q) = y in
     f j d (omega (arith, x .0), r, k, o, rw t at q))
-    (below-suc l)
+    (eq-or-lt-of-le l)))
+    (λ l. l)
+    (le-or-lt j p)
