@@ -7,7 +7,7 @@ use Prim.Native.Nat.{ℕ, _*_, _≤_, _<_}
 use native.Mathlib.Omega.{arith}
 use lib.ListN.{length}
 use lib.Seq.{take-length}
-use Rattle.pattern.specs.Numbers.{source-limit, LONG, FORM, NUMBER, RANGE, ATOMS, ROOM, TABLE, BUDGET}
+use Rattle.pattern.specs.Numbers.{source-limit, LONG, FORM, CODE, NUMBER, RANGE, ATOMS, DEPTH, ROOM, TABLE, BUDGET}
 use Rattle.pattern.specs.Bytes.{Bytes, overwrite, zeroed}
 use Rattle.pattern.specs.Syntax.{pattern, Syntax, size, top-size}
 use Rattle.pattern.specs.Parts.{Partition, IsVerdict}
@@ -15,7 +15,7 @@ use Rattle.pattern.specs.Trials.{trials, trial-bound}
 use Rattle.pattern.specs.Grammar.{Derives}
 use Rattle.pattern.specs.Scan.{Outcome, refused, accepted, outcome}
 use Rattle.pattern.specs.Within.{Limited}
-use Rattle.pattern.specs.Faults.{FormAt, NumberAt, RangeAt, AtomsAt, rows-at, Applies, Least}
+use Rattle.pattern.specs.Faults.{FormAt, CodeAt, NumberAt, RangeAt, AtomsAt, DepthAt, rows-at, Applies, Least}
 use Rattle.pattern.specs.Print.{print}
 use Rattle.pattern.specs.Table.{encode}
 use Rattle.pattern.specs.Decode.{decode}
@@ -25,7 +25,7 @@ use Rattle.pattern.proofs.Bound.{bound}
 use Rattle.pattern.proofs.Accepted.{accepted-exactly}
 use Rattle.pattern.proofs.Least.{refused-exactly}
 use Rattle.pattern.proofs.FormAt.{stops}
-use Rattle.pattern.proofs.NumberAt.{number-exactly}
+use Rattle.pattern.proofs.ByteAt.{code-exactly, number-exactly, depth-exactly}
 use Rattle.pattern.proofs.AtomAt.{range-exactly, atoms-exactly}
 use Rattle.pattern.proofs.RoundTrip.{good-exactly}
 use Rattle.pattern.proofs.Calls.{put-fits, put-short, write-compile, budgets-agree, within-reports, beyond-reports, verdict-exactly, count-bounded, compile-untouched, write-untouched, match-untouched, match-zeroed, scratch-ignored, compile-accepted, compile-zero, compile-number, write-number, match-number, match-verdict, match-parts}
@@ -67,15 +67,16 @@ pub record Demand2 : Type 0 where
   pub accepts-only : (source table : Bytes) → compileOf source table .answer .number ≡ 0
       → (t : Syntax pattern) × (length source ≤ source-limit) × Derives t source × Limited t × (length (encode t) ≤ length table)
   -- "and otherwise names the fault and its position": LONG, else the least of the faults that are there, else ROOM;
-  -- FORM stands where no pattern goes on, NUMBER at a digit with which a repeat number is over 9,999, RANGE where an atom begins whose
-  -- numbers fit and fall, ATOMS where one begins after 64 others
+  -- each fault stands where the bytes say so
   pub names-long : (source table : Bytes) → source-limit < length source → compileOf source table .answer ≡ refusal LONG source-limit
   pub names : (source table : Bytes) (f p : ℕ) → length source ≤ source-limit → Least source (refused f p) → compileOf source table .answer ≡ refusal f p
   pub accepted-or-named : (source : Bytes) → length source ≤ source-limit → ((t : Syntax pattern) × Derives t source × Limited t) ⊎ ((f : ℕ) × (p : ℕ) × Least source (refused f p))
   pub names-form : (source : Bytes) (p : ℕ) → p ≤ length source → Applies (rows-at source p) FORM ↔ FormAt source p
+  pub names-code : (source : Bytes) (p : ℕ) → Applies (rows-at source p) CODE ↔ CodeAt source p
   pub names-number : (source : Bytes) (p : ℕ) → Applies (rows-at source p) NUMBER ↔ NumberAt source p
   pub names-range : (source : Bytes) (p : ℕ) → Applies (rows-at source p) RANGE ↔ RangeAt source p
   pub names-atoms : (source : Bytes) (p : ℕ) → Applies (rows-at source p) ATOMS ↔ AtomsAt source p
+  pub names-depth : (source : Bytes) (p : ℕ) → Applies (rows-at source p) DEPTH ↔ DepthAt source p
   pub names-room : (source table : Bytes) (t : Syntax pattern) → length source ≤ source-limit → Derives t source → Limited t → length table < length (encode t)
       → compileOf source table .answer ≡ refusal ROOM (length source)
   -- a table is what some accepted source compiles to
@@ -128,9 +129,11 @@ demand-2 = record {
   names = λ source table f p l h. named source table f p (refused-exactly source f p .1 (inr (l, h)));
   accepted-or-named = λ source l. accepted-or-least source l (outcome source) refl;
   names-form = stops;
+  names-code = code-exactly;
   names-number = number-exactly;
   names-range = range-exactly;
   names-atoms = atoms-exactly;
+  names-depth = depth-exactly;
   names-room = room-named;
   tables-exactly = good-exactly;
   writes-back = written-whole;

@@ -14,7 +14,7 @@ pub mod ParserCorrect
 pub mod TableRows
 pub mod Least
 pub mod FormAt
-pub mod NumberAt
+pub mod ByteAt
 pub mod Begun
 pub mod Accepted
 pub mod NumberSettled

@@ -20,7 +20,7 @@ use Rattle.pattern.specs.Faults.{Over, NumberAt, form-row, rows-there, r
 use Rattle.pattern.proofs.Tests.{le-or-lt}
 use Rattle.pattern.proofs.TableRows.{refuse-applies, lacking, unfit-fault}
 use Rattle.pattern.proofs.Least.{scan-refused, refused-exactly}
-use Rattle.pattern.proofs.NumberAt.{InOver, RowRight, move-row, number-exactly, number-first}
+use Rattle.pattern.proofs.ByteAt.{InOver, move-number, number-exactly, number-first}
 use Rattle.pattern.proofs.LongestCounts.{longest-next, count-step, longest-stop, over-unfit, longest-fit}
 use Rattle.pattern.proofs.Accepted.{Rises, atom-pass}
 
@@ -82,11 +82,11 @@ module _ (w w′ : Bytes) (p : ℕ) where
   -- a count that is no fault of RANGE with w is none with w′
   run-settled : (u : Bytes) (r : CountState) (k : Stack) (i n : ℕ) → p < i + length u → scan (counting r, k) i n (u ++ w) ≡ refused NUMBER p
       → Rises (longest-count r (u ++ w)) → Rises (longest-count r (u ++ w′))
-  unfolding Goes RowRight InOver step fault
+  unfolding Goes InOver step fault
   run-settled [] r k i n l h f = absurd (omega (arith, scan-from w (counting r, k) i n p h))
   run-settled (c ∷ u) r k i n l h f =
       let (q, e, y) = here-or-later (counting r, k) i n c (u ++ w) p h in
-      let row = move-row (depth k) n c (u ++ w) (counting r) k (char-class c) refl in
+      let row = move-number n c (u ++ w) (counting r) k in
       ⊎-elim (λ a. rw (a (u ++ w′)) (rw (a (u ++ w)) at f)) (λ (r′, a, b).
       let d : q ≡ (counting r′, k) = let z = b k in cc in
       rw (a (u ++ w′)) (⊎-elim (λ (x, y). over-rises r′ (u ++ w′) ((rw (b k) at row) .0 (refuse-applies _ NUMBER x)))

@@ -85,6 +85,10 @@ abbrev pub On : {A : Type 0} → Option A → (A → Type 0) → Type 0
 On none P = Unit {0}
 On (some a) P = P a
 
+pub on-map : {A : Type 0} {P Q : A → Type 0} (o : Option A) → ((a : A) → P a → Q a) → On o P → On o Q
+on-map none f h = tt
+on-map (some a) f h = f a h
+
 pub le-or-lt : (a b : ℕ) → (a ≤ b) ⊎ (b < a)
 le-or-lt a b = elim (decLe a b) [ yes h ↦ inl h | no h ↦ inr (omega arith) ]
 
