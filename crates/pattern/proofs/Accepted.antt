@@ -19,7 +19,7 @@ use Rattle.pattern.specs.Parser.{CountState, empty, first, pointed, seco
 use Rattle.pattern.specs.ParserInvariant.{before-size, others-size, stack-size, begun-at}
 use Rattle.pattern.specs.Scan.{low, high, longest-count, depth, body-begins, an-atom, begins, begun, falls, refuse, fault, Outcome, refused, accepted, scan, outcome}
 use Rattle.pattern.specs.Within.{Small, Fits, InLimits, Limited}
-use Rattle.pattern.proofs.Tests.{Decides, On, le-or-lt, leb-decides, both, no-test}
+use Rattle.pattern.proofs.Tests.{Decides, On, on-map, le-or-lt, leb-decides, both, no-test}
 use Rattle.pattern.proofs.Notation.{digit-byte}
 use Rattle.pattern.proofs.Begun.{chain-size, next-size, leave-count, move-count}
 use Rattle.pattern.proofs.ParserCorrect.{form}
@@ -234,8 +234,7 @@ no-fault : {X : Type 0} → (X × (_≡_ {A = Option ℕ} none none)) ↔ X
 no-fault = (λ (x, g). x, λ y. (y, refl))
 
 on-via : (o : Option ParserState) (s : Bytes) {X Z : Type 0} → Z ↔ X → On o (λ q. X ↔ Holds q s) → On o (λ q. Z ↔ Holds q s)
-on-via none s e h = tt
-on-via (some a) s e h = (λ z. h .0 (e .0 z), λ y. e .1 (h .1 y))
+on-via o s e h = on-map o (λ q (f, g). (λ z. f (e .0 z), λ y. e .1 (g y))) h
 
 counting-holds : (r : CountState) (k : Stack) (m : CountChar) (c : ℕ) (s : Bytes) → char-class c ≡ count-char m
     → On (counted k (grow r m c)) (λ q. (Holds (counting r, k) (c ∷ s) × (fault (begins (counting r) (count-char m)) (depth k) (begun-at (counting r) k) c s ≡ none)) ↔ Holds q s)

@@ -2,7 +2,7 @@
 use mathlib.Core.Path.{_≡_, refl, sym, ap, _∙_}
 use mathlib.Core.Logic.{_↔_, ⊎-elim, inl}
 use mathlib.Core.Bool.{Bool, not}
-use mathlib.Core.List.{List, [], _∷_}
+use mathlib.Core.List.{List, [], _∷_, append-nil}
 use mathlib.Core.Option.{Option, none, some, Option·none-ne-some}
 use Prim.Native.Nat.{ℕ, suc, _+_, _-_, _*_, _≤_, _<_}
 use native.Mathlib.Omega.{arith}
@@ -13,9 +13,10 @@ use Rattle.pattern.specs.Numbers.{depth-limit, number-limit, set-limit, 
 use Rattle.pattern.specs.Bytes.{Bytes}
 use Rattle.pattern.specs.Codes.{bit}
 use Rattle.pattern.specs.Syntax.{atom, body, Syntax, codes, literal, group}
+use Rattle.pattern.specs.Meaning.{Cut}
 use Rattle.pattern.specs.Grammar.{BodyStart, letter, quote, opening, BranchEnd, closing, comma, neither, CountChar, digit, point, CharClass, count-char, body-start, branch-end, char-class, LiteralClass, plain, quoting, barred, literal-class}
 use Rattle.pattern.specs.Parser.{CountState, empty, first, pointed, second, Phase, counting, inside, after, Stack, top, within, ParserState, enter, extend, leave, quoted, grow, counted, move, step, start}
-use Rattle.pattern.specs.ParserInvariant.{state-after, ReadSoFar, begun-at}
+use Rattle.pattern.specs.ParserInvariant.{state-after, AtBranchStart, CountSoFar, StackSoFar, ReadSoFar, begun-at}
 use Rattle.pattern.specs.Scan.{depth, Begins, an-atom, a-digit, a-code, nothing, body-begins, begins, rows, refused, outcome}
 use Rattle.pattern.specs.Faults.{Over, NumberAt, CodeAt, DepthAt, form-row, rows-there, rows-at, Applies, Least}
 use Rattle.pattern.proofs.Tests.{neither-holds, On, on-map, le-or-lt}
@@ -40,7 +41,7 @@ InCodes (after l h (codes set)) = Unit {0}
 InCodes (after l h (literal value)) = ⊥
 InCodes (after l h (group bs)) = ⊥
 
--- a group was opened last, inside 8 others or more
+-- a group was group-read last, inside 8 others or more
 unfoldable OpenedDeep : Phase → Stack → Type 0
 OpenedDeep (counting empty) (top before) = ⊥
 OpenedDeep (counting empty) (within k l h [] []) = depth-limit ≤ depth k
@@ -56,7 +57,7 @@ OpenedDeep (after l h b) k = ⊥
 record RowsRight (b : Begins) (d n c : ℕ) (s : Bytes) (q : ParserState) : Type 0 where
   code : Applies (rows b d n c s) CODE ↔ (InCodes (q .0) × (set-limit ≤ bit c))
   number : Applies (rows b d n c s) NUMBER ↔ InOver (q .0)
-  group-row : Applies (rows b d n c s) DEPTH ↔ OpenedDeep (q .0) (q .1)
+  deep : Applies (rows b d n c s) DEPTH ↔ OpenedDeep (q .0) (q .1)
 
 -- one row with one test
 one-row : (a b f : ℕ) → Applies ((leb a b, f) ∷ []) f ↔ (a ≤ b)
@@ -68,23 +69,23 @@ module _ (d n c : ℕ) (s : Bytes) where
   quiet : (b : Begins) (q : ParserState) → Lacks CODE (rows b d n c s) → Lacks NUMBER (rows b d n c s) → Lacks DEPTH (rows b d n c s)
       → ¬ InCodes (q .0) → ¬ InOver (q .0) → ¬ OpenedDeep (q .0) (q .1) → RowsRight b d n c s q
   quiet b q x y z f g h =
-      record { code = neither-holds (lacking _ CODE x) (λ (i, j). f i); number = neither-holds (lacking _ NUMBER y) g; group-row = neither-holds (lacking _ DEPTH z) h }
+      record { code = neither-holds (lacking _ CODE x) (λ (i, j). f i); number = neither-holds (lacking _ NUMBER y) g; deep = neither-holds (lacking _ DEPTH z) h }
 
-  atom-row : (r : CountState) (k : Stack) → ¬ Over r → ¬ OpenedDeep (counting r) k → RowsRight an-atom d n c s (counting r, k)
+  begun-row : (r : CountState) (k : Stack) → ¬ Over r → ¬ OpenedDeep (counting r) k → RowsRight an-atom d n c s (counting r, k)
   unfolding rows InCodes InOver
-  atom-row r k f g = quiet an-atom (counting r, k) (tt, (tt, tt)) (tt, (tt, tt)) (tt, (tt, tt)) (λ h. h) f g
+  begun-row r k f g = quiet an-atom (counting r, k) (tt, (tt, tt)) (tt, (tt, tt)) (tt, (tt, tt)) (λ h. h) f g
 
   digit-row : (v : ℕ) (r : CountState) (k : Stack) → (number-limit < 10 * v + (c - 48)) ↔ Over r → ¬ OpenedDeep (counting r) k → RowsRight (a-digit v) d n c s (counting r, k)
   unfolding rows InCodes InOver
   digit-row v r k (i, j) g =
       let (f, h) = one-row (suc number-limit) (10 * v + (c - 48)) NUMBER in
-      record { code = neither-holds (lacking _ CODE (tt, tt)) (λ (x, y). x); number = (λ a. i (f a), λ o. h (j o)); group-row = neither-holds (lacking _ DEPTH (tt, tt)) g }
+      record { code = neither-holds (lacking _ CODE (tt, tt)) (λ (x, y). x); number = (λ a. i (f a), λ o. h (j o)); deep = neither-holds (lacking _ DEPTH (tt, tt)) g }
 
   code-row : (l : ℕ) (h : Option ℕ) (set : ℕ) (k : Stack) → RowsRight a-code d n c s (after l h (codes set), k)
   unfolding rows InCodes InOver OpenedDeep
   code-row l h set k =
       let (f, g) = one-row set-limit (bit c) CODE in
-      record { code = (λ a. (tt, f a), λ (x, y). g y); number = neither-holds (lacking _ NUMBER (tt, tt)) (λ x. x); group-row = neither-holds (lacking _ DEPTH (tt, tt)) (λ x. x) }
+      record { code = (λ a. (tt, f a), λ (x, y). g y); number = neither-holds (lacking _ NUMBER (tt, tt)) (λ x. x); deep = neither-holds (lacking _ DEPTH (tt, tt)) (λ x. x) }
 
   nothing-row : (q : ParserState) → ¬ InCodes (q .0) → ¬ InOver (q .0) → ¬ OpenedDeep (q .0) (q .1) → RowsRight nothing d n c s q
   unfolding rows
@@ -92,8 +93,8 @@ module _ (d n c : ℕ) (s : Bytes) where
 
   grow-row : (r : CountState) (m : CountChar) (k : Stack) → char-class c ≡ count-char m → On (counted k (grow r m c)) (RowsRight (begins (counting r) (count-char m)) d n c s)
   unfolding begins counted grow InCodes InOver OpenedDeep Over
-  grow-row empty digit k e = atom-row _ k (λ h. omega (arith, digit-byte c e)) (λ h. h)
-  grow-row empty point k e = atom-row _ k (λ h. h) (λ h. h)
+  grow-row empty digit k e = begun-row _ k (λ h. omega (arith, digit-byte c e)) (λ h. h)
+  grow-row empty point k e = begun-row _ k (λ h. h) (λ h. h)
   grow-row (first x) digit k e = digit-row x _ k (λ h. h, λ h. h) (λ h. h)
   grow-row (first x) point k e = nothing-row _ (λ h. h) (λ h. h) (λ h. h)
   grow-row (pointed x) digit k e = nothing-row _ (λ h. h) (λ h. omega (arith, digit-byte c e)) (λ h. h)
@@ -130,7 +131,7 @@ module _ (n c : ℕ) (s : Bytes) where
   enter-row l h k letter = code-row (depth k) n c s l h _ k
   enter-row l h k quote = nothing-row (depth k) n c s _ (λ x. x) (λ x. x) (λ x. x)
   enter-row l h k opening =
-      record { code = neither-holds (lacking _ CODE (tt, tt)) (λ (x, y). x); number = neither-holds (lacking _ NUMBER (tt, tt)) (λ x. x); group-row = one-row depth-limit (depth k) DEPTH }
+      record { code = neither-holds (lacking _ CODE (tt, tt)) (λ (x, y). x); number = neither-holds (lacking _ NUMBER (tt, tt)) (λ x. x); deep = one-row depth-limit (depth k) DEPTH }
 
   move-rows : (p : Phase) (k : Stack) (x : CharClass) → char-class c ≡ x → On (move p k x c) (RowsRight (begins p x) (depth k) n c s)
   unfolding move begins
@@ -147,9 +148,6 @@ module _ (n c : ℕ) (s : Bytes) where
   move-rows (after l h b) k (count-char m) e = grow-row (depth k) n c s empty m _ e
   move-rows (after l h b) k (body-start x) e = extend-row (depth k) n c s l h b k x
   move-rows (after l h b) k (branch-end x) e = leave-row (depth k) n c s k _ x
-
-  pub move-number : (p : Phase) (k : Stack) → On (move p k (char-class c) c) (λ q. Applies (rows (begins p (char-class c)) (depth k) n c s) NUMBER ↔ InOver (q .0))
-  move-number p k = on-map (move p k (char-class c) c) (λ q r. r .number) (move-rows p k (char-class c) refl)
 
 -- ---- the rows at a position
 
@@ -188,58 +186,61 @@ module _ (f : ℕ) (form : T (not (eqb FORM f))) (P : ℕ → ParserState → Ty
             λ (h, q, x, y). j (q, sym e ∙ state-exactly (take (suc p) s) q .1 y, x),
           )
 
--- each of the three rows
-rows-right : (q : ParserState) (c : ℕ) (s : Bytes) → On (step q c) (RowsRight (begins (q .0) (char-class c)) (depth (q .1)) (begun-at (q .0) (q .1)) c s)
+-- the law of the three in a state, and NUMBER's by itself
+rows-right : (n c : ℕ) (s : Bytes) (q : ParserState) → On (step q c) (RowsRight (begins (q .0) (char-class c)) (depth (q .1)) n c s)
 unfolding step
-rows-right q c s = move-rows (begun-at (q .0) (q .1)) c s (q .0) (q .1) (char-class c) refl
+rows-right n c s q = move-rows n c s (q .0) (q .1) (char-class c) refl
 
--- NUMBER applies at a position just where the bytes up to it end in a count so far whose last number is over 9,999
+pub step-number : (n c : ℕ) (s : Bytes) (q : ParserState) → On (step q c) (λ q′. Applies (rows (begins (q .0) (char-class c)) (depth (q .1)) n c s) NUMBER ↔ InOver (q′ .0))
+step-number n c s q = on-map (step q c) (λ q′ r. r .number) (rows-right n c s q)
+
+-- NUMBER applies at a position just where the bytes up to and with it end in a count so far whose last number is over 9,999
 pub number-exactly : (s : Bytes) (p : ℕ) → Applies (rows-at s p) NUMBER ↔ NumberAt s p
 unfolding NumberAt InOver
 number-exactly s p =
-    let (i, j) = byte-exactly NUMBER tt (λ c q. InOver (q .0)) (λ q c s. on-map (step q c) (λ q r. r .number) (rows-right q c s)) s p in
-    (λ a. let (l, q, x, h) = i a in let (r, k, y, z) = in-count (q .0) (q .1) (take (suc p) s) x h in (l, r, k, y, z), λ (l, r, k, x, h). j (l, (counting r, k), x, h))
+    let (i, j) = byte-exactly NUMBER tt (λ c q. InOver (q .0)) (λ q c s. step-number (begun-at (q .0) (q .1)) c s q) s p in
+    (λ a. let (l, q, x, h) = i a in let (r, k, y, z) = over-read (q .0) (q .1) (take (suc p) s) x h in (l, r, k, y, z), λ (l, r, k, x, h). j (l, (counting r, k), x, h))
   where
-    in-count : (p : Phase) (k : Stack) (u : Bytes) → InOver p → ReadSoFar p k u → (r : CountState) × (l : Stack) × Over r × ReadSoFar (counting r) l u
-    in-count (counting r) k u x h = (r, k, x, h)
-    in-count (inside l h value) k u x g = absurd x
-    in-count (after l h b) k u x g = absurd x
+    over-read : (p : Phase) (k : Stack) (u : Bytes) → InOver p → ReadSoFar p k u → (r : CountState) × (l : Stack) × Over r × ReadSoFar (counting r) l u
+    over-read (counting r) k u x h = (r, k, x, h)
+    over-read (inside l h value) k u x g = absurd x
+    over-read (after l h b) k u x g = absurd x
 
 -- CODE applies just where they end in code letters of which the last is none of the seven
 pub code-exactly : (s : Bytes) (p : ℕ) → Applies (rows-at s p) CODE ↔ CodeAt s p
 unfolding CodeAt InCodes
 code-exactly s p =
-    let (i, j) = byte-exactly CODE tt (λ c q. InCodes (q .0) × (set-limit ≤ bit c)) (λ q c s. on-map (step q c) (λ q r. r .code) (rows-right q c s)) s p in (
-      λ a. let (l, q, (x, b), h) = i a in let (n, m, set, k, z) = in-codes (q .0) (q .1) (take (suc p) s) x h in (l, b, n, m, set, k, z),
+    let (i, j) = byte-exactly CODE tt (λ c q. InCodes (q .0) × (set-limit ≤ bit c)) (λ q c s. on-map (step q c) (λ q′ r. r .code) (rows-right (begun-at (q .0) (q .1)) c s q)) s p in (
+      λ a. let (l, q, (x, b), h) = i a in let (n, m, set, k, z) = codes-read (q .0) (q .1) (take (suc p) s) x h in (l, b, n, m, set, k, z),
       λ (l, b, n, m, set, k, h). j (l, (after n m (codes set), k), (tt, b), h),
     )
   where
-    in-codes : (p : Phase) (k : Stack) (u : Bytes) → InCodes p → ReadSoFar p k u → (l : ℕ) × (h : Option ℕ) × (set : ℕ) × (k′ : Stack) × ReadSoFar (after l h (codes set)) k′ u
-    in-codes (counting r) k u x h = absurd x
-    in-codes (inside l h value) k u x g = absurd x
-    in-codes (after l h (codes set)) k u x g = (l, h, set, k, g)
-    in-codes (after l h (literal value)) k u x g = absurd x
-    in-codes (after l h (group bs)) k u x g = absurd x
+    codes-read : (p : Phase) (k : Stack) (u : Bytes) → InCodes p → ReadSoFar p k u → (l : ℕ) × (h : Option ℕ) × (set : ℕ) × (k′ : Stack) × ReadSoFar (after l h (codes set)) k′ u
+    codes-read (counting r) k u x h = absurd x
+    codes-read (inside l h value) k u x g = absurd x
+    codes-read (after l h (codes set)) k u x g = (l, h, set, k, g)
+    codes-read (after l h (literal value)) k u x g = absurd x
+    codes-read (after l h (group bs)) k u x g = absurd x
 
 -- DEPTH applies just where they open a group inside 8 others or more
 pub depth-exactly : (s : Bytes) (p : ℕ) → Applies (rows-at s p) DEPTH ↔ DepthAt s p
-unfolding DepthAt OpenedDeep
+unfolding DepthAt OpenedDeep ReadSoFar Cut CountSoFar AtBranchStart
 depth-exactly s p =
-    let (i, j) = byte-exactly DEPTH tt (λ c q. OpenedDeep (q .0) (q .1)) (λ q c s. on-map (step q c) (λ q r. r .group-row) (rows-right q c s)) s p in (
-      λ a. let (l, q, x, h) = i a in let (k, n, m, y, z) = opened (q .0) (q .1) (take (suc p) s) x h in (l, k, n, m, y, z),
-      λ (l, k, n, m, x, h). j (l, (counting empty, within k n m [] []), x, h),
+    let (i, j) = byte-exactly DEPTH tt (λ c q. OpenedDeep (q .0) (q .1)) (λ q c s. on-map (step q c) (λ q′ r. r .deep) (rows-right (begun-at (q .0) (q .1)) c s q)) s p in (
+      λ a. let (l, q, x, h) = i a in let (k, n, m, y, z) = group-read (q .0) (q .1) (take (suc p) s) x h in (l, k, n, m, y, z),
+      λ (l, k, n, m, x, h). j (l, (counting empty, within k n m [] []), x, (take (suc p) s, [], sym (append-nil (take (suc p) s)), h, (refl, refl))),
     )
   where
-    opened : (p : Phase) (k : Stack) (u : Bytes) → OpenedDeep p k → ReadSoFar p k u → (k′ : Stack) × (l : ℕ) × (h : Option ℕ) × (depth-limit ≤ depth k′) × ReadSoFar (counting empty) (within k′ l h [] []) u
-    opened (counting empty) (top before) u x g = absurd x
-    opened (counting empty) (within k l h [] []) u x g = (k, l, h, x, g)
-    opened (counting empty) (within k l h [] (a ∷ before)) u x g = absurd x
-    opened (counting empty) (within k l h (p ∷ others) before) u x g = absurd x
-    opened (counting (first n)) k u x g = absurd x
-    opened (counting (pointed n)) k u x g = absurd x
-    opened (counting (second n m)) k u x g = absurd x
-    opened (inside l h value) k u x g = absurd x
-    opened (after l h b) k u x g = absurd x
+    group-read : (p : Phase) (k : Stack) (u : Bytes) → OpenedDeep p k → ReadSoFar p k u → (k′ : Stack) × (l : ℕ) × (h : Option ℕ) × (depth-limit ≤ depth k′) × StackSoFar (within k′ l h [] []) u
+    group-read (counting empty) (top before) u x g = absurd x
+    group-read (counting empty) (within k l h [] []) u x (v, w, e, f, (g, o)) = (k, l, h, x, rw (e, g, append-nil) f)
+    group-read (counting empty) (within k l h [] (a ∷ before)) u x g = absurd x
+    group-read (counting empty) (within k l h (p ∷ others) before) u x g = absurd x
+    group-read (counting (first n)) k u x g = absurd x
+    group-read (counting (pointed n)) k u x g = absurd x
+    group-read (counting (second n m)) k u x g = absurd x
+    group-read (inside l h value) k u x g = absurd x
+    group-read (after l h b) k u x g = absurd x
 
 -- a source refused with NUMBER is refused at the first such place
 pub number-first : (s : Bytes) (p : ℕ) → outcome s ≡ refused NUMBER p → NumberAt s p × ((j : ℕ) → j < p → ¬ NumberAt s j)

@@ -1,4 +1,4 @@
--- NUMBER is settled by its digit: with it what follows does not matter, without it NUMBER stands later if at all. Assumes nothing.
+-- NUMBER is settled by its digit: with it what follows does not matter, with a letter in its place NUMBER stands later if at all. Assumes nothing.
 use mathlib.Core.Path.{_≡_, refl, ap, _∙_}
 use mathlib.Core.Logic.{_⊎_, inl, inr, ⊎-elim}
 use mathlib.Core.Bool.{Bool}
@@ -20,7 +20,7 @@ use Rattle.pattern.specs.Faults.{Over, NumberAt, form-row, rows-there, r
 use Rattle.pattern.proofs.Tests.{le-or-lt}
 use Rattle.pattern.proofs.TableRows.{refuse-applies, lacking, unfit-fault}
 use Rattle.pattern.proofs.Least.{scan-refused, refused-exactly}
-use Rattle.pattern.proofs.ByteAt.{InOver, move-number, number-exactly, number-first}
+use Rattle.pattern.proofs.ByteAt.{InOver, step-number, number-exactly, number-first}
 use Rattle.pattern.proofs.LongestCounts.{longest-next, count-step, longest-stop, over-unfit, longest-fit}
 use Rattle.pattern.proofs.Accepted.{Rises, atom-pass}
 
@@ -86,7 +86,7 @@ module _ (w w′ : Bytes) (p : ℕ) where
   run-settled [] r k i n l h f = absurd (omega (arith, scan-from w (counting r, k) i n p h))
   run-settled (c ∷ u) r k i n l h f =
       let (q, e, y) = here-or-later (counting r, k) i n c (u ++ w) p h in
-      let row = move-number n c (u ++ w) (counting r) k in
+      let row = step-number n c (u ++ w) (counting r, k) in
       ⊎-elim (λ a. rw (a (u ++ w′)) (rw (a (u ++ w)) at f)) (λ (r′, a, b).
       let d : q ≡ (counting r′, k) = let z = b k in cc in
       rw (a (u ++ w′)) (⊎-elim (λ (x, y). over-rises r′ (u ++ w′) ((rw (b k) at row) .0 (refuse-applies _ NUMBER x)))

@@ -49,11 +49,12 @@ Least s (accepted t) = (j g : ℕ) → ¬ Applies (rows-at s j) g
 unfoldable pub Viable : Bytes → Type 0
 Viable u = (w : Bytes) × (t : Syntax pattern) × Derives t (u ++ w)
 
--- FORM, without the automaton: the first byte that no pattern continues with, or the length if the source ends too soon
+-- FORM, without the automaton: the "first byte that no pattern continues with, or the length if the source ends too soon"
 unfoldable pub FormAt : Bytes → ℕ → Type 0
 FormAt s p = Viable (take p s) × (((p < length s) × ¬ Viable (take (suc p) s)) ⊎ ((p ≡ length s) × ¬ ((t : Syntax pattern) × Derives t s)))
 
--- CODE, "a letter other than the seven stands as a code", at "the letter": the bytes up to and with it end in code letters
+-- CODE, "a letter other than the seven stands as a code", at "the letter": the bytes up to and with it end in code letters, of which the
+-- last is none of the seven
 unfoldable pub CodeAt : Bytes → ℕ → Type 0
 CodeAt s p = (p < length s) × (set-limit ≤ bit (getD s p 0)) × (l : ℕ) × (h : Option ℕ) × (set : ℕ) × (k : Stack) × ReadSoFar (after l h (codes set)) k (take (suc p) s)
 
@@ -64,7 +65,7 @@ Over (first n) = number-limit < n
 Over (pointed n) = ⊥
 Over (second n m) = number-limit < m
 
--- NUMBER, by what the bytes up to and with that digit spell: all that is before an atom, and then such a count so far. The least such
+-- NUMBER, by what the bytes up to and with a digit spell: all that is before an atom, and then such a count so far. The least such
 -- position is "the first digit that takes the value above 9,999"
 unfoldable pub NumberAt : Bytes → ℕ → Type 0
 NumberAt s p = (p < length s) × (r : CountState) × (k : Stack) × Over r × ReadSoFar (counting r) k (take (suc p) s)
@@ -90,4 +91,4 @@ AtomsAt s p = (k : Stack) × StackSoFar k (take p s) × (atom-limit ≤ stack-si
 
 -- DEPTH, "a group opens inside 8 open ones", at "its (": the bytes up to and with it open a group
 unfoldable pub DepthAt : Bytes → ℕ → Type 0
-DepthAt s p = (p < length s) × (k : Stack) × (l : ℕ) × (h : Option ℕ) × (depth-limit ≤ depth k) × ReadSoFar (counting empty) (within k l h [] []) (take (suc p) s)
+DepthAt s p = (p < length s) × (k : Stack) × (l : ℕ) × (h : Option ℕ) × (depth-limit ≤ depth k) × StackSoFar (within k l h [] []) (take (suc p) s)
