@@ -22,7 +22,7 @@ use Rattle.pattern.proofs.TableRows.{lacking, end-row, range-row}
 use Rattle.pattern.proofs.Begun.{next-size}
 use Rattle.pattern.proofs.ParserSound.{next-stack}
 use Rattle.pattern.proofs.ParserComplete.{state-exactly}
-use Rattle.pattern.proofs.Least.{refused-exactly}
+use Rattle.pattern.proofs.Least.{named-least}
 use Rattle.pattern.proofs.LongestCounts.{longest-stop, count-longest, longest-one}
 
 -- ---- the states in which an atom may begin
@@ -228,7 +228,5 @@ atoms-exactly s p =
 pub atom-first : (s : Bytes) (p : ℕ) → outcome s ≡ refused NUMBER p → (j : ℕ) → j < p → (¬ RangeAt s j) × (¬ AtomsAt s j)
 unfolding Least
 atom-first s p e j h =
-    ⊎-elim
-    (λ (l, f, g). absurd (omega arith))
-    (λ (l, (a, b, c)). (λ x. c j RANGE h (range-exactly s j .1 x), λ x. c j ATOMS h (atoms-exactly s j .1 x)))
-    (refused-exactly s NUMBER p .0 e)
+    let (l, (a, b, c)) = named-least s NUMBER p (omega arith) e in
+    (λ x. c j RANGE h (range-exactly s j .1 x), λ x. c j ATOMS h (atoms-exactly s j .1 x))

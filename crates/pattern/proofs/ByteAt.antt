@@ -22,7 +22,7 @@ use Rattle.pattern.specs.Faults.{Over, NumberAt, CodeAt, DepthAt, form-r
 use Rattle.pattern.proofs.Tests.{neither-holds, On, on-map, le-or-lt}
 use Rattle.pattern.proofs.TableRows.{Lacks, lacking, end-row}
 use Rattle.pattern.proofs.Notation.{digit-byte}
-use Rattle.pattern.proofs.Least.{refused-exactly}
+use Rattle.pattern.proofs.Least.{named-least}
 use Rattle.pattern.proofs.ParserComplete.{state-on, state-append, state-exactly}
 
 -- ---- what the state after a byte says of it
@@ -41,7 +41,7 @@ InCodes (after l h (codes set)) = Unit {0}
 InCodes (after l h (literal value)) = ⊥
 InCodes (after l h (group bs)) = ⊥
 
--- a group was group-read last, inside 8 others or more
+-- a group was opened last, inside 8 others or more
 unfoldable OpenedDeep : Phase → Stack → Type 0
 OpenedDeep (counting empty) (top before) = ⊥
 OpenedDeep (counting empty) (within k l h [] []) = depth-limit ≤ depth k
@@ -164,20 +164,21 @@ module _ (f : ℕ) (form : T (not (eqb FORM f))) (P : ℕ → ParserState → Ty
   there none c s = neither-holds (λ a. a) (λ (q, e, x). Option·none-ne-some q e)
   there (some q) c s = row-leads c (step q c) _ (right q c s)
 
-  byte-exactly : (s : Bytes) (p : ℕ) → Applies (rows-at s p) f ↔ ((p < length s) × (q : ParserState) × P (getD s p 0) q × ReadSoFar (q .0) (q .1) (take (suc p) s))
+  -- the bytes up to and with the one at p lead to such a state
+  abbrev LeadsAt : Bytes → ℕ → Type 0
+  LeadsAt s p = (p < length s) × (q : ParserState) × P (getD s p 0) q × ReadSoFar (q .0) (q .1) (take (suc p) s)
+
+  byte-exactly : (s : Bytes) (p : ℕ) → Applies (rows-at s p) f ↔ LeadsAt s p
   unfolding rows-at
   byte-exactly s p = ⊎-elim short within-it (le-or-lt (length s) p)
     where
       o : Option ParserState
       o = state-after start (take p s)
 
-      Here : Type 0
-      Here = (p < length s) × (q : ParserState) × P (getD s p 0) q × ReadSoFar (q .0) (q .1) (take (suc p) s)
-
-      short : length s ≤ p → Applies (rows-there o (drop p s)) f ↔ Here
+      short : length s ≤ p → Applies (rows-there o (drop p s)) f ↔ LeadsAt s p
       short l = neither-holds (λ a. end-row f (form, tt) o (rw (drop-of-length-le s l) at a)) (λ (h, q, x, y). omega arith)
 
-      within-it : p < length s → Applies (rows-there o (drop p s)) f ↔ Here
+      within-it : p < length s → Applies (rows-there o (drop p s)) f ↔ LeadsAt s p
       within-it l =
           let e : state-after start (take (suc p) s) ≡ state-on o (getD s p 0 ∷ []) = ap (state-after start) (take-suc s p 0 l) ∙ state-append (take p s) start (getD s p 0 ∷ []) in
           let (i, j) = there o (getD s p 0) (drop (suc p) s) in
@@ -246,7 +247,5 @@ depth-exactly s p =
 pub number-first : (s : Bytes) (p : ℕ) → outcome s ≡ refused NUMBER p → NumberAt s p × ((j : ℕ) → j < p → ¬ NumberAt s j)
 unfolding Least
 number-first s p e =
-    ⊎-elim
-    (λ (l, f, g). absurd (omega arith))
-    (λ (l, (a, b, c)). (number-exactly s p .0 a, λ j h x. c j NUMBER h (number-exactly s j .1 x)))
-    (refused-exactly s NUMBER p .0 e)
+    let (l, (a, b, c)) = named-least s NUMBER p (omega arith) e in
+    (number-exactly s p .0 a, λ j h x. c j NUMBER h (number-exactly s j .1 x))

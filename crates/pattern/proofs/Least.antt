@@ -121,3 +121,7 @@ refused-exactly s f p = go (leb (length s) source-limit) (leb-decides (length s)
       λ e. inl (⊎-elim (λ h. absurd (u .complete h)) (λ h. h) (le-or-lt (length s) source-limit), cc, cc),
       ⊎-elim (λ (h, x, y). cc) (λ (h, x). absurd (u .complete h)),
     )
+
+-- any other number than LONG is that of the least fault
+pub named-least : (s : Bytes) (f p : ℕ) → LONG < f → outcome s ≡ refused f p → (length s ≤ source-limit) × Least s (refused f p)
+named-least s f p l e = ⊎-elim (λ (h, x, y). absurd (omega arith)) (λ h. h) (refused-exactly s f p .0 e)

@@ -19,7 +19,7 @@ use Rattle.pattern.specs.ParserInvariant.{state-after, begun-at}
 use Rattle.pattern.specs.Faults.{Over, NumberAt, form-row, rows-there, rows-at, Applies}
 use Rattle.pattern.proofs.Tests.{le-or-lt}
 use Rattle.pattern.proofs.TableRows.{refuse-applies, lacking, unfit-fault}
-use Rattle.pattern.proofs.Least.{scan-refused, refused-exactly}
+use Rattle.pattern.proofs.Least.{scan-refused, refused-exactly, named-least}
 use Rattle.pattern.proofs.ByteAt.{InOver, step-number, number-exactly, number-first}
 use Rattle.pattern.proofs.LongestCounts.{longest-next, count-step, longest-stop, over-unfit, longest-fit}
 use Rattle.pattern.proofs.Accepted.{Rises, atom-pass}
@@ -133,7 +133,7 @@ module _ (w w′ : Bytes) (p : ℕ) where
 -- where NUMBER stands in u, it stands so whatever follows u
 pub number-settled : (u w w′ : Bytes) (p : ℕ) → p < length u → length (u ++ w′) ≤ source-limit → outcome (u ++ w) ≡ refused NUMBER p → outcome (u ++ w′) ≡ refused NUMBER p
 number-settled u w w′ p l m h =
-    let x : (length (u ++ w) ≤ source-limit) × _ = ⊎-elim (λ (a, b, c). absurd (omega arith)) (λ x. x) (refused-exactly (u ++ w) NUMBER p .0 h) in
+    let x = named-least (u ++ w) NUMBER p (omega arith) h in
     refused-exactly (u ++ w′) NUMBER p .1 (inr (m, scan-refused (u ++ w′) NUMBER p .0 (settled w w′ p u start 0 0 (omega arith) (scan-refused (u ++ w) NUMBER p .1 (x .1)))))
 
 -- a letter is no place of NUMBER
