@@ -1,1 +1,2 @@
-mod CodeRows
+mod ClassTable
+mod LetterBits

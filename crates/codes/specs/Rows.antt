@@ -1,20 +1,24 @@
 -- The rows of the code's own table of codes. Private: a model for contracts inside the library.
-use mathlib.Core.Bool.{Bool, _||_}
-use mathlib.Core.List.{List, [], map}
+use mathlib.Core.List.{List, [], _∷_, _++_, map}
 use Prim.Native.Nat.{ℕ}
-use lib.ListN.{getD}
-use Rattle.pattern.specs.Bytes.{Bytes, between}
+use lib.ListN.{getD, take}
+use Rattle.pattern.specs.Bytes.{Bytes}
 use Rattle.pattern.specs.Codes.{Code, all-codes}
+use Rattle.codes.specs.declared.Code.{Code as Row}
 
 -- the capital letter of the code with bit k, 0 past the last one
 unfoldable pub letter-at : ℕ → ℕ
 letter-at k = getD (map (λ (c : Code). c .letter) all-codes) k 0
 
--- its ranges
-unfoldable pub ranges-at : ℕ → List (ℕ × ℕ)
-ranges-at k = getD (map (λ (c : Code). c .ranges) all-codes) k []
+-- ranges one after the other, each its first and its last byte
+unfoldable pub flatten : List (ℕ × ℕ) → Bytes
+flatten [] = []
+flatten (r ∷ rs) = r .0 ∷ r .1 ∷ flatten rs
 
--- a byte is in one of four ranges, which a row holds as eight numbers
-abbrev pub in-four : Bytes → ℕ → Bool
-in-four r b =
-    between (getD r 0 0) (getD r 1 0) b || between (getD r 2 0) (getD r 3 0) b || between (getD r 4 0) (getD r 5 0) b || between (getD r 6 0) (getD r 7 0) b
+-- the row of a code: its letter, and its ranges filled up to four with empty ones
+unfoldable pub row-of : Code → Row
+row-of c = record { letter = c .letter; ranges = take 8 (flatten (c .ranges) ++ 1 ∷ 0 ∷ 1 ∷ 0 ∷ 1 ∷ 0 ∷ []) }
+
+-- the row of the code with bit k
+unfoldable pub row-at : ℕ → Row
+row-at k = getD (map row-of all-codes) k (record { letter = 0; ranges = [] })

@@ -1,11 +1,8 @@
 // The code letters with their bytes: one table, which reading, classing and writing back share.
 ghost use mathlib.Core.Path.{_≡_};
-ghost use mathlib.Core.Bool.{_&&_};
-ghost use Prim.Native.Nat.{_<_, _%_};
-ghost use lib.Dec.{eqb};
-ghost use Rattle.pattern.specs.Bytes.{between};
-ghost use Rattle.pattern.specs.Codes.{in-ranges, in-set, bit};
-ghost use Rattle.codes.specs.Rows.{letter-at, ranges-at, in-four};
+ghost use Prim.Native.Nat.{_<_};
+ghost use Rattle.pattern.specs.Codes.{in-set, bit};
+ghost use Rattle.codes.specs.Rows.{row-at, letter-at};
 
 // A capital letter, and four ranges of bytes, each its first and its last; a range from 1 to 0 is empty.
 struct Code {
@@ -45,11 +42,19 @@ const CODES: [Code; 7] = [
     },
 ];
 
+// The row of the code with bit k.
+fn row(k: usize) -> Code
+    requires { ⌜ k < 7 ⌝ }
+    ensures { λ r. ⌜ r ≡ row-at k ⌝ }
+{
+    CODES[k]
+}
+
 // The letter of the code with bit k, 0 past the last one.
 pub fn letter(k: usize) -> u8
     ensures { λ r. ⌜ r ≡ letter-at k ⌝ }
 {
-    if k < 7 { CODES[k].letter } else { 0 }
+    if k < 7 { row(k).letter } else { 0 }
 }
 
 // The bit of a code letter of either case, 128 for any other byte.
@@ -72,62 +77,28 @@ pub fn bit(c: u8) -> u8
     b
 }
 
-// A byte is from a to z.
-fn between(a: u8, z: u8, b: u8) -> bool
-    ensures { λ r. ⌜ r ≡ between a z b ⌝ }
-{
-    if b < a { false } else { b <= z }
-}
+// The codes that each byte is of, a bit each; sixteen bytes to a line.
+const CLASSES: [u8; 256] = *b"\
+    \x06\x06\x06\x06\x06\x06\x06\x06\x06\x06\x06\x06\x06\x06\x06\x06\
+    \x06\x06\x06\x06\x06\x06\x06\x06\x06\x06\x06\x06\x06\x06\x06\x06\
+    \x24\x24\x24\x24\x24\x24\x24\x24\x24\x24\x24\x24\x24\x24\x24\x24\
+    \x14\x14\x14\x14\x14\x14\x14\x14\x14\x14\x24\x24\x24\x24\x24\x24\
+    \x24\x45\x45\x45\x45\x45\x45\x45\x45\x45\x45\x45\x45\x45\x45\x45\
+    \x45\x45\x45\x45\x45\x45\x45\x45\x45\x45\x45\x24\x24\x24\x24\x24\
+    \x24\x0d\x0d\x0d\x0d\x0d\x0d\x0d\x0d\x0d\x0d\x0d\x0d\x0d\x0d\x0d\
+    \x0d\x0d\x0d\x0d\x0d\x0d\x0d\x0d\x0d\x0d\x0d\x24\x24\x24\x24\x06\
+    \x04\x04\x04\x04\x04\x04\x04\x04\x04\x04\x04\x04\x04\x04\x04\x04\
+    \x04\x04\x04\x04\x04\x04\x04\x04\x04\x04\x04\x04\x04\x04\x04\x04\
+    \x04\x04\x04\x04\x04\x04\x04\x04\x04\x04\x04\x04\x04\x04\x04\x04\
+    \x04\x04\x04\x04\x04\x04\x04\x04\x04\x04\x04\x04\x04\x04\x04\x04\
+    \x04\x04\x04\x04\x04\x04\x04\x04\x04\x04\x04\x04\x04\x04\x04\x04\
+    \x04\x04\x04\x04\x04\x04\x04\x04\x04\x04\x04\x04\x04\x04\x04\x04\
+    \x04\x04\x04\x04\x04\x04\x04\x04\x04\x04\x04\x04\x04\x04\x04\x04\
+    \x04\x04\x04\x04\x04\x04\x04\x04\x04\x04\x04\x04\x04\x04\x04\x04";
 
-// A byte is in one of four ranges.
-fn in_ranges(r: [u8; 8], b: u8) -> bool
-    ensures { λ x. ⌜ x ≡ in-four r b ⌝ }
-{
-    if between(r[0], r[1], b) {
-        return true;
-    }
-    if between(r[2], r[3], b) {
-        return true;
-    }
-    if between(r[4], r[5], b) {
-        return true;
-    }
-    between(r[6], r[7], b)
-}
-
-// A byte is of the code with bit k.
-fn in_code(k: usize, b: u8) -> bool
-    requires { ⌜ k < 7 ⌝ }
-    ensures { λ r. ⌜ r ≡ in-ranges (ranges-at k) b ⌝ }
-{
-    let code = CODES[k];
-    let r = code.ranges;
-    in_ranges(r, b)
-}
-
-// The lowest bit of what is left of a set is 1, and a byte is of the code with bit k.
-fn has(left: u16, k: usize, b: u8) -> bool
-    requires { ⌜ k < 7 ⌝ }
-    ensures { λ r. ⌜ r ≡ (eqb (left % 2) 1 && in-ranges (ranges-at k) b) ⌝ }
-{
-    if left % 2 == 1 { in_code(k, b) } else { false }
-}
-
-// A byte is of a code whose bit is in the set. The seven codes are asked in turn, with no loop.
+// A byte is of a code whose bit is in the set.
 pub fn in_set(set: u16, b: u8) -> bool
     ensures { λ r. ⌜ r ≡ in-set set b ⌝ }
 {
-    let c = set / 2;
-    let e = c / 2;
-    let l = e / 2;
-    let n = l / 2;
-    let p = n / 2;
-    let u = p / 2;
-    has(set, 0, b)
-        | has(c, 1, b)
-        | has(e, 2, b)
-        | has(l, 3, b)
-        | has(n, 4, b)
-        | has(p, 5, b)
-        | has(u, 6, b)
+    CLASSES[b as usize] as u16 & set != 0
 }

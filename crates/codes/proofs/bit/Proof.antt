@@ -7,7 +7,7 @@ use native.Mathlib.Omega.{arith}
 use borrow.Author.Needs.{needs}
 use lib.ListN.{drop}
 use Rattle.pattern.specs.Codes.{all-codes, bit-among, bit}
-use Rattle.codes.proofs.CodeRows.{bit-capital, bit-small, bit-later, letter-small, power-small, bit-end}
+use Rattle.codes.proofs.LetterBits.{bit-capital, bit-small, bit-later, letter-small, power-small, bit-end}
 use Rattle.codes.proofs.bit.Statement.{statement}
 use Rattle.codes.proofs.bit.Tie as tie
 
