@@ -1,2 +1,2 @@
-mod ClassTable
+mod ClassTest
 mod LetterBits

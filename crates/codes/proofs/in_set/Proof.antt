@@ -1,19 +1,12 @@
--- `codes::in_set` meets its contract: the constant is the character set in order. Assumes nothing.
+-- `codes::in_set` meets its contract. Assumes nothing.
 use native.Mathlib.Omega.{arith}
 use borrow.Author.Needs.{needs}
-use mir.Facts.{fits-lt, fits-lit}
-use Rattle.pattern.proofs.Classes.{in-order}
-use Rattle.codes.proofs.ClassTable.{class-rule, class-small}
+use Rattle.codes.proofs.ClassTest.{class-test}
 use Rattle.codes.proofs.in_set.Statement.{statement}
 use Rattle.codes.proofs.in_set.Tie as tie
 
-cast-result : tie.Need-cast-result
-unfolding in-order
-cast-result c = fits-lt (class-small (c .args .b) (omega arith)) (fits-lit tt)
-
 returns : tie.Need-returns
-unfolding in-order
-returns c = class-rule (c .args .b) (omega arith) (c .args .set)
+returns c = class-test (c .before .args .b) _ (omega arith) (c .word .ensures)
 
 pub in-set-spec : {M : Type 1} → statement M
-in-set-spec = tie.close (tie.spec (search needs) cast-result returns)
+in-set-spec = tie.close (tie.spec (λ c κs. search needs) (search needs) (search needs) (search needs) returns)
