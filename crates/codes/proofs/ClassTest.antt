@@ -1,50 +1,71 @@
 -- The list of the codes of each byte agrees with the ranges, so that it answers the class test. Assumes nothing.
 use mathlib.Core.Path.{_≡_, refl, _∙_, ap, ap₂}
-use mathlib.Core.Bool.{Bool, true, false, not, _&&_, _||_, cond}
-use mathlib.Core.List.{List, [], _∷_}
+use mathlib.Core.Bool.{Bool, true, false, not, _&&_, _||_, cond, and-false, or-true, or-false}
+use mathlib.Core.List.{List, [], _∷_, map}
 use Prim.Native.Nat.{ℕ, zero, suc, _+_, _*_, _/_, _%_, _^_, _<_, min}
 use native.Mathlib.Omega.{arith}
+use lib.Arith.{digits-div, digits-mod}
 use lib.Bits.{bitAnd, and-step, and-mask}
 use lib.Dec.{eqb, eqb→eq}
-use borrow.Author.Tests.{ne-eqb}
-use Rattle.pattern.specs.Bytes.{between}
+use borrow.Author.Tests.{lt-leb, ne-eqb}
+use Rattle.pattern.specs.Bytes.{Bytes, between}
 use Rattle.pattern.specs.Codes.{Code, all-codes, in-ranges, in-codes, in-set}
 use Rattle.pattern.proofs.Tests.{all, all-at}
 use Rattle.codes.specs.Classes.{word-at}
+use Rattle.codes.specs.Rows.{flatten, row-of}
 
 -- the set of the codes whose ranges have a byte, the first one's bit lowest
 unfoldable set-of : List Code → ℕ → ℕ
 set-of [] b = 0
-set-of (c ∷ cs) b = cond (in-ranges (c .ranges) b) 1 0 + 2 * set-of cs b
+set-of (c ∷ cs) b = set-of cs b * 2 + cond (in-ranges (c .ranges) b) 1 0
 
 -- the set that the list has for a byte
-abbrev listed : ℕ → ℕ
-listed b = word-at (b / 8) / 2 ^ (b % 8 * 8) % 256
+abbrev set-at : ℕ → ℕ
+set-at b = word-at (b / 8) / 2 ^ (b % 8 * 8) % 256
+
+-- the ranges that a row holds
+unfoldable ranges-in : Bytes → List (ℕ × ℕ)
+ranges-in [] = []
+ranges-in (a ∷ []) = []
+ranges-in (a ∷ z ∷ s) = (a, z) ∷ ranges-in s
+
+-- the codes with the ranges of the code's table
+unfoldable table-codes : List Code
+unfolding all-codes flatten row-of ranges-in
+table-codes = map (λ (c : Code). record { letter = c .letter; ranges = ranges-in (row-of c .ranges) }) all-codes
 
 -- one test over the whole list is the rule at each byte
-by-ranges : (b : ℕ) → b < 256 → listed b ≡ set-of all-codes b
-unfolding all set-of all-codes in-ranges between
-by-ranges b h = eqb→eq _ _ (all-at 256 (λ b. eqb (listed b) (set-of all-codes b)) tt b h)
+by-ranges : (b : ℕ) → b < 256 → set-at b ≡ set-of table-codes b
+unfolding all set-of table-codes in-ranges between
+by-ranges b h = eqb→eq _ _ (all-at 256 (λ b. eqb (set-at b) (set-of table-codes b)) tt b h)
+
+-- no byte is from 1 to 0
+none-between : (b : ℕ) → between 1 0 b ≡ false
+unfolding between
+none-between zero = refl
+none-between (suc b) = rw (lt-leb (suc b) 0 (omega arith), and-false)
+
+-- the table has the bytes of the definition
+same-codes : (set b : ℕ) → in-codes table-codes set b ≡ in-codes all-codes set b
+unfolding table-codes in-codes all-codes in-ranges
+same-codes set b = simp (none-between, or-false)
 
 -- two sets have a code in common
 abbrev meets : ℕ → ℕ → Bool
 meets x y = not (eqb (bitAnd x y) 0)
 
-not-low : (y : ℕ) → not (eqb (y * 2 + 0) 0) ≡ not (eqb y 0)
-not-low zero = refl
-not-low (suc y) = rw (ne-eqb (suc y * 2 + 0) 0 (λ e. omega arith), ne-eqb (suc y) 0 (λ e. omega arith))
-
 -- the lowest bit is common, or a higher one
 low-or-high : (r : Bool) (y s : ℕ) → s < 2 → not (eqb (y * 2 + min (cond r 1 0) s) 0) ≡ (eqb s 1 && r || not (eqb y 0))
-low-or-high true y (suc zero) h = rw (ne-eqb (y * 2 + 1) 0 (λ e. omega arith))
-low-or-high true y zero h = not-low y
-low-or-high false y (suc zero) h = not-low y
-low-or-high false y zero h = not-low y
-low-or-high r y (suc (suc s)) h = absurd (omega arith)
+low-or-high r (suc y) s h = rw (ne-eqb (suc y * 2 + min (cond r 1 0) s) 0 (λ e. omega arith), ne-eqb (suc y) 0 (λ e. omega arith), or-true)
+low-or-high true zero zero h = refl
+low-or-high true zero (suc zero) h = refl
+low-or-high false zero zero h = refl
+low-or-high false zero (suc zero) h = refl
+low-or-high r zero (suc (suc s)) h = absurd (omega arith)
 
-halves : (r : Bool) (y : ℕ) → ((cond r 1 0 + 2 * y) / 2 ≡ y) × ((cond r 1 0 + 2 * y) % 2 ≡ cond r 1 0)
-halves true y = (omega arith, omega arith)
-halves false y = (omega arith, omega arith)
+one-bit : (r : Bool) → cond r 1 0 < 2
+one-bit true = omega arith
+one-bit false = omega arith
 
 -- a byte is of a set just where the set has one of the byte's codes
 in-common : (cs : List Code) (b set : ℕ) → meets (set-of cs b) set ≡ in-codes cs set b
@@ -52,11 +73,11 @@ unfolding set-of in-codes
 in-common [] b set = refl
 in-common (c ∷ cs) b set =
     let r = in-ranges (c .ranges) b in
-    let (high, low) = halves r (set-of cs b) in
-    ap (λ x. not (eqb x 0)) (and-step (set-of (c ∷ cs) b) set ∙ ap₂ (λ x y. bitAnd x (set / 2) * 2 + min y (set % 2)) high low)
-    ∙ low-or-high r (bitAnd (set-of cs b) (set / 2)) (set % 2) (omega arith) ∙ ap (λ x. eqb (set % 2) 1 && r || x) (in-common cs b (set / 2))
+    let y = set-of cs b in
+    ap (λ x. not (eqb x 0)) (and-step (set-of (c ∷ cs) b) set ∙ ap₂ (λ x m. bitAnd x (set / 2) * 2 + min m (set % 2)) (digits-div y (one-bit r)) (digits-mod y (one-bit r)))
+    ∙ low-or-high r (bitAnd y (set / 2)) (set % 2) (omega arith) ∙ ap (λ x. eqb (set % 2) 1 && r || x) (in-common cs b (set / 2))
 
 -- the class test that reads the list
 pub class-test : (b set : ℕ) {word : ℕ} → b < 256 → word ≡ word-at (b / 8) → meets (bitAnd (word / 2 ^ (b % 8 * 8)) 255) set ≡ in-set set b
 unfolding in-set
-class-test b set {word} h e = ap (λ x. meets x set) (and-mask (word / 2 ^ (b % 8 * 8)) 8 ∙ ap (λ w. w / 2 ^ (b % 8 * 8) % 256) e ∙ by-ranges b h) ∙ in-common all-codes b set
+class-test b set {word} h e = ap (λ x. meets x set) (and-mask (word / 2 ^ (b % 8 * 8)) 8 ∙ ap (λ w. w / 2 ^ (b % 8 * 8) % 256) e ∙ by-ranges b h) ∙ in-common table-codes b set ∙ same-codes set b

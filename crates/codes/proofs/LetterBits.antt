@@ -1,6 +1,6 @@
 -- The bit of a letter, found among the codes from the one with bit k on. Assumes nothing.
 use mathlib.Core.Path.{_≡_, refl, _∙_}
-use mathlib.Core.Bool.{Bool, true, false, _||_, cond}
+use mathlib.Core.Bool.{_||_, cond, or-true}
 use mathlib.Core.List.{List, [], _∷_, map}
 use Prim.Native.Nat.{ℕ, zero, suc, _+_, _*_, _^_, _<_, _≤_}
 use native.Mathlib.Omega.{arith}
@@ -17,10 +17,6 @@ unfolding bit-among
 bit-step [] k b c h = absurd (omega arith)
 bit-step (l ∷ ls) zero b c h = refl
 bit-step (l ∷ ls) (suc k) b c h = bit-step ls k b c (omega arith)
-
-or-true : (b : Bool) → b || true ≡ true
-or-true true = refl
-or-true false = refl
 
 module _ (k : ℕ) (h : k < 7) where
   fits : k < length all-codes

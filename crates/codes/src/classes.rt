@@ -1,9 +1,9 @@
-// The codes of each byte, as a list that stands in the program.
+// A list with the codes of each byte.
 ghost use mathlib.Core.Path.{_≡_};
 ghost use Prim.Native.Nat.{_<_};
 ghost use Rattle.codes.specs.Classes.{word-at};
 
-// The codes that each byte is of, a bit each: a list of 256 sets, eight to a word, the first one's lowest.
+// 256 sets, a bit for each code, eight sets to a word: that of byte 8 * k + i stands in bits 8 * i to 8 * i + 7 of word k.
 const CLASSES: [u64; 32] = [
     0x0606060606060606,
     0x0606060606060606,
@@ -39,8 +39,8 @@ const CLASSES: [u64; 32] = [
     0x0404040404040404,
 ];
 
-// The sets of the eight bytes from 8 * k on. An arm for each word: read at a place that is known, the list stays in the
-// program; read at one that isn't, all of it would be built anew at each look.
+// Word k, by an arm for each: read at known places the list stays in the program; read at k it would be built anew at each
+// look. The last arm is never taken.
 pub fn word(k: u8) -> u64
     requires { ⌜ k < 32 ⌝ }
     ensures { λ r. ⌜ r ≡ word-at k ⌝ }

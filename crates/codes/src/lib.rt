@@ -1,4 +1,4 @@
-// The code letters with their bytes: one table for reading and writing back, and the class test by a list made from it.
+// The code letters with their bytes: one table for reading and writing back, and the class test by a list that agrees with it.
 ghost use mathlib.Core.Path.{_≡_};
 ghost use Prim.Native.Nat.{_<_};
 ghost use Rattle.pattern.specs.Codes.{in-set, bit};
@@ -84,6 +84,6 @@ pub fn bit(c: u8) -> u8
 pub fn in_set(set: u16, b: u8) -> bool
     ensures { λ r. ⌜ r ≡ in-set set b ⌝ }
 {
-    let classes = word(b / 8) >> (b % 8 * 8) & 0xff;
-    classes & set as u64 != 0
+    let classes = (word(b / 8) >> (b % 8 * 8)) & 0xff;
+    (classes & set as u64) != 0
 }

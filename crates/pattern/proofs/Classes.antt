@@ -37,7 +37,7 @@ abbrev above-127 : ℕ
 above-127 = 4
 
 -- the character set in order: how many bytes of each sort follow each other
-unfoldable pub in-order : List ℕ
+abbrev pub in-order : List ℕ
 in-order =
     replicate 32 control ++ replicate 16 punctuation ++ replicate 10 digit ++ replicate 7 punctuation ++ replicate 26 capital
     ++ replicate 6 punctuation ++ replicate 26 small ++ replicate 4 punctuation ++ replicate 1 control ++ replicate 128 above-127
@@ -53,5 +53,5 @@ unfolding bytes all-codes bit-among bit
 bits-hold = (refl, refl)
 
 pub classes-hold : map classes (count-up 256 0) ≡ in-order
-unfolding between all-codes in-ranges in-codes in-set classes in-order count-up
+unfolding between all-codes in-ranges in-codes in-set classes count-up
 classes-hold = refl
