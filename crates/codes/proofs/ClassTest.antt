@@ -1,42 +1,22 @@
--- The list of the codes of each byte agrees with the ranges, so that it answers the class test. Assumes nothing.
+-- The list `CLASSES` agrees with the ranges of the table `CODES`, so that it answers the class test. Assumes nothing.
 use mathlib.Core.Path.{_≡_, refl, _∙_, ap, ap₂}
 use mathlib.Core.Bool.{Bool, true, false, not, _&&_, _||_, cond, and-false, or-true, or-false}
-use mathlib.Core.List.{List, [], _∷_, map}
+use mathlib.Core.List.{List, [], _∷_}
 use Prim.Native.Nat.{ℕ, zero, suc, _+_, _*_, _/_, _%_, _^_, _<_, min}
 use native.Mathlib.Omega.{arith}
 use lib.Arith.{digits-div, digits-mod}
 use lib.Bits.{bitAnd, and-step, and-mask}
 use lib.Dec.{eqb, eqb→eq}
 use borrow.Author.Tests.{lt-leb, ne-eqb}
-use Rattle.pattern.specs.Bytes.{Bytes, between}
+use Rattle.pattern.specs.Bytes.{between}
 use Rattle.pattern.specs.Codes.{Code, all-codes, in-ranges, in-codes, in-set}
 use Rattle.pattern.proofs.Tests.{all, all-at}
-use Rattle.codes.specs.Classes.{word-at}
-use Rattle.codes.specs.Rows.{flatten, row-of}
+use Rattle.codes.specs.Classes.{word-at, set-at, set-of}
+use Rattle.codes.specs.Rows.{flatten, row-of, ranges-in, table-codes}
 
--- the set of the codes whose ranges have a byte, the first one's bit lowest
-unfoldable set-of : List Code → ℕ → ℕ
-set-of [] b = 0
-set-of (c ∷ cs) b = set-of cs b * 2 + cond (in-ranges (c .ranges) b) 1 0
-
--- the set that the list has for a byte
-abbrev set-at : ℕ → ℕ
-set-at b = word-at (b / 8) / 2 ^ (b % 8 * 8) % 256
-
--- the ranges that a row holds
-unfoldable ranges-in : Bytes → List (ℕ × ℕ)
-ranges-in [] = []
-ranges-in (a ∷ []) = []
-ranges-in (a ∷ z ∷ s) = (a, z) ∷ ranges-in s
-
--- the codes with the ranges of the code's table
-unfoldable table-codes : List Code
-unfolding all-codes flatten row-of ranges-in
-table-codes = map (λ (c : Code). record { letter = c .letter; ranges = ranges-in (row-of c .ranges) }) all-codes
-
--- one test over the whole list is the rule at each byte
-by-ranges : (b : ℕ) → b < 256 → set-at b ≡ set-of table-codes b
-unfolding all set-of table-codes in-ranges between
+-- the list agrees with the table: one test over the whole list is the rule at each byte
+pub by-ranges : (b : ℕ) → b < 256 → set-at b ≡ set-of table-codes b
+unfolding all set-of table-codes ranges-in row-of flatten all-codes in-ranges between
 by-ranges b h = eqb→eq _ _ (all-at 256 (λ b. eqb (set-at b) (set-of table-codes b)) tt b h)
 
 -- no byte is from 1 to 0
@@ -47,7 +27,7 @@ none-between (suc b) = rw (lt-leb (suc b) 0 (omega arith), and-false)
 
 -- the table has the bytes of the definition
 same-codes : (set b : ℕ) → in-codes table-codes set b ≡ in-codes all-codes set b
-unfolding table-codes in-codes all-codes in-ranges
+unfolding table-codes ranges-in row-of flatten all-codes in-codes in-ranges
 same-codes set b = simp (none-between, or-false)
 
 -- two sets have a code in common

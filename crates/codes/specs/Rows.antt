@@ -1,4 +1,4 @@
--- The rows of the code's own table of codes. Private: a model for contracts inside the library.
+-- The rows of the table `CODES`. Private: a model for contracts inside the library.
 use mathlib.Core.List.{List, [], _∷_, _++_, map}
 use Prim.Native.Nat.{ℕ}
 use lib.ListN.{getD, take}
@@ -22,3 +22,13 @@ row-of c = record { letter = c .letter; ranges = take 8 (flatten (c .ranges) ++ 
 -- the row of the code with bit k
 unfoldable pub row-at : ℕ → Row
 row-at k = getD (map row-of all-codes) k (record { letter = 0; ranges = [] })
+
+-- the ranges that a row holds
+unfoldable pub ranges-in : Bytes → List (ℕ × ℕ)
+ranges-in [] = []
+ranges-in (a ∷ []) = []
+ranges-in (a ∷ z ∷ s) = (a, z) ∷ ranges-in s
+
+-- the codes as the rows have them
+unfoldable pub table-codes : List Code
+table-codes = map (λ (r : Row). record { letter = r .letter; ranges = ranges-in (r .ranges) }) (map row-of all-codes)
