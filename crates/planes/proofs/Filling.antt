@@ -9,6 +9,8 @@ use native.Mathlib.Omega.{arith}
 use borrow.Author.Tests.{eq-eqb, ne-eqb, eqb-true, eqb-false}
 use lib.Dec.{eqb}
 use lib.ListN.{length, getD}
+use lib.Seq.{slice}
+use Rattle.pattern.specs.Bytes.{equal}
 use Rattle.pattern.specs.Codes.{in-set}
 use Rattle.planes.specs.declared.fill.Content.{Content}
 use Rattle.planes.specs.declared.fill.Content.the-variants.{Empty, Codes, Literal}
@@ -43,9 +45,10 @@ module _ (table label : List ℕ) (i : ℕ) {content : Content} where
     unfolding held-in
     value-codes set e = let l : i + 1 ≤ length label = rw e at h in (omega arith, rw e (single-byte set label i (i + 1) l (omega arith)))
 
-    pub value-literal : (from len : ℕ) → content ≡ Literal from len → Fit table content → (i + len ≤ length label) × (from + len ≤ length table)
-    unfolding Fit
-    value-literal from len e f = (rw e at h, rw e at f)
+    pub value-literal : (from len : ℕ) {n : ℕ} → content ≡ Literal from len → n ≡ span content → Fit table content
+        → (i + n ≤ length label) × (from + n ≤ length table) × (held-in table label content i (i + span content) ≡ equal (slice i (i + n) label) (slice from (from + n) table))
+    unfolding Fit held-in
+    value-literal from len e s f = (rw s h, rw (s, e) (rw e at f), rw (s, e))
 
 -- the stretches that end before j are filled, the others empty
 pub record FillAt (table label s₁ : List ℕ) (w : ℕ) (content : Content) (out : ℕ) (s : List ℕ) (j : ℕ) : Type 0 where

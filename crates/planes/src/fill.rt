@@ -25,19 +25,8 @@ fn width(content: Content) -> usize
     }
 }
 
-// The stretch of that length that begins at i is one of those.
-fn value(table: &[u8], label: &[u8], content: Content, i: usize) -> bool
-    requires { ⌜ i + span content ≤ length (now label) ⌝ ∗ ⌜ Fit (now table) content ⌝ }
-    ensures { λ r. ⌜ r ≡ held-in (now (table .entry)) (now (label .entry)) content i (i + span content) ⌝ }
-{
-    match content {
-        Content::Empty => true,
-        Content::Codes(set) => codes::in_set(set, label[i]),
-        Content::Literal(from, len) => equal(label, i, table, from, len),
-    }
-}
-
-// Plane out, with what it is to be filled with.
+// Plane out, with what it is to be filled with: of each place the stretch of that length that ends there. A literal's length is
+// taken from n, which is set for every content.
 pub fn fill(table: &[u8], label: &[u8], scratch: &mut [u8], w: usize, content: Content, out: usize)
     requires { ⌜ FillPre (now table) (now label) (now scratch) w content out ⌝ }
     ensures { λ _. ⌜ FillPost (now (table .entry)) (now (label .entry)) (now (scratch .entry)) (now (scratch .exit)) w content out ⌝ }
@@ -47,7 +36,13 @@ pub fn fill(table: &[u8], label: &[u8], scratch: &mut [u8], w: usize, content: C
     let mut j = n;
     while j < w {
         let i = j - n;
-        set_stretch(scratch, w, out, i, j, value(table, label, content, i));
+        let kind = content;
+        let held = match kind {
+            Content::Empty => true,
+            Content::Codes(set) => codes::in_set(set, label[i]),
+            Content::Literal(from, _) => equal(label, i, table, from, n),
+        };
+        set_stretch(scratch, w, out, i, j, held);
         j += 1;
     }
 }
