@@ -12,6 +12,7 @@ use lib.ListN.{length}
 use lib.Seq.{take-append-seam, take-length}
 use borrow.Author.Tests.{le-leb, lt-leb, leb-true, leb-false, lt-ltb, le-ltb}
 use Rattle.pattern.specs.Numbers.{source-limit, atom-limit, label-limit, LONG, DEPTH, ROOM, TABLE, LABEL, WORK, PARTS, BUDGET}
+use Rattle.pattern.specs.Versions.{Version, newest}
 use Rattle.pattern.specs.Bytes.{Bytes, overwrite, zeroed}
 use Rattle.pattern.specs.Syntax.{Sort, pattern, Syntax, last, then, repeat, codes, literal, group, only, or, size, top-size}
 use Rattle.pattern.specs.Meaning.{Satisfies}
@@ -22,8 +23,8 @@ use Rattle.pattern.specs.Scan.{refuse, Outcome, refused, accepted, outco
 use Rattle.pattern.specs.Within.{Ordered, InLimits, Limited}
 use Rattle.pattern.specs.Faults.{rows-at, Applies, Least}
 use Rattle.pattern.specs.Print.{print}
-use Rattle.pattern.specs.Table.{encode}
-use Rattle.pattern.specs.Decode.{decode}
+use Rattle.pattern.specs.Table.{encode-in, encode}
+use Rattle.pattern.specs.Decode.{version-of, decode, Compiles}
 use Rattle.pattern.specs.Answers.{Answer, refusal, result, put-if, put, compiled, compileOf, written-back, writeOf, MatchOutput, scratch-needed, part-bytes, lent-fault, Ending, untried, exhausted, decided, ended, ending, match-ending, matchOf, result-bytes, MatchNumber, Untouched, shown}
 use Rattle.pattern.proofs.Tests.{le-or-lt, not-less, if-true, if-false}
 use Rattle.pattern.proofs.Stores.{length-overwrite, length-zeroed}
@@ -33,7 +34,7 @@ use Rattle.pattern.proofs.Accepted.{accepted-exactly}
 use Rattle.pattern.proofs.TableRows.{refuse-applies, refuse-none, row-number}
 use Rattle.pattern.proofs.Least.{refused-exactly}
 use Rattle.pattern.proofs.Shortest.{shortest, good-tree}
-use Rattle.pattern.proofs.RoundTrip.{good-exactly}
+use Rattle.pattern.proofs.RoundTrip.{compiles-accepted, compiles-version, accepted-compiles, good-exactly}
 
 -- the counts of a tree within the limits are in order
 good-ordered : {s : Sort} (d : ℕ) (x : Syntax s) → InLimits d x → Ordered x
@@ -50,26 +51,36 @@ good-ordered d (or p bs) (g, k) = (good-ordered d p g, good-ordered d bs k)
 -- ---- the tree of a good table
 
 module _ (table : Bytes) (t : Syntax pattern) (good : decode table ≡ some t) where
-  -- its printed source is accepted with it, and the table is its table
+  -- its printed source is accepted with it
   pub print-accepted : outcome (print t) ≡ accepted t
-  print-accepted = let (source, a, m) = good-exactly table t .0 good in good-tree t .0 (source, a)
+  print-accepted = let (v, source, c) = good-exactly table t .0 good in good-tree t .0 (source, compiles-accepted c)
 
-  pub decoded-encode : encode t ≡ table
-  decoded-encode = let (source, a, m) = good-exactly table t .0 good in m
+  -- that source compiles to the table in the version that the table names
+  pub print-compiles : Compiles (version-of table) (print t) t table
+  print-compiles =
+      let (v, source, c) = good-exactly table t .0 good in
+      let (n, h, g) = accepted-exactly (print t) t .0 print-accepted in
+      rw (compiles-version c) (record { derives = h; within = g .tree; short = omega (arith, shortest 0 t source (c .within) (c .derives), c .short); few = c .few; whole = c .whole })
+
+  -- the table that its tree compiles to is good too, with the same tree
+  pub renewed : decode (encode t) ≡ some t
+  renewed = good-exactly (encode t) t .1 (newest, print t, accepted-compiles (print t) t print-accepted)
+
+  -- and is the table itself, if that is of the version that is written
+  pub encode-same : version-of table ≡ newest → encode t ≡ table
+  encode-same e = rw e at (print-compiles .whole)
 
   -- no source that compiles to the table is shorter than its printed one
-  pub print-shortest : (source : Bytes) (u : Syntax pattern) → outcome source ≡ accepted u → encode u ≡ table → length (print t) ≤ length source
-  print-shortest source u a m =
-      let d : decode table ≡ some u = good-exactly table u .1 (source, a, m) in
+  pub print-shortest : (v : Version) (source : Bytes) (u : Syntax pattern) → Compiles v source u table → length (print t) ≤ length source
+  print-shortest v source u c =
+      let d : decode table ≡ some u = good-exactly table u .1 (v, source, c) in
       let e : u ≡ t = cc in
-      let (n, h, g) = accepted-exactly source t .0 (a ∙ ap accepted e) in
-      shortest 0 t source (g .tree) h
+      rw e at (shortest 0 u source (c .within) (c .derives))
 
   -- demand 2: the verdict is yes just when the partition exists, and the parts are the longest-first one
   pub verdict-right : (label : Bytes) → IsVerdict label t (verdict label t)
   verdict-right label =
-      let (n, h, g) = accepted-exactly (print t) t .0 print-accepted in
-      verdict-is label t (good-ordered 0 t (g .tree))
+      verdict-is label t (good-ordered 0 t (print-compiles .within))
 
 -- ---- writing back
 
@@ -92,16 +103,25 @@ unfolding written-back put
 write-printed none source e = absurd (omega arith)
 write-printed (some t) source e = (t, refl, put-written _ 0 (print t) source e)
 
--- demand 2: the source that is written back compiles to the table it was written from
-pub write-compile : (table source room : Bytes) → writeOf table source .answer .number ≡ 0 → length table ≤ length room
-    → compileOf (result-bytes (writeOf table source)) room ≡ record { answer = result (length table) 0; bytes = overwrite table room }
+-- demand 2, as 02 amends it: the source that is written back compiles to the newest version's table of the same pattern
+pub write-compile : (table source room : Bytes) (t : Syntax pattern) → decode table ≡ some t → writeOf table source .answer .number ≡ 0 → length (encode t) ≤ length room
+    → compileOf (result-bytes (writeOf table source)) room ≡ record { answer = result (length (encode t)) 0; bytes = overwrite (encode t) room }
 unfolding writeOf compileOf compiled
-write-compile table source room e h =
-    let (t, d, w) = write-printed (decode table) source e in
-    ap (λ x. compileOf x room) w
+write-compile table source room t d e h =
+    let (u, x, w) = write-printed (decode table) source e in
+    let z : u ≡ t = cc in
+    ap (λ x. compileOf x room) (w ∙ ap print z)
     ∙ ap (λ o. compiled o (print t) room) (print-accepted table t d)
-    ∙ ap (λ x. put (length (print t)) x room) (decoded-encode table t d)
-    ∙ put-fits _ table room h
+    ∙ put-fits _ (encode t) room h
+
+-- which is the table it was written from, if that is of this version
+pub write-compile-same : (table source room : Bytes) → version-of table ≡ newest → writeOf table source .answer .number ≡ 0 → length table ≤ length room
+    → compileOf (result-bytes (writeOf table source)) room ≡ record { answer = result (length table) 0; bytes = overwrite table room }
+unfolding writeOf
+write-compile-same table source room v e h =
+    let (t, d, w) = write-printed (decode table) source e in
+    let s : encode t ≡ table = encode-same table t d v in
+    rw s at (write-compile table source room t d e (rw s h))
 
 -- ---- matching
 
@@ -226,6 +246,13 @@ module _ (table label scratch parts : Bytes) (t : Syntax pattern) (good : decode
   -- budgets that the count is within give the same verdict, parts, scratch and number
   pub budgets-agree : (b c : ℕ) → trials label t ≤ b → trials label t ≤ c → matchOf table label scratch parts b ≡ matchOf table label scratch parts c
   budgets-agree b c h k = within-budget b h ∙ sym (within-budget c k)
+
+-- a good table is matched as the newest version's table of the same pattern
+pub match-renewed : (table label scratch parts : Bytes) (budget : ℕ) (t : Syntax pattern) → decode table ≡ some t
+    → matchOf table label scratch parts budget ≡ matchOf (encode t) label scratch parts budget
+unfolding matchOf
+match-renewed table label scratch parts budget t good =
+    ap (λ o. ended (match-ending o label scratch parts budget) scratch parts) (good ∙ sym (renewed table t good))
 
 -- ---- what a refused call leaves
 

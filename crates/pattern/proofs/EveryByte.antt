@@ -18,21 +18,27 @@ use Rattle.pattern.proofs.Tests.{all, all-at}
 use Rattle.pattern.proofs.Calls.{verdict-right}
 use Rattle.pattern.proofs.Computed.{computed}
 
--- what `.E` spells, and its table
+-- what `.E` spells
 abbrev e-pattern : Syntax pattern
 e-pattern = last (repeat 0 none (codes 4))
 
-abbrev e-table : Bytes
-e-table = 77 ∷ 80 ∷ 84 ∷ 1 ∷ 0 ∷ 1 ∷ 0 ∷ 0 ∷ 1 ∷ 1 ∷ 0 ∷ 0 ∷ 255 ∷ 255 ∷ 4 ∷ 0 ∷ 0 ∷ 0 ∷ []
+-- its tables: "Tables keep their bytes and version" still holds of version 1, which the compiler no longer writes
+abbrev e-record : Bytes
+e-record = 1 ∷ 1 ∷ 0 ∷ 0 ∷ 255 ∷ 255 ∷ 4 ∷ 0 ∷ 0 ∷ 0 ∷ []
 
--- "Tables keep their bytes and version"
-pub e-compiled : compileOf (bytes ".E") (replicate 18 7) ≡ record { answer = result 18 0; bytes = e-table }
+abbrev e-table-1 : Bytes
+e-table-1 = 77 ∷ 80 ∷ 84 ∷ 1 ∷ 0 ∷ 1 ∷ 0 ∷ 0 ∷ e-record
+
+abbrev e-table-2 : Bytes
+e-table-2 = 77 ∷ 80 ∷ 84 ∷ 2 ∷ 0 ∷ 1 ∷ 0 ∷ 0 ∷ 0 ∷ e-record
+
+pub e-compiled : compileOf (bytes ".E") (replicate 19 7) ≡ record { answer = result 19 0; bytes = e-table-2 }
 unfolding computed
 e-compiled = refl
 
-e-decoded : decode e-table ≡ some e-pattern
+pub e-decoded : (decode e-table-1 ≡ some e-pattern) × (decode e-table-2 ≡ some e-pattern)
 unfolding computed
-e-decoded = refl
+e-decoded = (refl, refl)
 
 -- "E becomes 0 to 255"
 every-byte : (b : ℕ) → b < 256 → T (in-set 4 b)
@@ -56,10 +62,10 @@ module _ (label : Bytes) (is-bytes : (k : ℕ) → getD label k 0 < 256) where
   one-part none m = absurd (m every-label)
   one-part (some ends) m = ap some (m .0 .0)
 
-  -- names with umlauts pass `.E`: the whole call, refused for what is lent, out of budget, or yes
-  pub every-match : (scratch parts : Bytes) (budget : ℕ)
+  -- names with umlauts pass `.E`: the whole call with either table, refused for what is lent, out of budget, or yes
+  pub every-match : (table scratch parts : Bytes) (budget : ℕ) → decode table ≡ some e-pattern
       → let whole : Option (List ℕ) = some (length label ∷ []) in
       let e = ending (lent-fault e-pattern label scratch parts) (scratch-needed e-pattern (length label)) (trials label e-pattern) budget whole in
-      matchOf e-table label scratch parts budget ≡ ended e scratch parts
+      matchOf table label scratch parts budget ≡ ended e scratch parts
   unfolding matchOf match-ending
-  every-match scratch parts budget = rw (e-decoded, one-part _ (verdict-right e-table e-pattern e-decoded label))
+  every-match table scratch parts budget d = rw (d, one-part _ (verdict-right table e-pattern d label))

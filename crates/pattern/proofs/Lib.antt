@@ -31,6 +31,7 @@ pub mod AtomAt
 pub mod Computed
 pub mod Examples
 pub mod Sources
+pub mod Versions
 pub mod Classes
 pub mod EveryByte
 pub mod Demands

@@ -2,13 +2,14 @@
 use mathlib.Core.Path.{_≡_, refl, sym, ap, subst, _∙_}
 use mathlib.Core.Logic.{⊎-elim}
 use mathlib.Core.List.{List, [], _∷_, _++_, append-assoc, append-nil}
-use Prim.Native.Nat.{ℕ, zero, suc, _+_, _-_, _<_}
+use Prim.Native.Nat.{ℕ, zero, suc, _+_, _-_, _≤_, _<_}
 use native.Mathlib.Omega.{arith}
 use lib.ListN.{length, drop, length-append}
 use lib.Seq.{drop-drop, drop-append-seam, drop-append-le, drop-append-add}
+use Rattle.pattern.specs.Versions.{Version, format}
 use Rattle.pattern.specs.Bytes.{Bytes}
 use Rattle.pattern.specs.Syntax.{Sort, pattern, atom, branches, Syntax, last, then, repeat, codes, literal, group, only, or, size, nodes}
-use Rattle.pattern.specs.Table.{pool, records, encode}
+use Rattle.pattern.specs.Table.{pool, records, encode-in}
 use Rattle.pattern.specs.Decode.{Layout, layout}
 use Rattle.pattern.proofs.Tests.{le-or-lt}
 use Rattle.pattern.proofs.Bound.{outside, all-nodes, nodes-size}
@@ -119,6 +120,6 @@ module _ (s : Bytes) (l : Layout) where
       (hold-append (nodes q) (nodes bs) i (subst (Hold (nodes q)) z (held-from q e i p b)) (subst (Hold (nodes bs)) w (held-from bs e _ _ c)))
 
 -- records: node k of a tree has its record at index k of the tree's table, and its own nodes from place k on
-pub held : (t : Syntax pattern) (k : ℕ) → k < size t → Held (encode t) (layout (encode t)) (nodes t) 0 k
+pub held : (v : Version) (t : Syntax pattern) → size t ≤ format v .most-atoms → (k : ℕ) → k < size t → Held (encode-in v t) (layout (encode-in v t)) (nodes t) 0 k
 unfolding outside
-held t k h = held-from (encode t) (layout (encode t)) t 1 0 0 (encode-placed t) k (omega (arith, nodes-size t))
+held v t few k h = held-from (encode-in v t) (layout (encode-in v t)) t 1 0 0 (encode-placed v t few) k (omega (arith, nodes-size t))

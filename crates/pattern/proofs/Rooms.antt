@@ -6,18 +6,18 @@ use mathlib.Core.Option.{some}
 use Prim.Native.Nat.{ℕ, _*_, _≤_, _<_}
 use native.Mathlib.Omega.{arith}
 use lib.ListN.{length, drop, length-append}
-use Rattle.pattern.specs.Numbers.{source-limit, table-room, parts-room, quote-byte, closing-byte, comma-byte}
+use Rattle.pattern.specs.Numbers.{source-limit, parts-room, quote-byte, closing-byte, comma-byte}
+use Rattle.pattern.specs.Versions.{Version, v1, v2, newest, table-room}
 use Rattle.pattern.specs.Bytes.{Bytes, overwrite}
 use Rattle.pattern.specs.Syntax.{Sort, pattern, Syntax, last, then, repeat, codes, literal, group, only, or, size, top-size}
 use Rattle.pattern.specs.Meaning.{Cut}
 use Rattle.pattern.specs.Grammar.{Quoted, start, byte, quote, Derives}
 use Rattle.pattern.specs.Scan.{Outcome, refused, accepted, outcome}
 use Rattle.pattern.specs.Print.{print}
-use Rattle.pattern.specs.Table.{pool, records, header, encode}
-use Rattle.pattern.specs.Decode.{decode}
+use Rattle.pattern.specs.Table.{pool, encode-in, encode}
+use Rattle.pattern.specs.Decode.{decode, Compiles}
 use Rattle.pattern.specs.Answers.{result, put-if, put, compiled, compileOf}
-use Rattle.pattern.proofs.Records.{length-record-bytes, count-records}
-use Rattle.pattern.proofs.RoundTrip.{some-atom}
+use Rattle.pattern.proofs.RoundTrip.{some-atom, encode-length, accepted-compiles, good-exactly}
 use Rattle.pattern.proofs.Accepted.{accepted-exactly}
 use Rattle.pattern.proofs.Calls.{print-accepted, compile-accepted, compile-zero}
 
@@ -43,13 +43,18 @@ unfolding top-size size
 top-le (last a) = some-atom a
 top-le (then a p) = omega (arith, some-atom a, top-le p)
 
+-- the table of a source, in each version
+table-fits : (v : Version) (source : Bytes) (t : Syntax pattern) (table : Bytes) → Compiles v source t table → length table ≤ table-room
+table-fits v1 source t table c = omega (arith, c .few, c .short, derived-pool t source (c .derives), encode-length v1 t, ap length (c .whole))
+table-fits v2 source t table c = omega (arith, c .few, c .short, derived-pool t source (c .derives), encode-length v2 t, ap length (c .whole))
+
+pub good-fits : (table : Bytes) (t : Syntax pattern) → decode table ≡ some t → length table ≤ table-room
+good-fits table t good = let (v, source, c) = good-exactly table t .0 good in table-fits v source t table c
+
 -- an accepted source's table and parts
 module _ (source : Bytes) (t : Syntax pattern) (good : outcome source ≡ accepted t) where
-  pub table-fits : length (encode t) ≤ table-room
-  unfolding encode header
-  table-fits =
-      let (n, s, l) = accepted-exactly source t .0 good in
-      omega (arith, l .atoms, derived-pool t source s, length-record-bytes (records 1 t 0 0) (pool t), count-records 1 t 0 0)
+  pub encode-fits : length (encode t) ≤ table-room
+  encode-fits = table-fits newest source t (encode t) (accepted-compiles source t good)
 
   pub parts-fit : 2 * top-size t ≤ parts-room
   parts-fit = let (n, s, l) = accepted-exactly source t .0 good in omega (arith, l .atoms, top-le t)
@@ -58,7 +63,7 @@ module _ (source : Bytes) (t : Syntax pattern) (good : outcome source ≡ accept
   pub table-has-room : (lent : Bytes) → table-room ≤ length lent → compileOf source lent ≡ record { answer = result (length (encode t)) 0; bytes = overwrite (encode t) lent }
   table-has-room lent r =
       let (n, s, l) = accepted-exactly source t .0 good in
-      compile-accepted source lent t n s l (omega (arith, table-fits))
+      compile-accepted source lent t n s l (omega (arith, encode-fits))
 
 -- the source of a good table
 pub source-fits : (table : Bytes) (t : Syntax pattern) → decode table ≡ some t → length (print t) ≤ source-limit
@@ -80,8 +85,7 @@ compile-fits s l = go (outcome s)
     go (accepted t) = put-within _ (length s) (encode t) l
 
 encode-some : (t : Syntax pattern) → 0 < length (encode t)
-unfolding encode header
-encode-some t = omega arith
+encode-some t = omega (arith, encode-length newest t)
 
 -- no table has length 0
 pub compile-some : (s l : Bytes) → compileOf s l .answer .number ≡ 0 → 0 < compileOf s l .answer .value

@@ -1,5 +1,5 @@
 -- A table is read as the tree that it encodes; so a table is good exactly when some accepted source compiles to it. Assumes nothing.
-use mathlib.Core.Path.{_≡_, refl, sym, ap, ap₂, _∙_}
+use mathlib.Core.Path.{_≡_, refl, sym, ap, ap₂, subst, _∙_}
 use mathlib.Core.Logic.{_↔_}
 use mathlib.Core.Bool.{Bool, true, false}
 use mathlib.Core.Option.{Option, none, some, Option·none-ne-some}
@@ -7,20 +7,21 @@ use mathlib.Core.List.{[], append-nil}
 use Prim.Native.Nat.{ℕ, zero, suc, _+_, _*_, _<_, _≤_}
 use native.Mathlib.Omega.{arith}
 use borrow.Author.Tests.{eq-eqb, ne-eqb}
-use lib.ListN.{length, take}
+use lib.ListN.{length, take, drop}
 use lib.Seq.{take-append-seam}
-use Rattle.pattern.specs.Numbers.{header-size, record-size, open-high}
-use Rattle.pattern.specs.Bytes.{Bytes, equal}
+use Rattle.pattern.specs.Numbers.{source-limit, atom-limit, record-size, open-high}
+use Rattle.pattern.specs.Versions.{Version, v1, v2, newest, format, header-size}
+use Rattle.pattern.specs.Bytes.{Bytes, equal, little, value}
 use Rattle.pattern.specs.Syntax.{Sort, pattern, atom, body, branches, Syntax, last, then, repeat, codes, literal, group, only, or, size}
 use Rattle.pattern.specs.Scan.{Outcome, refused, accepted, outcome}
 use Rattle.pattern.specs.Within.{Small, InLimits}
 use Rattle.pattern.specs.Print.{print}
-use Rattle.pattern.specs.Table.{pool, branch-count, high-field, kind-field, a-field, b-field, Rec, rec, records, header, encode}
-use Rattle.pattern.specs.Decode.{Layout, layout, high-of, record-at, pattern-at, atom-at, body-at, branches-at, tree-of, compiled-to, decode}
-use Rattle.pattern.proofs.Tests.{Decides, if-true, if-false}
+use Rattle.pattern.specs.Table.{pool, branch-count, high-field, kind-field, a-field, b-field, Rec, rec, records, record-bytes, header, encode-in, encode}
+use Rattle.pattern.specs.Decode.{version-of, Layout, layout, high-of, record-at, pattern-at, atom-at, body-at, branches-at, tree-of, kept-in, compiled-to, decode, Compiles}
+use Rattle.pattern.proofs.Tests.{Decides, leb-decides, both, if-true, if-false}
 use Rattle.pattern.proofs.Agree.{equal-decides}
 use Rattle.pattern.proofs.Accepted.{accepted-exactly}
-use Rattle.pattern.proofs.Shortest.{good-tree}
+use Rattle.pattern.proofs.Shortest.{shortest, good-tree}
 use Rattle.pattern.proofs.Records.{length-record-bytes, count-records, Placed, head-there, tail-there, then-there, or-there, next-there}
 
 pub some-atom : (a : Syntax atom) → 0 < size a
@@ -114,39 +115,85 @@ module _ (s : Bytes) (l : Layout) where
 
 -- ---- the table of a tree
 
-module _ (t : Syntax pattern) where
-  pub encode-length : length (encode t) ≡ header-size + record-size * size t + length (pool t)
-  unfolding encode header
-  encode-length = omega (arith, length-record-bytes (records 1 t 0 0) (pool t), count-records 1 t 0 0)
+module _ (v : Version) (t : Syntax pattern) where
+  pub encode-length : length (encode-in v t) ≡ header-size v + record-size * size t + length (pool t)
+  unfolding encode-in header little
+  encode-length =
+      let n = length-record-bytes (records 1 t 0 0) (pool t) in
+      let m = count-records 1 t 0 0 in
+      elim v [ v1 ↦ omega (arith, n, m) | v2 ↦ omega (arith, n, m) ]
 
-  pub encode-placed : Placed (encode t) (layout (encode t)) 1 t 0 0
-  unfolding encode header
-  encode-placed =
-      let n : header-size + record-size * size t + 0 ≡ header-size + record-size * length (records 1 t 0 0) = omega (arith, count-records 1 t 0 0) in
-      record { left = pool t; over = []; recs = refl; text = next-there (encode t) header-size _ (records 1 t 0 0) (pool t) n refl ∙ sym (append-nil (pool t)) }
+  -- it names its version
+  pub version-encode : version-of (encode-in v t) ≡ v
+  unfolding version-of encode-in header little
+  version-encode = elim v [ v1 ↦ refl | v2 ↦ refl ]
 
-  -- a good tree is what its table is read as
-  pub tree-encode : InLimits 0 t → tree-of (encode t) ≡ t
-  unfolding tree-of Reads
-  tree-encode g = reads (encode t) (layout (encode t)) 0 t 1 g (length (encode t)) 0 0 (omega (arith, encode-length)) encode-placed
+-- its records begin after the header, and its pool after them, if there are no more atoms than the version allows
+placed-there : (v : Version) (t : Syntax pattern) → let s : Bytes = encode-in v t in layout s .pool + 0 ≡ layout s .records + record-size * 0 + record-size * length (records 1 t 0 0)
+    → drop (layout s .records + record-size * 0) s ≡ record-bytes (records 1 t 0 0) (pool t) → Placed s (layout s) 1 t 0 0
+placed-there v t n e = record { left = pool t; over = []; recs = e; text = next-there (encode-in v t) _ _ (records 1 t 0 0) (pool t) n e ∙ sym (append-nil (pool t)) }
 
-module _ (s : Bytes) where
-  pub compiled-is : (o : Outcome) (t : Syntax pattern) → (compiled-to s o ≡ some t) ↔ ((o ≡ accepted t) × (encode t ≡ s))
+pub encode-placed : (v : Version) (t : Syntax pattern) → size t ≤ format v .most-atoms → Placed (encode-in v t) (layout (encode-in v t)) 1 t 0 0
+unfolding version-of encode-in header little value
+encode-placed v1 t few = placed-there v1 t (omega (arith, few, count-records 1 t 0 0)) refl
+encode-placed v2 t few = placed-there v2 t (omega (arith, few, count-records 1 t 0 0)) refl
+
+-- a good tree is what its table is read as
+pub tree-encode : (v : Version) (t : Syntax pattern) → InLimits 0 t → size t ≤ format v .most-atoms → tree-of (encode-in v t) ≡ t
+unfolding tree-of Reads
+tree-encode v t g few = reads (encode-in v t) (layout (encode-in v t)) 0 t 1 g (length (encode-in v t)) 0 0 (omega (arith, encode-length v t)) (encode-placed v t few)
+
+-- ---- which sources compile to a table
+
+-- no version takes more than the compiler
+pub limits-grow : (v : Version) → (format v .longest-source ≤ source-limit) × (format v .most-atoms ≤ atom-limit)
+limits-grow v1 = (omega arith, omega arith)
+limits-grow v2 = (omega arith, omega arith)
+
+module _ {v : Version} {source : Bytes} {t : Syntax pattern} {s : Bytes} (c : Compiles v source t s) where
+  -- so each is accepted
+  pub compiles-accepted : outcome source ≡ accepted t
+  compiles-accepted =
+      let (n, m) = limits-grow v in
+      accepted-exactly source t .1 (omega (arith, n, c .short), c .derives, record { tree = c .within; atoms = omega (arith, m, c .few) })
+
+  -- and the table names the version
+  pub compiles-version : version-of s ≡ v
+  compiles-version = ap version-of (sym (c .whole)) ∙ version-encode v t
+
+-- in the version that is written every accepted source compiles
+pub accepted-compiles : (source : Bytes) (t : Syntax pattern) → outcome source ≡ accepted t → Compiles newest source t (encode t)
+accepted-compiles source t e =
+    let (n, h, g) = accepted-exactly source t .0 e in
+    record { derives = h; within = g .tree; short = n; few = g .atoms; whole = refl }
+
+module _ (v : Version) (s : Bytes) where
+  -- what `kept-in` tests
+  abbrev Kept : Syntax pattern → Type 0
+  Kept t = (length (print t) ≤ format v .longest-source) × ((size t ≤ format v .most-atoms) × (encode-in v t ≡ s))
+
+  kept-decides : (t : Syntax pattern) → Decides (kept-in v t s) (Kept t)
+  unfolding kept-in
+  kept-decides t = both (leb-decides (length (print t)) (format v .longest-source)) (both (leb-decides (size t) (format v .most-atoms)) (equal-decides (encode-in v t) s))
+
+  compiled-is : (o : Outcome) (t : Syntax pattern) → (compiled-to v s o ≡ some t) ↔ ((o ≡ accepted t) × Kept t)
   unfolding compiled-to
   compiled-is (refused f p) t = (λ e. absurd (Option·none-ne-some t e), λ (e, m). absurd (let z : _≡_ {A = ℕ} 0 1 = cc in omega arith))
-  compiled-is (accepted u) t = go (equal (encode u) s) (equal-decides (encode u) s)
+  compiled-is (accepted u) t = go (kept-in v u s) (kept-decides u)
     where
-      go : (b : Bool) → Decides b (encode u ≡ s) → (_≡_ {A = Option (Syntax pattern)} (elim b [ true ↦ some u | false ↦ none ]) (some t)) ↔ ((accepted u ≡ accepted t) × (encode t ≡ s))
-      go true d = (λ e. let x : u ≡ t = cc in (ap accepted x, ap encode (sym x) ∙ d .sound tt), λ (e, m). let x : u ≡ t = cc in ap some x)
-      go false d = (λ e. absurd (Option·none-ne-some t e), λ (e, m). let x : u ≡ t = cc in absurd (d .complete (ap encode x ∙ m)))
+      go : (b : Bool) → Decides b (Kept u) → (_≡_ {A = Option (Syntax pattern)} (elim b [ true ↦ some u | false ↦ none ]) (some t)) ↔ ((accepted u ≡ accepted t) × Kept t)
+      go true d = (λ e. let x : u ≡ t = cc in (ap accepted x, subst Kept x (d .sound tt)), λ (e, m). let x : u ≡ t = cc in ap some x)
+      go false d = (λ e. absurd (Option·none-ne-some t e), λ (e, m). let x : u ≡ t = cc in absurd (d .complete (subst Kept (sym x) m)))
 
-  -- good exactly: bytes are decoded to a tree just when some accepted source has this tree, and they are its table
-  pub good-exactly : (t : Syntax pattern) → (decode s ≡ some t) ↔ ((source : Bytes) × (outcome source ≡ accepted t) × (encode t ≡ s))
-  unfolding decode
-  good-exactly t = (
-    λ e. let (a, m) = compiled-is (outcome (print (tree-of s))) t .0 e in (print (tree-of s), a, m),
-    λ (source, a, m).
-        let (n, h, g) = accepted-exactly source t .0 a in
-        let v : tree-of s ≡ t = ap tree-of (sym m) ∙ tree-encode t (g .tree) in
-        compiled-is (outcome (print (tree-of s))) t .1 (ap (λ u. outcome (print u)) v ∙ good-tree t .0 (source, a), m),
-  )
+-- good exactly: bytes are decoded to a tree just when by the limits of a version some source with this tree compiles to them
+pub good-exactly : (s : Bytes) (t : Syntax pattern) → (decode s ≡ some t) ↔ ((v : Version) × (source : Bytes) × Compiles v source t s)
+unfolding decode
+good-exactly s t = (
+  λ e. let (a, (n, (k, m))) = compiled-is (version-of s) s (outcome (print (tree-of s))) t .0 e in
+      let (l, h, g) = accepted-exactly (print t) t .0 (good-tree t .0 (print (tree-of s), a)) in
+      (version-of s, print t, record { derives = h; within = g .tree; short = n; few = k; whole = m }),
+  λ (v, source, c).
+      let x : tree-of s ≡ t = ap tree-of (sym (c .whole)) ∙ tree-encode v t (c .within) (c .few) in
+      let p : outcome (print (tree-of s)) ≡ accepted t = ap (λ u. outcome (print u)) x ∙ good-tree t .0 (source, compiles-accepted c) in
+      rw (compiles-version c) (compiled-is v s (outcome (print (tree-of s))) t .1 (p, (omega (arith, shortest 0 t source (c .within) (c .derives), c .short), (c .few, c .whole)))),
+)

@@ -52,27 +52,28 @@ sources =
     ∷ (bytes "10000.5N", NUMBER, 4)
     ∷ (bytes "9999.10000N", NUMBER, 9)
     ∷ (bytes "20000.10000N", NUMBER, 4)
-    -- 64 atoms; a 65th: plain, with too large a first number, also in a group, with a range that falls, with too large a second number, not a pattern
-    ∷ (times 64 (bytes "1N"), 0, 0)
-    ∷ (times 64 (bytes "1N") ++ bytes "1N", ATOMS, 128)
-    ∷ (times 64 (bytes "1N") ++ bytes "20000N", ATOMS, 128)
-    ∷ (times 63 (bytes "1N") ++ bytes "1(20000N)", ATOMS, 128)
-    ∷ (times 64 (bytes "1N") ++ bytes "5.3", RANGE, 128)
-    ∷ (times 64 (bytes "1N") ++ bytes "5.10000N", ATOMS, 128)
-    ∷ (times 64 (bytes "1N") ++ bytes "(", FORM, 128)
+    -- 80 atoms; 256; a 257th: plain, with too large a first number, also in a group, with a range that falls, with too large a second number, not a pattern
+    ∷ (times 80 (bytes "1N"), 0, 0)
+    ∷ (times 256 (bytes "1N"), 0, 0)
+    ∷ (times 256 (bytes "1N") ++ bytes "1N", ATOMS, 512)
+    ∷ (times 256 (bytes "1N") ++ bytes "20000N", ATOMS, 512)
+    ∷ (times 255 (bytes "1N") ++ bytes "1(20000N)", ATOMS, 512)
+    ∷ (times 256 (bytes "1N") ++ bytes "5.3", RANGE, 512)
+    ∷ (times 256 (bytes "1N") ++ bytes "5.10000N", ATOMS, 512)
+    ∷ (times 256 (bytes "1N") ++ bytes "(", FORM, 512)
     -- 8 groups, 8 that do not end, 9, also where no pattern goes on after the ninth
     ∷ (times 8 (bytes "1(") ++ bytes "1N" ++ times 8 (bytes ")"), 0, 0)
     ∷ (times 8 (bytes "1("), FORM, 16)
     ∷ (times 9 (bytes "1("), DEPTH, 17)
     ∷ (times 9 (bytes "1(") ++ bytes ")", DEPTH, 17)
-    -- 512 bytes, and 513
-    ∷ (times 511 (bytes "0") ++ bytes "N", 0, 0)
-    ∷ (times 513 (bytes "1"), LONG, 512)
+    -- 2,048 bytes, and 2,049
+    ∷ (times 2047 (bytes "0") ++ bytes "N", 0, 0)
+    ∷ (times 2049 (bytes "1"), LONG, 2048)
     ∷ []
 
 -- the refusal of a source in room enough
 unfoldable pub refusal-of : Bytes → ℕ × ℕ
-refusal-of s = let a : Answer = compileOf s (replicate 648 7) .answer in (a .number, a .position)
+refusal-of s = let a : Answer = compileOf s (replicate 2569 7) .answer in (a .number, a .position)
 
 -- sources, and what they are written back as
 unfoldable pub rewritten : List (Bytes × Bytes)
@@ -94,25 +95,27 @@ rewrite s =
     let w : Output = writeOf (take (c .answer .value) (c .bytes)) (replicate 128 7) in
     take (w .answer .value) (w .bytes)
 
--- the 18 bytes of 2N
-abbrev Table-2N : Bytes
-Table-2N = 0x4D ∷ 0x50 ∷ 0x54 ∷ 0x01 ∷ 0x00 ∷ 0x01 ∷ 0x00 ∷ 0x00 ∷ 0x01 ∷ 0x01 ∷ 0x02 ∷ 0x00 ∷ 0x02 ∷ 0x00 ∷ 0x10 ∷ 0x00 ∷ 0x00 ∷ 0x00 ∷ []
+-- the header of version 2 for n atoms and m bytes of pool, both below 256
+abbrev pub header-2 : (n m : ℕ) → Bytes → Bytes
+header-2 n m s = 0x4D ∷ 0x50 ∷ 0x54 ∷ 0x02 ∷ 0x00 ∷ n ∷ 0x00 ∷ m ∷ 0x00 ∷ s
 
--- the bytes of .300(1"a""b",12.AN).5""
-abbrev Table-group : Bytes
-Table-group =
-    77 ∷ 80 ∷ 84 ∷ 1 ∷ 0 ∷ 4 ∷ 3 ∷ 0
-    ∷ 3 ∷ 0 ∷ 0 ∷ 0 ∷ 44 ∷ 1 ∷ 2 ∷ 0 ∷ 3 ∷ 0
+-- the record of 2N
+abbrev pub Body-2N : Bytes
+Body-2N = 0x01 ∷ 0x01 ∷ 0x02 ∷ 0x00 ∷ 0x02 ∷ 0x00 ∷ 0x10 ∷ 0x00 ∷ 0x00 ∷ 0x00 ∷ []
+
+-- records and pool of .300(1"a""b",12.AN).5""
+abbrev pub Body-group : Bytes
+Body-group =
+    3 ∷ 0 ∷ 0 ∷ 0 ∷ 44 ∷ 1 ∷ 2 ∷ 0 ∷ 3 ∷ 0
     ∷ 2 ∷ 1 ∷ 1 ∷ 0 ∷ 1 ∷ 0 ∷ 0 ∷ 0 ∷ 3 ∷ 0
     ∷ 1 ∷ 1 ∷ 12 ∷ 0 ∷ 255 ∷ 255 ∷ 17 ∷ 0 ∷ 0 ∷ 0
     ∷ 2 ∷ 1 ∷ 0 ∷ 0 ∷ 5 ∷ 0 ∷ 3 ∷ 0 ∷ 0 ∷ 0
     ∷ 97 ∷ 34 ∷ 98 ∷ []
 
--- the bytes of 1"x"1(1N,1(2A))1"yz": groups that are not first, one of them in the other, and two values in the pool
-abbrev Table-nested : Bytes
-Table-nested =
-    77 ∷ 80 ∷ 84 ∷ 1 ∷ 0 ∷ 6 ∷ 3 ∷ 0
-    ∷ 2 ∷ 0 ∷ 1 ∷ 0 ∷ 1 ∷ 0 ∷ 0 ∷ 0 ∷ 1 ∷ 0
+-- records and pool of 1"x"1(1N,1(2A))1"yz": groups that are not first, one of them in the other, and two values in the pool
+abbrev pub Body-nested : Bytes
+Body-nested =
+    2 ∷ 0 ∷ 1 ∷ 0 ∷ 1 ∷ 0 ∷ 0 ∷ 0 ∷ 1 ∷ 0
     ∷ 3 ∷ 0 ∷ 1 ∷ 0 ∷ 1 ∷ 0 ∷ 2 ∷ 0 ∷ 5 ∷ 0
     ∷ 1 ∷ 1 ∷ 1 ∷ 0 ∷ 1 ∷ 0 ∷ 16 ∷ 0 ∷ 0 ∷ 0
     ∷ 3 ∷ 1 ∷ 1 ∷ 0 ∷ 1 ∷ 0 ∷ 1 ∷ 0 ∷ 5 ∷ 0
@@ -121,12 +124,12 @@ Table-nested =
     ∷ 120 ∷ 121 ∷ 122 ∷ []
 
 -- tables in lent bytes that are longer, ROOM in shorter ones, TABLE and ROOM of a write-back
-pub tables-hold : (compileOf (bytes "2N") (replicate 19 7) .bytes ≡ Table-2N ++ 7 ∷ [])
-    × (compileOf (bytes ".300(1\"a\"\"b\",12.AN).5\"\"") (replicate 52 7) .bytes ≡ Table-group ++ 7 ∷ [])
-    × (compileOf (bytes "1\"x\"1(1N,1(2A))1\"yz\"") (replicate 72 7) .bytes ≡ Table-nested ++ 7 ∷ [])
-    × (compileOf (bytes "2N") (replicate 17 7) ≡ record { answer = refusal ROOM 2; bytes = replicate 17 7 })
-    × (writeOf (Table-2N ++ 0 ∷ []) (7 ∷ []) ≡ record { answer = refusal TABLE 0; bytes = 7 ∷ [] })
-    × (writeOf Table-2N (7 ∷ []) ≡ record { answer = refusal ROOM 0; bytes = 7 ∷ [] })
+pub tables-hold : (compileOf (bytes "2N") (replicate 20 7) .bytes ≡ header-2 1 0 Body-2N ++ 7 ∷ [])
+    × (compileOf (bytes ".300(1\"a\"\"b\",12.AN).5\"\"") (replicate 53 7) .bytes ≡ header-2 4 3 Body-group ++ 7 ∷ [])
+    × (compileOf (bytes "1\"x\"1(1N,1(2A))1\"yz\"") (replicate 73 7) .bytes ≡ header-2 6 3 Body-nested ++ 7 ∷ [])
+    × (compileOf (bytes "2N") (replicate 18 7) ≡ record { answer = refusal ROOM 2; bytes = replicate 18 7 })
+    × (writeOf (header-2 1 0 Body-2N ++ 0 ∷ []) (7 ∷ []) ≡ record { answer = refusal TABLE 0; bytes = 7 ∷ [] })
+    × (writeOf (header-2 1 0 Body-2N) (7 ∷ []) ≡ record { answer = refusal ROOM 0; bytes = 7 ∷ [] })
 unfolding computed
 tables-hold = (refl, refl, refl, refl, refl, refl)
 

@@ -1,7 +1,7 @@
 -- Lists of bytes. To be believed.
 use mathlib.Core.Bool.{Bool, true, false, _&&_}
 use mathlib.Core.List.{List, [], _∷_, _++_}
-use Prim.Native.Nat.{ℕ, _+_, _*_, _/_, _%_}
+use Prim.Native.Nat.{ℕ, zero, suc, _+_, _*_, _/_, _%_}
 use Prim.Native.Char.{code}
 use Prim.Native.String.{String, [] as end, _∷_ as _then_}
 use lib.Dec.{leb, eqb}
@@ -24,6 +24,16 @@ equal (a ∷ v) (b ∷ s) = eqb a b && equal v s
 -- a number in two bytes, the lower first, before others
 abbrev pub le16 : ℕ → Bytes → Bytes
 le16 x s = x % 256 ∷ x / 256 ∷ s
+
+-- a number in c bytes, the lowest first
+unfoldable pub little : ℕ → ℕ → Bytes
+little zero x = []
+little (suc c) x = x % 256 ∷ little c (x / 256)
+
+-- the number that bytes are, the lowest first
+unfoldable pub value : Bytes → ℕ
+value [] = 0
+value (b ∷ s) = b + 256 * value s
 
 -- the numbers that bytes hold, two bytes each, the lower first
 unfoldable pub numbers-in : Bytes → List ℕ

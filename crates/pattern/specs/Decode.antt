@@ -1,15 +1,19 @@
 -- The tree of a good table. To be believed.
-use mathlib.Core.Bool.{true, false}
+use mathlib.Core.Path.{_≡_}
+use mathlib.Core.Bool.{Bool, true, false, _&&_}
 use mathlib.Core.Option.{Option, none, some}
-use Prim.Native.Nat.{ℕ, zero, suc, _+_, _*_, pred}
-use lib.Dec.{eqb}
+use Prim.Native.Nat.{ℕ, zero, suc, _+_, _*_, _≤_, pred}
+use lib.Dec.{leb, eqb}
 use lib.ListN.{length, getD, take, drop}
-use Rattle.pattern.specs.Numbers.{codes-kind, literal-kind, atoms-place, header-size, record-size, open-high}
-use Rattle.pattern.specs.Bytes.{Bytes, equal}
+use Rattle.pattern.specs.Numbers.{codes-kind, literal-kind, version-place, atoms-place, record-size, open-high}
+use Rattle.pattern.specs.Versions.{Version, v1, v2, format, header-size}
+use Rattle.pattern.specs.Bytes.{Bytes, equal, value}
 use Rattle.pattern.specs.Syntax.{pattern, atom, body, branches, Syntax, last, then, repeat, codes, literal, group, only, or, size}
+use Rattle.pattern.specs.Grammar.{Derives}
 use Rattle.pattern.specs.Scan.{Outcome, refused, accepted, outcome}
+use Rattle.pattern.specs.Within.{InLimits}
 use Rattle.pattern.specs.Print.{print}
-use Rattle.pattern.specs.Table.{Rec, encode}
+use Rattle.pattern.specs.Table.{Rec, encode-in}
 
 -- the 16 bits at a place
 abbrev pub field : Bytes → ℕ → ℕ
@@ -20,13 +24,24 @@ abbrev pub rec-at : Bytes → ℕ → Rec
 rec-at s at =
     record { kind = getD s at 0; ends = getD s (at + 1) 0; low = field s (at + 2); high = field s (at + 4); a = field s (at + 6); b = field s (at + 8) }
 
+-- the version that bytes name; those that name neither are no table of either
+unfoldable pub version-of : Bytes → Version
+version-of s = elim (eqb (field s version-place) 1) [ true ↦ v1 | false ↦ v2 ]
+
+-- the atom count in the header of a version
+abbrev pub count-in : Version → Bytes → ℕ
+count-in v s = value (take (format v .count-size) (drop atoms-place s))
+
 -- how a table is laid out: where its records begin, and where its pool
 pub record Layout : Type 0 where
   pub records : ℕ
   pub pool : ℕ
 
+abbrev pub layout-in : Version → Bytes → Layout
+layout-in v s = record { records = header-size v; pool = header-size v + record-size * count-in v s }
+
 abbrev pub layout : Bytes → Layout
-layout s = record { records = header-size; pool = header-size + record-size * getD s atoms-place 0 }
+layout s = layout-in (version-of s) s
 
 -- the high number that a record's field stands for
 unfoldable pub high-of : ℕ → Option ℕ
@@ -66,11 +81,25 @@ module _ (s : Bytes) (l : Layout) where
 unfoldable pub tree-of : Bytes → Syntax pattern
 tree-of s = pattern-at s (layout s) (length s) 0
 
--- the tree of an accepted source, if its table is these very bytes
-unfoldable pub compiled-to : Bytes → Outcome → Option (Syntax pattern)
-compiled-to s (refused f p) = none
-compiled-to s (accepted t) = elim (equal (encode t) s) [ true ↦ some t | false ↦ none ]
+-- the shortest source of a tree keeps the limits of a version, and its table there is these very bytes
+unfoldable pub kept-in : Version → Syntax pattern → Bytes → Bool
+kept-in v t s = leb (length (print t)) (format v .longest-source) && (leb (size t) (format v .most-atoms) && equal (encode-in v t) s)
 
--- "A table is good exactly when some accepted source compiles to it": the shortest source of its tree does
+-- the tree of an accepted source, if these bytes are its table
+unfoldable pub compiled-to : Version → Bytes → Outcome → Option (Syntax pattern)
+compiled-to v s (refused f p) = none
+compiled-to v s (accepted t) = elim (kept-in v t s) [ true ↦ some t | false ↦ none ]
+
+-- "A table is good exactly when some accepted source compiles to it", in the version that it names: the shortest source of its tree does
 unfoldable pub decode : Bytes → Option (Syntax pattern)
-decode s = compiled-to s (outcome (print (tree-of s)))
+decode s = compiled-to (version-of s) s (outcome (print (tree-of s)))
+
+-- ---- what the theorems say
+
+-- by the limits of a version this source is a pattern with this tree, and this is its table
+pub record Compiles (v : Version) (source : Bytes) (t : Syntax pattern) (table : Bytes) : Type 0 where
+  pub derives : Derives t source
+  pub within : InLimits 0 t
+  pub short : length source ≤ format v .longest-source
+  pub few : size t ≤ format v .most-atoms
+  pub whole : encode-in v t ≡ table

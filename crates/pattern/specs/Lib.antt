@@ -1,4 +1,5 @@
 pub mod Numbers
+pub mod Versions
 pub mod Bytes
 pub mod Stores
 pub mod Codes

@@ -1,14 +1,14 @@
--- The numbers of the paper: limits, refusals, mark, layout and sizes, each named once. To be believed, all but `length-place`.
+-- The numbers of the paper: limits, refusals, mark, layout and sizes, each named once. To be believed.
 use mathlib.Core.List.{List, [], _∷_}
-use Prim.Native.Nat.{ℕ, _+_, _*_}
+use Prim.Native.Nat.{ℕ, _*_}
 
--- "source at most 512 bytes"
+-- "source limit 2,048 bytes"
 abbrev pub source-limit : ℕ
-source-limit = 512
+source-limit = 2048
 
--- "at most 64 atoms, groups counted as atoms"
+-- "Atom limit 256", "groups counted as atoms"
 abbrev pub atom-limit : ℕ
-atom-limit = 64
+atom-limit = 256
 
 -- "groups at most 8 deep"
 abbrev pub depth-limit : ℕ
@@ -104,10 +104,6 @@ MISSING = 19
 abbrev pub mark : List ℕ
 mark = 77 ∷ 80 ∷ 84 ∷ []
 
--- "a 16-bit version, now 1"
-abbrev pub version : ℕ
-version = 1
-
 -- the kinds of a record
 abbrev pub codes-kind : ℕ
 codes-kind = 1
@@ -118,17 +114,14 @@ literal-kind = 2
 abbrev pub group-kind : ℕ
 group-kind = 3
 
--- where the header has the number of atoms, and the pool's length
+-- where the header has the version, and the atom count
+abbrev pub version-place : ℕ
+version-place = 3
+
 abbrev pub atoms-place : ℕ
 atoms-place = 5
 
-abbrev pub length-place : ℕ
-length-place = 6
-
--- where the records start, and the bytes of each
-abbrev pub header-size : ℕ
-header-size = 8
-
+-- the bytes of a record
 abbrev pub record-size : ℕ
 record-size = 10
 
@@ -136,9 +129,6 @@ record-size = 10
 abbrev pub open-high : ℕ
 open-high = 65535
 
--- sizes that suffice for every table, and for the parts of every table
-abbrev pub table-room : ℕ
-table-room = header-size + record-size * atom-limit + source-limit
-
+-- a size that suffices for the parts of every table
 abbrev pub parts-room : ℕ
 parts-room = 2 * atom-limit

@@ -3,8 +3,9 @@ use mathlib.Core.List.{List, [], _∷_, _++_}
 use mathlib.Core.Option.{Option, none, some}
 use Prim.Native.Nat.{ℕ, suc, _+_}
 use lib.ListN.{length}
-use Rattle.pattern.specs.Numbers.{mark, version, codes-kind, literal-kind, group-kind, open-high}
-use Rattle.pattern.specs.Bytes.{Bytes, le16}
+use Rattle.pattern.specs.Numbers.{mark, codes-kind, literal-kind, group-kind, open-high}
+use Rattle.pattern.specs.Versions.{Version, newest, format}
+use Rattle.pattern.specs.Bytes.{Bytes, le16, little}
 use Rattle.pattern.specs.Syntax.{Sort, pattern, branches, body, Syntax, last, then, repeat, codes, literal, group, only, or, size}
 
 -- the values of the literals, in atom order
@@ -75,9 +76,13 @@ record-bytes [] s = s
 record-bytes (r ∷ rs) s = r .kind ∷ r .ends ∷ le16 (r .low) (le16 (r .high) (le16 (r .a) (le16 (r .b) (record-bytes rs s))))
 
 -- the header of n atoms and m bytes of pool, before others
-unfoldable pub header : (n m : ℕ) → Bytes → Bytes
-header n m s = mark ++ le16 version (n ∷ le16 m s)
+unfoldable pub header : Version → (n m : ℕ) → Bytes → Bytes
+header v n m s = mark ++ le16 (format v .version-number) (little (format v .count-size) n ++ le16 m s)
 
--- "a table": header, records, pool
-unfoldable pub encode : Syntax pattern → Bytes
-encode t = header (size t) (length (pool t)) (record-bytes (records 1 t 0 0) (pool t))
+-- "a table" of a version: header, records, pool
+unfoldable pub encode-in : Version → Syntax pattern → Bytes
+encode-in v t = header v (size t) (length (pool t)) (record-bytes (records 1 t 0 0) (pool t))
+
+-- the table that a tree compiles to
+abbrev pub encode : Syntax pattern → Bytes
+encode t = encode-in newest t

@@ -2,9 +2,9 @@
 ghost use mathlib.Core.Path.{_≡_};
 ghost use Rattle.pattern.specs.Numbers.{source-limit, atom-limit, depth-limit, number-limit, label-limit, set-limit};
 
-pub const SOURCE_LIMIT: usize = 512;
+pub const SOURCE_LIMIT: usize = 2048;
 
-pub const ATOM_LIMIT: usize = 64;
+pub const ATOM_LIMIT: usize = 256;
 
 pub const DEPTH_LIMIT: usize = 8;
 
