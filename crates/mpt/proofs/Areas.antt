@@ -2,7 +2,7 @@
 use mathlib.Core.Path.{_≡_, refl}
 use mathlib.Core.List.{_∷_, _++_}
 use lib.ListN.{replicate}
-use Rattle.stores.specs.Little.{little}
+use Rattle.pattern.specs.Bytes.{little}
 use Rattle.mpt.specs.Area.{area}
 
 -- the area of verdict yes after 1,000 trials, and of a refusal at position 258

@@ -10,12 +10,11 @@ use borrow.Rule.Slice.PartMut.{putMid}
 use lib.ListN.{length, take, drop, set, replicate, length-drop, length-replicate, replicate-append-replicate, drop-of-length-le}
 use lib.Seq.{take-all, drop-drop}
 use Rattle.pattern.specs.Numbers.{TABLE, FULL, REGISTER, MISSING}
-use Rattle.pattern.specs.Bytes.{Bytes, equal, overwrite, zeroed}
+use Rattle.pattern.specs.Bytes.{Bytes, equal, little, overwrite, zeroed}
 use Rattle.pattern.specs.Stores.{store-at}
 use Rattle.pattern.specs.Scan.{refuse}
 use Rattle.pattern.specs.Answers.{Answer, MatchOutput, untried, ended, matchOf}
 use Rattle.pattern.proofs.Stores.{store-at-overwrite, length-zeroed}
-use Rattle.stores.specs.Little.{little}
 use Rattle.register.specs.declared.locate.Location.{Location}
 use Rattle.register.specs.declared.locate.Located.{Located}
 use Rattle.register.specs.declared.locate.Located.the-variants as location

@@ -4,7 +4,7 @@ use mathlib.Core.List.{[], _∷_, _++_}
 use lib.ListN.{take, drop, set, replicate}
 use Rattle.register.specs.Maps.{empty, tables}
 use Rattle.register.specs.Layout.{slot, directory, section, laid-out}
-use Rattle.stores.specs.Little.{little}
+use Rattle.pattern.specs.Bytes.{little}
 
 -- 300 bytes under number 2 and three under number 255: the mark, version and zeros, the slots of 0 to 2, and the last slot with what follows
 pub layout-holds :

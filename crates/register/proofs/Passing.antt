@@ -6,30 +6,16 @@ use mathlib.Core.Option.{Option, none, some}
 use Prim.Native.Nat.{ℕ, zero, suc, _+_, _*_, _-_, _≤_, _<_}
 use native.Mathlib.Omega.{arith}
 use borrow.Author.Tests.{le-leb, lt-leb, ne-eqb}
-use lib.ListN.{length, getD, take, drop, length-append, length-drop}
-use lib.Seq.{length-take-le, drop-drop, getD-drop}
-use Rattle.pattern.specs.Bytes.{Bytes}
-use Rattle.stores.specs.Little.{little, value}
-use Rattle.stores.proofs.Little.{little-value}
+use lib.ListN.{length, take, drop, length-append, length-drop}
+use lib.Seq.{length-take-le, drop-drop}
+use Rattle.pattern.specs.Bytes.{Bytes, little, value}
+use Rattle.stores.proofs.Little.{Octets, octets-drop, octets-take, little-value}
 use Rattle.register.specs.declared.locate.TablesEnd.the-variants as ending
 use Rattle.register.specs.Maps.{numbers, Map, tables, is-table}
 use Rattle.register.specs.Layout.{slot-size, slot, directory-size, allowed}
 use Rattle.register.specs.Sections.{first-size, first-table, intact, cons-if, held, tables-end}
 use Rattle.register.proofs.Maps.{none-allowed, table-allowed}
 use Rattle.register.proofs.Sections.{is-intact}
-
--- each is a byte
-abbrev pub Octets : Bytes → Type 0
-Octets s = (k : ℕ) → getD s k 0 < 256
-
-octets-drop : (n : ℕ) (s : Bytes) → Octets s → Octets (drop n s)
-octets-drop n s f k = rw getD-drop (f (n + k))
-
-octets-take : (n : ℕ) (s : Bytes) → Octets s → Octets (take n s)
-octets-take zero s f k = omega arith
-octets-take (suc n) [] f k = omega arith
-octets-take (suc n) (b ∷ s) f zero = f 0
-octets-take (suc n) (b ∷ s) f (suc k) = octets-take n s (λ j. f (suc j)) k
 
 -- a slot of bytes is what its length is written as
 slot-told : (slots bytes : Bytes) → Octets slots → slot-size ≤ length slots → first-size slots ≤ length bytes → take slot-size slots ≡ slot (first-table slots bytes)

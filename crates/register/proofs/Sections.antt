@@ -9,10 +9,9 @@ use borrow.Author.Tests.{le-leb}
 use lib.Dec.{leb, leb→le}
 use lib.ListN.{length, take, drop, length-append, length-drop}
 use lib.Seq.{length-take-le, take-add, take-at, drop-at}
-use Rattle.pattern.specs.Bytes.{Bytes, equal}
+use Rattle.pattern.specs.Bytes.{Bytes, equal, value}
 use Rattle.pattern.proofs.Agree.{equal-decides}
 use Rattle.pattern.proofs.Tests.{true-T, and-both, passed}
-use Rattle.stores.specs.Little.{value}
 use Rattle.stores.proofs.Little.{length-little, value-little}
 use Rattle.register.specs.Maps.{Map, tables, total}
 use Rattle.register.specs.Layout.{slot-size, slot, directory, allowed}

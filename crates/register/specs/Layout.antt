@@ -6,8 +6,7 @@ use mathlib.Core.Option.{Option, none, some}
 use Prim.Native.Nat.{ℕ, zero, suc, _+_, _*_, _-_}
 use lib.Dec.{eqb}
 use lib.ListN.{length, take, drop}
-use Rattle.pattern.specs.Bytes.{Bytes, equal, le16, overwrite}
-use Rattle.stores.specs.Little.{little, value}
+use Rattle.pattern.specs.Bytes.{Bytes, equal, le16, little, value, overwrite}
 use Rattle.register.specs.Maps.{numbers, Map, table-of, tables, is-table}
 
 -- "mark MPR and version 1", and zeros up to 8 bytes

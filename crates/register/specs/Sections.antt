@@ -6,8 +6,7 @@ use mathlib.Core.Option.{Option, none, some}
 use Prim.Native.Nat.{ℕ, zero, suc, _+_, _-_, _≤_, _<_}
 use lib.Dec.{leb}
 use lib.ListN.{length, take, drop, set}
-use Rattle.pattern.specs.Bytes.{Bytes, equal, overwrite}
-use Rattle.stores.specs.Little.{value}
+use Rattle.pattern.specs.Bytes.{Bytes, equal, value, overwrite}
 use Rattle.register.specs.declared.locate.Location.{Location}
 use Rattle.register.specs.declared.locate.TablesEnd.{TablesEnd}
 use Rattle.register.specs.declared.locate.TablesEnd.the-variants as ending

@@ -5,11 +5,10 @@ use Prim.Native.Nat.{ℕ, zero, suc, _+_, _*_, _-_, _/_, _%_, _<_, _≤_}
 use native.Mathlib.Omega.{arith}
 use lib.ListN.{length, getD, take, drop, set}
 use lib.Seq.{getD-drop}
-use Rattle.pattern.specs.Bytes.{Bytes, le16}
+use Rattle.pattern.specs.Bytes.{Bytes, le16, little, value}
 use Rattle.pattern.specs.Stores.{store-at}
 use Rattle.pattern.proofs.Stores.{store-at-none, store-at-first}
 use Rattle.pattern.specs.Decode.{field}
-use Rattle.stores.specs.Little.{little, value}
 
 -- the bytes still to be stored, one of them stored
 pub store-next : (l : Bytes) (at j left : ℕ) → j < 8
@@ -36,14 +35,51 @@ pub value-little : (x : ℕ) → x < 4294967296 → value (little 4 x) ≡ x
 unfolding little value
 value-little x h = omega arith
 
+-- every byte is below 256
+abbrev pub Octets : Bytes → Type 0
+Octets s = (k : ℕ) → getD s k 0 < 256
+
+pub octets-drop : (n : ℕ) (s : Bytes) → Octets s → Octets (drop n s)
+octets-drop n s f k = rw getD-drop (f (n + k))
+
+pub octets-take : (n : ℕ) (s : Bytes) → Octets s → Octets (take n s)
+octets-take zero s f k = omega arith
+octets-take (suc n) [] f k = omega arith
+octets-take (suc n) (b ∷ s) f zero = f 0
+octets-take (suc n) (b ∷ s) f (suc k) = octets-take n s (λ j. f (suc j)) k
+
 -- bytes are what their number is written as
-pub little-value : (s : Bytes) → ((k : ℕ) → getD s k 0 < 256) → little (length s) (value s) ≡ s
+pub little-value : (s : Bytes) → Octets s → little (length s) (value s) ≡ s
 unfolding little value
 little-value [] f = refl
 little-value (b ∷ s) f =
     let low : (b + 256 * value s) % 256 ≡ b = omega (arith, f 0) in
     let high : (b + 256 * value s) / 256 ≡ value s = omega (arith, f 0) in
     rw (low, high, little-value s (λ k. f (suc k)))
+
+-- ---- one byte, and two
+
+one : (s : Bytes) → value (take 1 s) ≡ getD s 0 0
+unfolding value
+one [] = refl
+one (a ∷ s) = omega arith
+
+pub value-byte : (s : Bytes) (i : ℕ) → value (take 1 (drop i s)) ≡ getD s i 0
+value-byte s i =
+    let e : i + 0 ≡ i = omega arith in
+    one (drop i s) ∙ getD-drop i s 0 0 ∙ ap (λ k. getD s k 0) e
+
+two : (s : Bytes) → value (take 2 s) ≡ getD s 0 0 + 256 * getD s 1 0
+unfolding value
+two [] = refl
+two (a ∷ []) = omega arith
+two (a ∷ b ∷ s) = omega arith
+
+pub value-field : (s : Bytes) (i : ℕ) → value (take 2 (drop i s)) ≡ field s i
+value-field s i =
+    let e : i + 0 ≡ i = omega arith in
+    let first : getD (drop i s) 0 0 ≡ getD s i 0 = getD-drop i s 0 0 ∙ ap (λ k. getD s k 0) e in
+    omega (arith, two (drop i s), first, getD-drop i s 1 0)
 
 -- ---- four bytes as two times two
 

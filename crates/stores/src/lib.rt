@@ -4,10 +4,9 @@ ghost use mathlib.Core.List.{[], _∷_};
 ghost use Prim.Native.Nat.{_+_, _≤_, _<_};
 ghost use lib.ListN.{length, take, drop};
 ghost use lib.Seq.{slice};
-ghost use Rattle.pattern.specs.Bytes.{equal, le16, zeroed};
+ghost use Rattle.pattern.specs.Bytes.{equal, le16, little, value, zeroed};
 ghost use Rattle.pattern.specs.Decode.{field};
 ghost use Rattle.pattern.specs.Stores.{Puts};
-ghost use Rattle.stores.specs.Little.{little, value};
 
 pub mod decimal;
 pub mod moves;

@@ -12,12 +12,12 @@ use Rattle.pattern.specs.Bytes.{Bytes}
 use Rattle.pattern.specs.Syntax.{pattern, atom, body, branches, Syntax, last, then, repeat, codes, literal, group, only, or, size}
 use Rattle.pattern.specs.Within.{InLimits}
 use Rattle.pattern.specs.Table.{pool, branch-count, kind-field, a-field, b-field, Rec, rec, records}
-use Rattle.pattern.specs.Decode.{layout, record-at, high-of}
+use Rattle.pattern.specs.Decode.{high-of}
 use Rattle.pattern.proofs.Records.{Placed, head-there, tail-there, then-there, or-there}
 use Rattle.pattern.proofs.RoundTrip.{some-atom, some-pattern, some-branch, high-again}
 use Rattle.table.specs.Fields.{record-of}
-use Rattle.table.specs.Checked.{all-plain, ordered, a-set, bind, only-if, choose, pool-slice, leaf, closed-group, read-pattern, read-atom, read-branches}
-use Rattle.table.proofs.Standing.{Clean, laid-out, Set}
+use Rattle.table.specs.Checked.{payload-layout, payload-record, all-plain, ordered, a-set, bind, only-if, choose, pool-slice, leaf, closed-group, read-pattern, read-atom, read-branches}
+use Rattle.table.proofs.Standing.{Clean, Set}
 use Rattle.table.specs.declared.record.Record.{Record}
 use Rattle.table.proofs.Options.{kept, first, second, going-on, true-and}
 use Rattle.table.proofs.Clean.{fits-ordered}
@@ -56,11 +56,11 @@ module _ (s : Bytes) (A : ℕ) where
       record { placed = tail-there (h .placed); good = h .good .1 .1; clean = h .clean; within = omega (arith, h .within); pooled = h .pooled }
 
   -- the record of an atom
-  record-there : (e low : ℕ) (high : Option ℕ) (b : Syntax body) (i p : ℕ) → Placed s (laid-out A) e (repeat low high b) i p → record-at s (layout s) i ≡ rec e low high b i p
+  record-there : (e low : ℕ) (high : Option ℕ) (b : Syntax body) (i p : ℕ) → Placed s (payload-layout A) e (repeat low high b) i p → payload-record s i ≡ rec e low high b i p
   unfolding records
   record-there e low high b i p h = head-there h
 
-  record-ends : (e : ℕ) (a : Syntax atom) (i p : ℕ) → Placed s (laid-out A) e a i p → record-at s (layout s) i .ends ≡ e
+  record-ends : (e : ℕ) (a : Syntax atom) (i p : ℕ) → Placed s (payload-layout A) e a i p → payload-record s i .ends ≡ e
   record-ends e (repeat low high b) i p h = ap (λ (r : Rec). r .ends) (record-there e low high b i p h)
 
   -- an atom, by its record
@@ -118,7 +118,7 @@ module _ (s : Bytes) (A : ℕ) where
       let (b, c) = set-then e a q i p d h in
       let z = record-ends 0 a i p (b .placed) in
       going-on _ _ (ih .atoms 0 a i p d b (omega (arith, n)))
-      ∙ second _ _ _ (ne-eqb (record-at s (layout s) i .ends) 1 (λ x. omega (arith, z, x)))
+      ∙ second _ _ _ (ne-eqb (payload-record s i .ends) 1 (λ x. omega (arith, z, x)))
       ∙ kept _ _ (eq-eqb _ _ z)
       ∙ going-on _ _ (ih .patterns e q _ _ d c (omega (arith, n, some-atom a)))
 

@@ -9,7 +9,7 @@ use native.Mathlib.Omega.{arith}
 use lib.Dec.{ltb}
 use lib.ListN.{length, take, drop, length-take, length-drop, length-append}
 use borrow.Author.Tests.{le-leb, lt-leb, eq-eqb, ne-eqb, ltb-true}
-use Rattle.pattern.specs.Numbers.{header-size, record-size, set-limit, quote-byte, codes-kind, literal-kind}
+use Rattle.pattern.specs.Numbers.{record-size, set-limit, quote-byte, codes-kind, literal-kind}
 use Rattle.pattern.specs.Bytes.{Bytes}
 use Rattle.pattern.specs.Codes.{all-codes}
 use Rattle.pattern.specs.Syntax.{body, Syntax, size}
@@ -62,25 +62,25 @@ module _ (s : Bytes) (A a b p : ℕ) where
   unfolding leaf-of
   text-apart e = sym (ap leaf-of (dropped _ _ (ne-eqb a p e)))
 
-  pub text-past : a ≡ p → length s < header-size + record-size * A + p + b → leaf.Bad ≡ leaf-of (text-leaf s A a b p)
+  pub text-past : a ≡ p → length s < record-size * A + p + b → leaf.Bad ≡ leaf-of (text-leaf s A a b p)
   unfolding leaf-of
-  text-past e f = sym (ap leaf-of (kept _ _ (eq-eqb a p e) ∙ dropped _ _ (lt-leb (header-size + record-size * A + p + b) (length s) f)))
+  text-past e f = sym (ap leaf-of (kept _ _ (eq-eqb a p e) ∙ dropped _ _ (lt-leb (record-size * A + p + b) (length s) f)))
 
-  pub text-bad : (k : ℕ) → a ≡ p → header-size + record-size * A + p + b ≤ length s → k ≡ b → texts.Bad ≡ text-of (take k (drop (header-size + record-size * A + p) s)) → leaf.Bad ≡ leaf-of (text-leaf s A a b p)
+  pub text-bad : (k : ℕ) → a ≡ p → record-size * A + p + b ≤ length s → k ≡ b → texts.Bad ≡ text-of (take k (drop (record-size * A + p) s)) → leaf.Bad ≡ leaf-of (text-leaf s A a b p)
   unfolding leaf-of
   text-bad k e f g t =
-      let n = text-not _ (t ∙ ap (λ j. text-of (take j (drop (header-size + record-size * A + p) s))) g) in
-      sym (ap leaf-of (kept _ _ (eq-eqb a p e) ∙ kept _ _ (le-leb (header-size + record-size * A + p + b) (length s) f) ∙ dropped _ _ n))
+      let n = text-not _ (t ∙ ap (λ j. text-of (take j (drop (record-size * A + p) s))) g) in
+      sym (ap leaf-of (kept _ _ (eq-eqb a p e) ∙ kept _ _ (le-leb (record-size * A + p + b) (length s) f) ∙ dropped _ _ n))
 
-  pub text-good : (k n : ℕ) → a ≡ p → header-size + record-size * A + p + b ≤ length s → k ≡ b → texts.Length n ≡ text-of (take k (drop (header-size + record-size * A + p) s))
+  pub text-good : (k n : ℕ) → a ≡ p → record-size * A + p + b ≤ length s → k ≡ b → texts.Length n ≡ text-of (take k (drop (record-size * A + p) s))
       → (leaf.Is b (n + 2) ≡ leaf-of (text-leaf s A a b p)) × (n ≤ 2 * b)
   unfolding leaf-of pool print
   text-good k n e f g t =
-      let v = take b (drop (header-size + record-size * A + p) s) in
-      let (y, z) = text-is v n (t ∙ ap (λ j. text-of (take j (drop (header-size + record-size * A + p) s))) g) in
-      let m : length v ≡ b = length-take b (drop (header-size + record-size * A + p) s) ∙ omega (arith, length-drop (header-size + record-size * A + p) s) in
+      let v = take b (drop (record-size * A + p) s) in
+      let (y, z) = text-is v n (t ∙ ap (λ j. text-of (take j (drop (record-size * A + p) s))) g) in
+      let m : length v ≡ b = length-take b (drop (record-size * A + p) s) ∙ omega (arith, length-drop (record-size * A + p) s) in
       let o : n + 2 ≡ suc (length (double v ++ quote-byte ∷ [])) = omega (arith, z, length-append (double v) (quote-byte ∷ [])) in
-      (ap₂ (λ x y. leaf.Is x y) (sym m) o ∙ sym (ap leaf-of (kept _ _ (eq-eqb a p e) ∙ kept _ _ (le-leb (header-size + record-size * A + p + b) (length s) f) ∙ kept _ _ y)), omega (arith, z, double-length v, m))
+      (ap₂ (λ x y. leaf.Is x y) (sym m) o ∙ sym (ap leaf-of (kept _ _ (eq-eqb a p e) ∙ kept _ _ (le-leb (record-size * A + p + b) (length s) f) ∙ kept _ _ y)), omega (arith, z, double-length v, m))
 
 -- a leaf by its kind
 module _ (s : Bytes) (A kind a b p : ℕ) where

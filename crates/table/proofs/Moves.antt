@@ -2,7 +2,7 @@
 use Prim.Native.Nat.{ℕ, _+_, _*_, _<_, _≤_}
 use native.Mathlib.Omega.{arith}
 use lib.ListN.{length}
-use Rattle.pattern.specs.Numbers.{depth-limit, header-size, record-size}
+use Rattle.pattern.specs.Numbers.{depth-limit, record-size}
 use Rattle.pattern.specs.Bytes.{Bytes}
 use Rattle.table.specs.Fields.{RecordIn}
 use Rattle.table.specs.Leaves.{LeafPre}
@@ -26,7 +26,7 @@ bracket-on x c = place (x .atom + 1) (x .pool) (x .source + c + 1)
 module _ {s : Bytes} {A : ℕ} {at : Place} where
   module _ {d : ℕ} (r : WalkPre s A at d) where
     pub ready-leaf : LeafPre s A (at .pool)
-    ready-leaf = record { pool = r .pool; small = r .small; few = omega (arith, r .few) }
+    ready-leaf = record { pool = r .pool; small = r .small; few = r .few }
 
     pub ready-on : {next : Place} → WalkMoved s A at next → WalkPre s A next d
     ready-on m =
@@ -45,7 +45,7 @@ module _ {s : Bytes} {A : ℕ} {at : Place} where
     short-source = omega (arith, r .source, r .atom, r .pool, r .few, r .small)
 
     -- a record is within the bytes
-    pub record-in : at .atom < A → RecordIn s (at .atom)
+    pub record-in : at .atom < A → RecordIn s 0 (at .atom)
     record-in h = record { within = omega (arith, r .pool) }
 
   pub moved-then : {next dest : Place} → WalkMoved s A at next → WalkMoved s A next dest → WalkMoved s A at dest
@@ -59,7 +59,7 @@ module _ {s : Bytes} {A : ℕ} {at : Place} where
   pub moved-group : (c : ℕ) {dest : Place} → c ≤ 11 → WalkMoved s A (bracket-on at c) dest → WalkMoved s A at (byte-on dest)
   moved-group c e n = record { on = omega (arith, n .on); atom = n .atom; pool = n .pool; source = omega (arith, n .source) }
 
-  pub moved-leaf : (c v w : ℕ) → c ≤ 11 → at .atom < A → header-size + record-size * A + at .pool + v ≤ length s → w ≤ 2 * v + 7 → WalkMoved s A at (leaf-on at c v w)
+  pub moved-leaf : (c v w : ℕ) → c ≤ 11 → at .atom < A → record-size * A + at .pool + v ≤ length s → w ≤ 2 * v + 7 → WalkMoved s A at (leaf-on at c v w)
   moved-leaf c v w e f g k = record { on = omega arith; atom = omega arith; pool = omega (arith, g); source = omega arith }
 
   pub past-again : {next : Place} (x : Passed) → WalkMoved s A at next → Past s A (byte-on next) x → Past s A at x

@@ -9,13 +9,13 @@ use native.Mathlib.Omega.{arith}
 use lib.Dec.{ltb}
 use borrow.Author.Tests.{eqb-true, leb-true, ltb-true}
 use lib.ListN.{length, getD, drop, length-append, length-take, length-drop, take-append-drop}
-use Rattle.pattern.specs.Numbers.{depth-limit, set-limit, header-size, record-size, group-kind}
+use Rattle.pattern.specs.Numbers.{depth-limit, set-limit, record-size, group-kind}
 use Rattle.pattern.specs.Bytes.{Bytes}
 use Rattle.pattern.specs.Syntax.{pattern, atom, body, branches, Syntax, then, repeat, codes, literal, or, size}
 use Rattle.pattern.specs.Within.{Fits, InLimits}
 use Rattle.pattern.specs.Table.{pool, branch-count, kind-field, a-field, b-field, high-field, Rec, rec, records, record-bytes}
-use Rattle.pattern.specs.Decode.{layout, record-at, high-of}
-use Rattle.table.specs.Checked.{all-plain, a-set, bind, only-if, pool-slice, leaf, closed-group, read-pattern, read-atom, read-branches}
+use Rattle.pattern.specs.Decode.{high-of}
+use Rattle.table.specs.Checked.{payload-record, all-plain, a-set, bind, only-if, pool-slice, leaf, closed-group, read-pattern, read-atom, read-branches}
 use Rattle.table.proofs.Standing.{Clean, Set, both-placed}
 use Rattle.table.proofs.Options.{nothing, inside, after-some, only-some, choose-some, and-true}
 use Rattle.pattern.proofs.Records.{count-records}
@@ -25,7 +25,7 @@ use Rattle.table.proofs.Clean.{high-back, ordered-fits}
 -- bytes that have room for the records
 pub record Laid (s : Bytes) (A : ℕ) : Type 0 where
   pub bytes : (k : ℕ) → getD s k 0 < 256
-  pub records : header-size + record-size * A ≤ length s
+  pub records : record-size * A ≤ length s
 
 module _ (s : Bytes) (A : ℕ) (laid : Laid s A) where
   same-rec : (r : Rec) (k a b : ℕ) → r .kind ≡ k → r .a ≡ a → r .b ≡ b
@@ -34,19 +34,19 @@ module _ (s : Bytes) (A : ℕ) (laid : Laid s A) where
       λ j. record { kind = e j; ends = r .ends; low = r .low; high = sym (high-back (r .high)) j; a = f j; b = g j }
 
   -- an atom whose record is its body's
-  set-atom : (b : Syntax body) (i p d : ℕ) → i < A → Fits (record-at s (layout s) i .low) (high-of (record-at s (layout s) i .high))
-      → record-at s (layout s) i ≡ rec (record-at s (layout s) i .ends) (record-at s (layout s) i .low) (high-of (record-at s (layout s) i .high)) b i p
+  set-atom : (b : Syntax body) (i p d : ℕ) → i < A → Fits (payload-record s i .low) (high-of (payload-record s i .high))
+      → payload-record s i ≡ rec (payload-record s i .ends) (payload-record s i .low) (high-of (payload-record s i .high)) b i p
       → ((e : ℕ) → Set s A e b (suc i) p d)
-      → Set s A (record-at s (layout s) i .ends) (repeat (record-at s (layout s) i .low) (high-of (record-at s (layout s) i .high)) b) i p d
+      → Set s A (payload-record s i .ends) (repeat (payload-record s i .low) (high-of (payload-record s i .high)) b) i p d
   unfolding records size pool InLimits Clean record-bytes
   set-atom b i p d h o e f =
-      let g = f (record-at s (layout s) i .ends) in
+      let g = f (payload-record s i .ends) in
       record {
         placed = record {
           left = g .placed .left;
           over = g .placed .over;
-          recs = one-record s (laid .bytes) (header-size + record-size * i) (header-size + record-size * suc i) (omega arith) (omega (arith, laid .records))
-              ∙ ap (λ x. record-bytes (record-at s (layout s) i ∷ []) x) (g .placed .recs) ∙ ap (λ x. record-bytes (x ∷ records (record-at s (layout s) i .ends) b (suc i) p) (g .placed .left)) e;
+          recs = one-record s (laid .bytes) (0 + record-size * i) (0 + record-size * suc i) (omega arith) (omega (arith, laid .records))
+              ∙ ap (λ x. record-bytes (payload-record s i ∷ []) x) (g .placed .recs) ∙ ap (λ x. record-bytes (x ∷ records (payload-record s i .ends) b (suc i) p) (g .placed .left)) e;
           text = g .placed .text;
         };
         good = (o, g .good);
@@ -77,28 +77,28 @@ module _ (s : Bytes) (A : ℕ) (laid : Laid s A) where
         pooled = omega (arith, g .pooled, length-append (pool q) (pool bs));
       }
 
-  set-codes : (set i p d : ℕ) → a-set set ≡ true → i ≤ A → header-size + record-size * A + p ≤ length s → (e : ℕ) → Set s A e (codes set) i p d
+  set-codes : (set i p d : ℕ) → a-set set ≡ true → i ≤ A → record-size * A + p ≤ length s → (e : ℕ) → Set s A e (codes set) i p d
   unfolding records size pool record-bytes InLimits Clean a-set
   set-codes set i p d h w v e =
       let (x, y) = and-true (ltb 0 set) (ltb set set-limit) h in
       record {
-        placed = record { left = drop (header-size + record-size * i) s; over = drop (header-size + record-size * A + p) s; recs = refl; text = refl };
+        placed = record { left = drop (0 + record-size * i) s; over = drop (record-size * A + p) s; recs = refl; text = refl };
         good = ltb-true _ _ y;
         clean = ltb-true _ _ x;
         within = omega arith;
         pooled = omega arith;
       }
 
-  length-text : (p n : ℕ) → header-size + record-size * A + p + n ≤ length s → length (pool-slice s A p n) ≡ n
-  length-text p n h = length-take n (drop (header-size + record-size * A + p) s) ∙ omega (arith, length-drop (header-size + record-size * A + p) s)
+  length-text : (p n : ℕ) → record-size * A + p + n ≤ length s → length (pool-slice s A p n) ≡ n
+  length-text p n h = length-take n (drop (record-size * A + p) s) ∙ omega (arith, length-drop (record-size * A + p) s)
 
-  set-literal : (i p n d : ℕ) → all-plain (pool-slice s A p n) ≡ true → i ≤ A → header-size + record-size * A + p + n ≤ length s → (e : ℕ) → Set s A e (literal (pool-slice s A p n)) i p d
+  set-literal : (i p n d : ℕ) → all-plain (pool-slice s A p n) ≡ true → i ≤ A → record-size * A + p + n ≤ length s → (e : ℕ) → Set s A e (literal (pool-slice s A p n)) i p d
   unfolding records size pool record-bytes InLimits Clean
   set-literal i p n d h z v e =
       let m = length-text p n v in
-      let rest = drop (header-size + record-size * A + p) s in
+      let rest = drop (record-size * A + p) s in
       record {
-        placed = record { left = drop (header-size + record-size * i) s; over = drop n rest; recs = refl; text = sym (take-append-drop n rest) };
+        placed = record { left = drop (0 + record-size * i) s; over = drop n rest; recs = refl; text = sym (take-append-drop n rest) };
         good = tt;
         clean = h;
         within = omega arith;
@@ -106,35 +106,35 @@ module _ (s : Bytes) (A : ℕ) (laid : Laid s A) where
       }
 
   pub record SoundTo (f : ℕ) : Type 0 where
-    pub patterns : (i p d : ℕ) (t : Syntax pattern) → header-size + record-size * A + p ≤ length s → read-pattern s A f i p d ≡ some t → (e : ℕ) → Set s A e t i p d
-    pub atoms : (i p d : ℕ) (a : Syntax atom) → header-size + record-size * A + p ≤ length s → read-atom s A f i p d ≡ some a → Set s A (record-at s (layout s) i .ends) a i p d
-    pub branches : (k i p d : ℕ) (bs : Syntax branches) → header-size + record-size * A + p ≤ length s → read-branches s A f k i p d ≡ some bs
+    pub patterns : (i p d : ℕ) (t : Syntax pattern) → record-size * A + p ≤ length s → read-pattern s A f i p d ≡ some t → (e : ℕ) → Set s A e t i p d
+    pub atoms : (i p d : ℕ) (a : Syntax atom) → record-size * A + p ≤ length s → read-atom s A f i p d ≡ some a → Set s A (payload-record s i .ends) a i p d
+    pub branches : (k i p d : ℕ) (bs : Syntax branches) → record-size * A + p ≤ length s → read-branches s A f k i p d ≡ some bs
         → (branch-count bs ≡ k) × ((e : ℕ) → Set s A e bs i p d)
 
   -- a body, its record and where it stands
   abbrev Bodied : (b : Syntax body) (i p d : ℕ) → Type 0
   Bodied b i p d =
-      (record-at s (layout s) i ≡ rec (record-at s (layout s) i .ends) (record-at s (layout s) i .low) (high-of (record-at s (layout s) i .high)) b i p) × ((e : ℕ) → Set s A e b (suc i) p d)
+      (payload-record s i ≡ rec (payload-record s i .ends) (payload-record s i .low) (high-of (payload-record s i .high)) b i p) × ((e : ℕ) → Set s A e b (suc i) p d)
 
-  leaf-body : (i p d : ℕ) (b : Syntax body) → i < A → header-size + record-size * A + p ≤ length s → leaf s A (record-at s (layout s) i .kind) (record-at s (layout s) i .a) (record-at s (layout s) i .b) p ≡ some b → Bodied b i p d
+  leaf-body : (i p d : ℕ) (b : Syntax body) → i < A → record-size * A + p ≤ length s → leaf s A (payload-record s i .kind) (payload-record s i .a) (payload-record s i .b) p ≡ some b → Bodied b i p d
   unfolding leaf kind-field a-field b-field
   leaf-body i p d b h v e =
       ⊎-elim
       (λ (k, g). let (y, g1) = only-some _ _ g in
       let (z, g2) = only-some _ _ g1 in
       subst (λ (b : Syntax body). Bodied b i p d) (inside g2)
-      (same-rec (record-at s (layout s) i) _ _ _ (eqb-true _ _ k) refl (eqb-true _ _ z), set-codes _ (suc i) p d y h v))
+      (same-rec (payload-record s i) _ _ _ (eqb-true _ _ k) refl (eqb-true _ _ z), set-codes _ (suc i) p d y h v))
       (λ (k, g). let (y4, g1) = only-some _ _ g in
       let (y5, g2) = only-some _ _ g1 in
       let (y3, g3) = only-some _ _ g2 in
       let (z, g4) = only-some _ _ g3 in
       let q = leb-true _ _ y3 in
       subst (λ (b : Syntax body). Bodied b i p d) (inside g4)
-      (same-rec (record-at s (layout s) i) _ _ _ (eqb-true _ _ y4) (eqb-true _ _ y5) (sym (length-text p _ q)), set-literal (suc i) p _ d z h q))
+      (same-rec (payload-record s i) _ _ _ (eqb-true _ _ y4) (eqb-true _ _ y5) (sym (length-text p _ q)), set-literal (suc i) p _ d z h q))
       (choose-some _ _ _ e)
 
-  group-body : (f i p d : ℕ) (b : Syntax body) → SoundTo f → header-size + record-size * A + p ≤ length s → record-at s (layout s) i .kind ≡ group-kind
-      → only-if (ltb d depth-limit) (bind (read-branches s A f (record-at s (layout s) i .a) (suc i) p (suc d)) (closed-group s A (record-at s (layout s) i .b) i)) ≡ some b
+  group-body : (f i p d : ℕ) (b : Syntax body) → SoundTo f → record-size * A + p ≤ length s → payload-record s i .kind ≡ group-kind
+      → only-if (ltb d depth-limit) (bind (read-branches s A f (payload-record s i .a) (suc i) p (suc d)) (closed-group s A (payload-record s i .b) i)) ≡ some b
       → Bodied b i p d
   unfolding closed-group kind-field a-field b-field records size pool InLimits Clean
   group-body f i p d b ih v k e =
@@ -143,9 +143,9 @@ module _ (s : Bytes) (A : ℕ) (laid : Laid s A) where
       let (z, g2) = only-some _ _ g1 in
       let (n, st) = ih .branches _ _ _ _ bs v r in
       subst (λ (b : Syntax body). Bodied b i p d) (inside g2)
-      (same-rec (record-at s (layout s) i) _ _ _ k (sym n) (sym (eqb-true _ _ z)), λ e. let h = st e in record { placed = h .placed; good = (ltb-true _ _ y, h .good); clean = h .clean; within = h .within; pooled = h .pooled })
+      (same-rec (payload-record s i) _ _ _ k (sym n) (sym (eqb-true _ _ z)), λ e. let h = st e in record { placed = h .placed; good = (ltb-true _ _ y, h .good); clean = h .clean; within = h .within; pooled = h .pooled })
 
-  sound-atom : (f : ℕ) → SoundTo f → (i p d : ℕ) (a : Syntax atom) → header-size + record-size * A + p ≤ length s → read-atom s A (suc f) i p d ≡ some a → Set s A (record-at s (layout s) i .ends) a i p d
+  sound-atom : (f : ℕ) → SoundTo f → (i p d : ℕ) (a : Syntax atom) → record-size * A + p ≤ length s → read-atom s A (suc f) i p d ≡ some a → Set s A (payload-record s i .ends) a i p d
   unfolding read-pattern
   sound-atom f ih i p d a v e =
       let (h, g) = only-some _ _ e in
@@ -153,9 +153,9 @@ module _ (s : Bytes) (A : ℕ) (laid : Laid s A) where
       let (b, r, g2) = after-some _ _ g1 in
       let h2 = ltb-true _ _ h in
       let (m, st) : Bodied b i p d = ⊎-elim (λ (k, x). group-body f i p d b ih v (eqb-true _ _ k) x) (λ (k, x). leaf-body i p d b h2 v x) (choose-some _ _ _ r) in
-      subst (λ (a : Syntax atom). Set s A (record-at s (layout s) i .ends) a i p d) (inside g2) (set-atom b i p d h2 (ordered-fits _ _ o) m st)
+      subst (λ (a : Syntax atom). Set s A (payload-record s i .ends) a i p d) (inside g2) (set-atom b i p d h2 (ordered-fits _ _ o) m st)
 
-  sound-pattern : (f : ℕ) → SoundTo f → (i p d : ℕ) (t : Syntax pattern) → header-size + record-size * A + p ≤ length s → read-pattern s A (suc f) i p d ≡ some t → (e : ℕ) → Set s A e t i p d
+  sound-pattern : (f : ℕ) → SoundTo f → (i p d : ℕ) (t : Syntax pattern) → record-size * A + p ≤ length s → read-pattern s A (suc f) i p d ≡ some t → (e : ℕ) → Set s A e t i p d
   unfolding read-pattern records size pool InLimits Clean
   sound-pattern f ih i p d t v e n =
       let (a, r, g) = after-some _ _ e in
@@ -171,7 +171,7 @@ module _ (s : Bytes) (A : ℕ) (laid : Laid s A) where
       (set-both n a q i p d u (ih .patterns _ _ _ q (omega (arith, u .pooled)) r2 n)))
       (choose-some _ _ _ g)
 
-  sound-branches : (f : ℕ) → SoundTo f → (k i p d : ℕ) (bs : Syntax branches) → header-size + record-size * A + p ≤ length s → read-branches s A (suc f) k i p d ≡ some bs
+  sound-branches : (f : ℕ) → SoundTo f → (k i p d : ℕ) (bs : Syntax branches) → record-size * A + p ≤ length s → read-branches s A (suc f) k i p d ≡ some bs
       → (branch-count bs ≡ k) × ((e : ℕ) → Set s A e bs i p d)
   unfolding read-pattern branch-count records size pool InLimits Clean
   sound-branches f ih k i p d bs v e =

@@ -1,18 +1,18 @@
--- A good tree stands in the records and the pool of a table. Assumes nothing.
+-- A good tree stands in the records and the pool of a table, which follow its header. Assumes nothing.
 use mathlib.Core.Path.{_≡_, sym, ap, _∙_}
 use mathlib.Core.Bool.{true}
 use mathlib.Core.List.{List, _++_, append-assoc}
 use Prim.Native.Nat.{ℕ, _+_, _*_, _≤_, _<_}
 use native.Mathlib.Omega.{arith}
 use lib.ListN.{length}
-use Rattle.pattern.specs.Numbers.{header-size, record-size}
+use Rattle.pattern.specs.Numbers.{record-size}
 use Rattle.pattern.specs.Bytes.{Bytes}
 use Rattle.pattern.specs.Syntax.{Sort, Syntax, last, then, repeat, codes, literal, group, only, or, size}
 use Rattle.pattern.specs.Within.{InLimits}
 use Rattle.pattern.specs.Table.{pool, Rec, record-bytes}
 use Rattle.pattern.specs.Decode.{Layout}
 use Rattle.pattern.proofs.Records.{record-bytes-append, next-there, after-there, Stands, Placed}
-use Rattle.table.specs.Checked.{all-plain}
+use Rattle.table.specs.Checked.{payload-layout, all-plain}
 
 -- sets have a code, and literals plain bytes
 unfoldable pub Clean : {s : Sort} → Syntax s → Type 0
@@ -25,17 +25,13 @@ Clean (group bs) = Clean bs
 Clean (only p) = Clean p
 Clean (or p bs) = Clean p × Clean bs
 
--- how a table of A atoms is laid out
-abbrev pub laid-out : ℕ → Layout
-laid-out A = record { records = header-size; pool = header-size + record-size * A }
-
 -- the tree stands at atom i with p bytes of the pool before it, inside d groups, and ends within the records and the bytes; e is for an atom alone
 pub record Set (s : Bytes) (A : ℕ) {o : Sort} (e : ℕ) (t : Syntax o) (i p d : ℕ) : Type 0 where
-  pub placed : Placed s (laid-out A) e t i p
+  pub placed : Placed s (payload-layout A) e t i p
   pub good : InLimits d t
   pub clean : Clean t
   pub within : i + size t ≤ A
-  pub pooled : header-size + record-size * A + p + length (pool t) ≤ length s
+  pub pooled : record-size * A + p + length (pool t) ≤ length s
 
 -- two runs of records and of text, one after the other
 pub both-placed : {s : Bytes} {l : Layout} {i p : ℕ} (xs ys : List Rec) (v w : Bytes) (n : ℕ) → length xs ≡ n → Stands s l i p xs v → Stands s l (i + n) (p + length v) ys w

@@ -14,9 +14,9 @@ use Rattle.pattern.specs.Bytes.{Bytes}
 use Rattle.pattern.specs.Syntax.{Sort, pattern, atom, body, branches, Syntax, then, repeat, group, or, size, top-size}
 use Rattle.pattern.specs.Table.{pool}
 use Rattle.pattern.specs.Print.{print-count, print}
-use Rattle.pattern.specs.Decode.{layout, record-at, high-of}
+use Rattle.pattern.specs.Decode.{high-of}
 use Rattle.table.specs.Fields.{record-of}
-use Rattle.table.specs.Checked.{ordered, bind, only-if, choose, leaf as leaf-read, closed-group, read-pattern, read-atom, read-branches}
+use Rattle.table.specs.Checked.{payload-record, ordered, bind, only-if, choose, leaf as leaf-read, closed-group, read-pattern, read-atom, read-branches}
 use Rattle.table.specs.Leaves.{leaf-of}
 use Rattle.table.specs.Walk.{place, beyond, passed-by, walked-by, reach}
 use Rattle.table.specs.declared.record.Record.{Record}
@@ -85,14 +85,14 @@ module _ (s : Bytes) (A : ℕ) (at : Place) (d : ℕ) where
   pattern-none r zero n = absurd (omega arith)
   pattern-none r (suc f) n = sym (ap (walked-by at) (stopped _ _ (bad-none at _ (r f (omega arith)))))
 
-  pub pattern-last : (next : Place) → AtomReads s A at d (passed.To next) → record-at s (layout s) (at .atom) .ends ≡ 1 → PatternReads s A at d (walked.To next 1)
+  pub pattern-last : (next : Place) → AtomReads s A at d (passed.To next) → payload-record s (at .atom) .ends ≡ 1 → PatternReads s A at d (walked.To next 1)
   unfolding read-pattern walked-by size pool print top-size
   pattern-last next r e zero n = absurd (omega arith)
   pattern-last next r e (suc f) n =
       let (a, o, q) = to-some at _ next (r f (omega arith)) in
       ap (λ x. walked.To x 1) q ∙ sym (ap (walked-by at) (going-on _ _ o ∙ first _ _ _ (eq-eqb _ _ e)))
 
-  pub pattern-other : (next : Place) → AtomReads s A at d (passed.To next) → (record-at s (layout s) (at .atom) .ends ≡ 1 → ⊥) → (record-at s (layout s) (at .atom) .ends ≡ 0 → ⊥)
+  pub pattern-other : (next : Place) → AtomReads s A at d (passed.To next) → (payload-record s (at .atom) .ends ≡ 1 → ⊥) → (payload-record s (at .atom) .ends ≡ 0 → ⊥)
       → PatternReads s A at d walked.Bad
   unfolding read-pattern walked-by
   pattern-other next r e g zero n = absurd (omega arith)
@@ -101,8 +101,8 @@ module _ (s : Bytes) (A : ℕ) (at : Place) (d : ℕ) where
       sym (ap (walked-by at) (going-on _ _ o ∙ second _ _ _ (ne-eqb _ _ e) ∙ dropped _ _ (ne-eqb _ _ g)))
 
   module _ (next : Place) (r : AtomReads s A at d (passed.To next)) (on : at .atom < next .atom) (in-table : next .atom ≤ A)
-      (e : record-at s (layout s) (at .atom) .ends ≡ 0) where
-    not-last : record-at s (layout s) (at .atom) .ends ≡ 1 → ⊥
+      (e : payload-record s (at .atom) .ends ≡ 0) where
+    not-last : payload-record s (at .atom) .ends ≡ 1 → ⊥
     not-last g = omega (arith, e, g)
 
     pub then-none : PatternReads s A next d walked.Bad → PatternReads s A at d walked.Bad
@@ -135,7 +135,7 @@ module _ (s : Bytes) (A : ℕ) (at : Place) (d : ℕ) where
   atom-over e zero n = absurd (omega arith)
   atom-over e (suc f) n = sym (ap (passed-by at) (dropped _ _ (le-ltb _ _ e)))
 
-  module _ (r : Record) (same : r ≡ record-of (record-at s (layout s) (at .atom))) (on : at .atom < A) where
+  module _ (r : Record) (same : r ≡ record-of (payload-record s (at .atom))) (on : at .atom < A) where
     -- the model at the record that the code has read
     by-fields : (f : ℕ) → read-atom s A (suc f) (at .atom) (at .pool) d ≡ by-record s A f r (at .atom) (at .pool) d
     unfolding read-pattern

@@ -7,9 +7,9 @@ use lib.ListN.{length}
 use Rattle.pattern.specs.Numbers.{depth-limit, group-kind}
 use Rattle.pattern.specs.Bytes.{Bytes}
 use Rattle.pattern.specs.Print.{print-count}
-use Rattle.pattern.specs.Decode.{layout, record-at, high-of}
+use Rattle.pattern.specs.Decode.{high-of}
 use Rattle.table.specs.Fields.{record-of}
-use Rattle.table.specs.Checked.{ordered, leaf as leaf-read}
+use Rattle.table.specs.Checked.{payload-record, ordered, leaf as leaf-read}
 use Rattle.table.specs.Leaves.{LeafPost, Short}
 use Rattle.table.specs.Walk.{WalkPre, WalkMoved, AtomPost, PatternPost, GroupPost}
 use Rattle.table.specs.declared.record.Record.{Record}
@@ -29,7 +29,7 @@ use Rattle.table.proofs.Steps.{pattern-none, pattern-last, pattern-othe
 pub record CountMeasured (s : Bytes) (A : ℕ) (at : Place) (d : ℕ) (r : Record) (c : ℕ) : Type 0 where
   pub ready : WalkPre s A at d
   pub on : at .atom < A
-  pub same : r ≡ record-of (record-at s (layout s) (at .atom))
+  pub same : r ≡ record-of (payload-record s (at .atom))
   pub fits : ordered (r .low) (r .high) ≡ true
   pub count : c ≡ length (print-count (r .low) (high-of (r .high)))
   pub short : c ≤ 11
@@ -110,7 +110,7 @@ module _ {s : Bytes} {A d : ℕ} {at now : Place} {k : ℕ} (g : WalkPatternAt s
     pub going-moved : WalkMoved s A now next
     going-moved = passed-to .past
 
-    module _ {b : ℕ} (q : b ≡ record-at s (layout s) (now .atom) .ends) where
+    module _ {b : ℕ} (q : b ≡ payload-record s (now .atom) .ends) where
       pub pattern-at-last : b ≡ 1 → PatternPost s A at d (walked.To next (k + 1))
       unfolding further
       pattern-at-last z = g .rest (walked.To next 1) (record {

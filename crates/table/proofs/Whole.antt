@@ -1,67 +1,96 @@
 -- The checked walk with the test of the source's length reads bytes as `decode` does. Assumes nothing.
-use mathlib.Core.Path.{_≡_, refl, sym, ap, subst, _∙_}
+use mathlib.Core.Path.{_≡_, refl, sym, ap, ap₂, subst, _∙_}
 use mathlib.Core.Logic.{⊎-elim}
-use mathlib.Core.Bool.{true, _&&_}
+use mathlib.Core.Bool.{Bool, true, false, _&&_, _||_}
 use mathlib.Core.Option.{Option, none, some, Option·none-ne-some}
 use mathlib.Core.List.{[], _++_, append-nil}
 use Prim.Native.Nat.{ℕ, _+_, _*_, _<_, _≤_}
 use native.Mathlib.Omega.{arith}
-use lib.Dec.{leb}
+use lib.Dec.{leb, eqb}
 use borrow.Author.Tests.{eqb-true, leb-true, le-leb, lt-leb, eq-eqb}
-use lib.ListN.{length, getD, take, drop, take-append-drop, drop-of-length-le}
-use Rattle.pattern.specs.Numbers.{source-limit, atom-limit, atoms-place, length-place, header-size, record-size}
-use Rattle.pattern.specs.Bytes.{Bytes, equal}
+use lib.ListN.{length, getD, take, drop, length-drop, take-append-drop, drop-of-length-le}
+use lib.Seq.{getD-take, length-take-le, drop-drop}
+use Rattle.pattern.specs.Numbers.{version-place, atoms-place, record-size}
+use Rattle.pattern.specs.Versions.{Version, v1, v2, newest, format, length-place, header-size}
+use Rattle.pattern.specs.Bytes.{Bytes, equal, le16, little, value}
 use Rattle.pattern.specs.Syntax.{pattern, Syntax, size}
-use Rattle.pattern.specs.Within.{InLimits, Limited}
+use Rattle.pattern.specs.Within.{InLimits}
 use Rattle.pattern.specs.Print.{print}
-use Rattle.pattern.specs.Table.{pool, records, record-bytes, header, encode}
-use Rattle.pattern.specs.Decode.{decode}
+use Rattle.pattern.specs.Table.{pool, records, record-bytes, header, encode-in}
+use Rattle.pattern.specs.Decode.{field, version-of, count-in, decode}
 use Rattle.pattern.proofs.Tests.{true-T, le-or-lt}
 use Rattle.pattern.proofs.Agree.{equal-decides}
-use Rattle.pattern.proofs.Accepted.{accepted-exactly}
-use Rattle.pattern.proofs.Records.{count-records, next-there, after-there}
-use Rattle.pattern.proofs.RoundTrip.{encode-length, encode-placed, good-exactly}
-use Rattle.pattern.proofs.Calls.{print-accepted}
-use Rattle.table.specs.Headers.{first-bytes, header-of, headed}
+use Rattle.pattern.proofs.Records.{length-record-bytes, count-records, next-there, after-there}
+use Rattle.pattern.proofs.RoundTrip.{some-pattern, encode-length, version-encode, good-exactly}
+use Rattle.pattern.proofs.Calls.{print-compiles}
+use Rattle.stores.proofs.Little.{Octets, octets-drop, octets-take, little-value}
+use Rattle.table.specs.Headers.{first-bytes, marked, format-of, header-by, header-of, headed}
 use Rattle.table.specs.Checked.{bind, only-if, read-pattern, read-table, walk}
+use Rattle.table.specs.declared.header.Header.{Header}
 use Rattle.table.proofs.Standing.{Clean, Set}
 use Rattle.table.proofs.Options.{inside, after-some, only-some, kept, dropped, going-on, and-true, true-and}
-use Rattle.table.proofs.Places.{step, pair}
+use Rattle.table.proofs.Places.{pair}
+use Rattle.table.proofs.Measures.{header-least}
 use Rattle.table.proofs.Clean.{clean-derives, derives-clean}
 use Rattle.table.proofs.Sound.{Laid, sound}
 use Rattle.table.proofs.Complete.{found}
 
 -- ---- what a header that passes says
 
+-- the first bytes of a version name it
+first-version : (v : Version) (s : Bytes) → take atoms-place s ≡ first-bytes v → version-of s ≡ v
+unfolding version-of
+first-version v s e = ap (λ (n : ℕ). elim (eqb n 1) [ true ↦ v1 | false ↦ v2 ]) (named v s e) ∙ elim v [ v1 ↦ refl | v2 ↦ refl ]
+  where
+    named : (v : Version) (s : Bytes) → take atoms-place s ≡ first-bytes v → field s version-place ≡ format v .version-number
+    named v1 s e = omega (arith, getD-take 5 s 3 0 (omega arith), getD-take 5 s 4 0 (omega arith), ap (λ (x : Bytes). getD x 3 0) e, ap (λ (x : Bytes). getD x 4 0) e)
+    named v2 s e = omega (arith, getD-take 5 s 3 0 (omega arith), getD-take 5 s 4 0 (omega arith), ap (λ (x : Bytes). getD x 3 0) e, ap (λ (x : Bytes). getD x 4 0) e)
+
 pub record Opens (s : Bytes) : Type 0 where
-  pub long : header-size ≤ length s
-  pub marked : take atoms-place s ≡ first-bytes
+  pub long : header-size (version-of s) ≤ length s
+  pub named : take atoms-place s ≡ first-bytes (version-of s)
   pub whole : length s ≡ header-of s .pool + header-of s .length
 
 pub opens : (s : Bytes) → headed s ≡ true → Opens s
-unfolding headed
+unfolding headed marked
 opens s e =
-    let (x, c) = and-true (leb header-size (length s) && equal (take atoms-place s) first-bytes) _ e in
-    let (a, b) = and-true (leb header-size (length s)) (equal (take atoms-place s) first-bytes) x in
-    record { long = leb-true _ _ a; marked = equal-decides (take atoms-place s) first-bytes .sound (true-T _ b); whole = eqb-true _ _ c }
+    let (x, c) = and-true (leb (header-size newest) (length s) && marked s) (eqb (length s) (header-of s .pool + header-of s .length)) e in
+    let (a, b) = and-true (leb (header-size newest) (length s)) (marked s) x in
+    record { long = omega (arith, leb-true (header-size newest) (length s) a, header-least (version-of s)); named = go (equal (take atoms-place s) (first-bytes v2)) refl b; whole = eqb-true _ _ c }
+  where
+    by : (v : Version) → equal (take atoms-place s) (first-bytes v) ≡ true → take atoms-place s ≡ first-bytes (version-of s)
+    by v f =
+        let g : take atoms-place s ≡ first-bytes v = equal-decides (take atoms-place s) (first-bytes v) .sound (true-T _ f) in
+        g ∙ ap first-bytes (sym (first-version v s g))
+
+    go : (b : Bool) → equal (take atoms-place s) (first-bytes v2) ≡ b → b || equal (take atoms-place s) (first-bytes v1) ≡ true → take atoms-place s ≡ first-bytes (version-of s)
+    go true f g = by v2 f
+    go false f g = by v1 g
 
 -- ---- a tree that is read has these bytes as its table, and is good
 
 pub record Whole (s : Bytes) (t : Syntax pattern) : Type 0 where
-  pub same : encode t ≡ s
-  pub limited : Limited t
+  pub same : encode-in (version-of s) t ≡ s
+  pub within : InLimits 0 t
+  pub few : size t ≤ format (version-of s) .most-atoms
   pub clean : Clean t
 
-module _ (s : Bytes) (bytes : (k : ℕ) → getD s k 0 < 256) where
-  open-table : Opens s → s ≡ header (header-of s .atoms) (header-of s .length) (drop header-size s)
+module _ (s : Bytes) (bytes : Octets s) where
+  -- the bytes are the header that is read, and what follows it
+  open-table : (v : Version) → header-size v ≤ length s → take atoms-place s ≡ first-bytes v → s ≡ header v (count-in v s) (field s (length-place v)) (drop (header-size v) s)
   unfolding header
-  open-table o =
-      sym (take-append-drop atoms-place s) ∙ ap (λ x. x ++ drop atoms-place s) (o .marked)
-      ∙ ap (λ x. first-bytes ++ x) (step s atoms-place length-place (omega arith) (omega (arith, o .long)) (pair s bytes length-place header-size (omega arith) (o .long) refl))
+  open-table v long named =
+      let c : ℕ = format v .count-size in
+      let rest : Bytes = drop atoms-place s in
+      let n : length (take c rest) ≡ c = length-take-le c rest (omega (arith, long, length-drop atoms-place s)) in
+      let count : take c rest ≡ little c (count-in v s) = sym (little-value (take c rest) (octets-take c rest (octets-drop atoms-place s bytes))) ∙ ap (λ (k : ℕ). little k (value (take c rest))) n in
+      let after : drop c rest ≡ le16 (field s (length-place v)) (drop (header-size v) s) = drop-drop c atoms-place s ∙ pair s bytes (length-place v) (header-size v) refl long refl in
+      sym (take-append-drop atoms-place s) ∙ ap₂ (λ (x y : Bytes). x ++ y) named (sym (take-append-drop c rest) ∙ ap₂ (λ (x y : Bytes). x ++ y) count after)
 
   read-whole : (t : Syntax pattern) → read-table s ≡ some t → Whole s t
-  unfolding read-table encode
+  unfolding read-table encode-in
   read-whole t e =
+      let v : Version = version-of s in
       let A : ℕ = header-of s .atoms in
       let (h, g) = only-some _ _ e in
       let (n, g1) = only-some _ _ g in
@@ -69,90 +98,107 @@ module _ (s : Bytes) (bytes : (k : ℕ) → getD s k 0 < 256) where
       let (c, g3) = only-some _ _ g2 in
       let (m, g4) = only-some _ _ g3 in
       let o = opens s h in
-      let laid : Laid s A = record { bytes = bytes; records = omega (arith, o .whole) } in
-      let st = sound s A laid _ .patterns 0 0 0 u (omega (arith, o .whole)) r 1 in
-      let n2 : A ≤ atom-limit = leb-true _ _ n in
+      let b : Bytes = drop (header-size v) s in
+      let long : length b ≡ record-size * A + header-of s .length = omega (arith, length-drop (header-size v) s, o .whole) in
+      let laid : Laid b A = record { bytes = octets-drop (header-size v) s bytes; records = omega (arith, long) } in
+      let st = sound b A laid _ .patterns 0 0 0 u (omega (arith, long)) r 1 in
       let c2 : size u ≡ A = eqb-true _ _ c in
       let m2 : length (pool u) ≡ header-of s .length = eqb-true _ _ m in
-      let at-pool : header-size + record-size * A + 0 ≡ header-size + record-size * 0 + record-size * length (records 1 u 0 0) = omega (arith, c2, count-records 1 u 0 0) in
-      let to-end : length s ≤ header-size + record-size * A + 0 + length (pool u) = omega (arith, o .whole, m2) in
-      let over : st .placed .over ≡ [] = sym (after-there s _ _ (pool u) _ refl (st .placed .text)) ∙ drop-of-length-le s to-end in
-      let rest : st .placed .left ≡ pool u = sym (next-there s _ _ (records 1 u 0 0) _ at-pool (st .placed .recs)) ∙ st .placed .text ∙ ap (λ x. pool u ++ x) over ∙ append-nil (pool u) in
-      let all : drop header-size s ≡ record-bytes (records 1 u 0 0) (pool u) = st .placed .recs ∙ ap (record-bytes (records 1 u 0 0)) rest in
+      let at-pool : record-size * A + 0 ≡ 0 + record-size * 0 + record-size * length (records 1 u 0 0) = omega (arith, c2, count-records 1 u 0 0) in
+      let to-end : length b ≤ record-size * A + 0 + length (pool u) = omega (arith, long, m2) in
+      let over : st .placed .over ≡ [] = sym (after-there b _ _ (pool u) _ refl (st .placed .text)) ∙ drop-of-length-le b to-end in
+      let rest : st .placed .left ≡ pool u = sym (next-there b _ _ (records 1 u 0 0) _ at-pool (st .placed .recs)) ∙ st .placed .text ∙ ap (λ x. pool u ++ x) over ∙ append-nil (pool u) in
+      let all : b ≡ record-bytes (records 1 u 0 0) (pool u) = st .placed .recs ∙ ap (record-bytes (records 1 u 0 0)) rest in
       subst (Whole s) (inside g4)
       (record {
-        same = sym (open-table o ∙ ap (header A (header-of s .length)) all ∙ ap (λ k. header k (header-of s .length) (record-bytes (records 1 u 0 0) (pool u))) (sym c2) ∙ ap (λ k. header (size u) k (record-bytes (records 1 u 0 0) (pool u))) (sym m2));
-        limited = record { tree = st .good; atoms = omega (arith, c2, n2) };
+        same = sym (open-table v (o .long) (o .named) ∙ ap (header v A (header-of s .length)) all ∙ ap₂ (λ k l. header v k l (record-bytes (records 1 u 0 0) (pool u))) (sym c2) (sym m2));
+        within = st .good;
+        few = omega (arith, c2, leb-true A (header-of s .format .most) n);
         clean = st .clean;
       })
 
 -- ---- the table of a good tree is read
 
-module _ (t : Syntax pattern) where
-  length-there : header-of (encode t) .length ≡ length (pool t)
-  unfolding encode header
-  length-there = omega arith
+-- the payload of a tree
+abbrev payload : Syntax pattern → Bytes
+payload t = record-bytes (records 1 t 0 0) (pool t)
 
-  atoms-there : header-of (encode t) .atoms ≡ size t
-  unfolding encode header
-  atoms-there = refl
+-- what the header of its table says
+record HeaderThere (v : Version) (t : Syntax pattern) : Type 0 where
+  atoms : count-in v (encode-in v t) ≡ size t
+  pooled : field (encode-in v t) (length-place v) ≡ length (pool t)
+  marks : marked (encode-in v t) ≡ true
+  after : drop (header-size v) (encode-in v t) ≡ payload t
 
-  marked-there : equal (take atoms-place (encode t)) first-bytes ≡ true
-  unfolding encode header equal
-  marked-there = refl
+header-there : (v : Version) (t : Syntax pattern) → size t ≤ format v .most-atoms → HeaderThere v t
+unfolding encode-in header little value marked equal
+header-there v1 t few = record { atoms = omega arith; pooled = omega arith; marks = refl; after = refl }
+header-there v2 t few = record { atoms = omega arith; pooled = omega arith; marks = refl; after = refl }
 
-  headed-encode : headed (encode t) ≡ true
-  unfolding headed
-  headed-encode =
-      true-and _ _
-      (true-and _ _ (le-leb header-size (length (encode t)) (omega (arith, encode-length t))) marked-there)
-      (eq-eqb (length (encode t)) (header-of (encode t) .pool + header-of (encode t) .length) (omega (arith, encode-length t, length-there, atoms-there)))
+set-payload : (t : Syntax pattern) → InLimits 0 t → Clean t → Set (payload t) (size t) 1 t 0 0 0
+set-payload t g c =
+    let n : record-size * size t + 0 ≡ 0 + record-size * 0 + record-size * length (records 1 t 0 0) = omega (arith, count-records 1 t 0 0) in
+    record {
+      placed = record { left = pool t; over = []; recs = refl; text = next-there (payload t) _ _ (records 1 t 0 0) (pool t) n refl ∙ sym (append-nil (pool t)) };
+      good = g;
+      clean = c;
+      within = omega arith;
+      pooled = omega (arith, length-record-bytes (records 1 t 0 0) (pool t), count-records 1 t 0 0);
+    }
 
-  set-encode : Limited t → Clean t → Set (encode t) (size t) 1 t 0 0 0
-  unfolding encode header
-  set-encode g c =
-      record { placed = encode-placed t; good = g .tree; clean = c; within = omega arith; pooled = omega (arith, encode-length t) }
+-- `read-table` by the version that is named
+abbrev read-as : Version → Bytes → Option (Syntax pattern)
+read-as v s =
+    let h : Header = header-by s (count-in v s) (format-of v) in
+    only-if (leb (header-size newest) (length s) && marked s && eqb (length s) (h .pool + h .length))
+    (only-if (leb (h .atoms) (h .format .most))
+    (bind (read-pattern (drop (h .records) s) (h .atoms) (3 * h .atoms + 2) 0 0 0) λ t.
+    only-if (eqb (size t) (h .atoms)) (only-if (eqb (length (pool t)) (h .length)) (some t))))
 
-  read-encode : Limited t → Clean t → read-table (encode t) ≡ some t
-  unfolding read-table
-  read-encode g c =
-      let a = atoms-there in
-      let f : 3 * size t + 1 < 3 * size t + 2 = omega arith in
-      kept _ _ headed-encode ∙ kept _ _ (le-leb (header-of (encode t) .atoms) atom-limit (omega (arith, a, g .atoms)))
-      ∙ going-on _ _ (ap (λ A. read-pattern (encode t) A (3 * A + 2) 0 0 0) a ∙ found (encode t) (size t) 1 t _ 0 0 0 (set-encode g c) f)
-      ∙ kept _ _ (eq-eqb _ _ (sym a))
-      ∙ kept _ _ (eq-eqb _ _ (sym length-there))
+read-encode : (v : Version) (t : Syntax pattern) → InLimits 0 t → size t ≤ format v .most-atoms → Clean t → read-table (encode-in v t) ≡ some t
+unfolding read-table headed
+read-encode v t g few c =
+    let s : Bytes = encode-in v t in
+    let h = header-there v t few in
+    let a : count-in v s ≡ size t = h .atoms in
+    let f : 3 * size t + 1 < 3 * size t + 2 = omega arith in
+    let n = encode-length v t in
+    ap (λ (w : Version). read-as w s) (version-encode v t)
+    ∙ kept _ _ (true-and _ _ (true-and _ _ (le-leb (header-size newest) (length s) (omega (arith, n, some-pattern t))) (h .marks)) (eq-eqb (length s) _ (omega (arith, n, a, h .pooled))))
+    ∙ kept _ _ (le-leb (count-in v s) (format v .most-atoms) (omega (arith, a, few)))
+    ∙ going-on _ _ (ap₂ (λ (x : Bytes) (A : ℕ). read-pattern x A (3 * A + 2) 0 0 0) (h .after) a ∙ found (payload t) (size t) 1 t _ 0 0 0 (set-payload t g c) f)
+    ∙ kept _ _ (eq-eqb _ _ (sym a))
+    ∙ kept _ _ (eq-eqb _ _ (sym (h .pooled)))
 
 -- ---- the two agree
 
-module _ (s : Bytes) (bytes : (k : ℕ) → getD s k 0 < 256) where
-  -- what decodes is good, and is read
-  decoded : (u : Syntax pattern) → decode s ≡ some u → (read-table s ≡ some u) × InLimits 0 u × (length (print u) ≤ source-limit)
+module _ (s : Bytes) (bytes : Octets s) where
+  -- what decodes is read, and its source keeps the limit
+  decoded : (u : Syntax pattern) → decode s ≡ some u → (read-table s ≡ some u) × (length (print u) ≤ format (version-of s) .longest-source)
   decoded u e =
-      let (source, a, m) = good-exactly s u .0 e in
-      let (n, h, g) = accepted-exactly source u .0 a in
-      let (k, _, _) = accepted-exactly (print u) u .0 (print-accepted s u e) in
-      (ap read-table (sym m) ∙ read-encode u g (derives-clean u source h), g .tree, k)
+      let p = print-compiles s u e in
+      (ap read-table (sym (p .whole)) ∙ read-encode (version-of s) u (p .within) (p .few) (derives-clean u (print u) (p .derives)), p .short)
 
   -- what is read is the tree of the bytes, if its source is short enough
-  short-decodes : (t : Syntax pattern) → Whole s t → length (print t) ≤ source-limit → decode s ≡ some t
+  short-decodes : (t : Syntax pattern) → Whole s t → length (print t) ≤ format (version-of s) .longest-source → decode s ≡ some t
   short-decodes t w n =
-      good-exactly s t .1 (print t, accepted-exactly (print t) t .1 (n, clean-derives 0 t (w .limited .tree) (w .clean), w .limited), w .same)
+      good-exactly s t .1 (version-of s, print t, record { derives = clean-derives 0 t (w .within) (w .clean); within = w .within; short = n; few = w .few; whole = w .same })
 
   nothing-decodes : (o : Option (Syntax pattern)) → decode s ≡ o → ((u : Syntax pattern) → decode s ≡ some u → ⊥) → o ≡ none
   nothing-decodes none e f = refl
   nothing-decodes (some u) e f = absurd (f u e)
 
-  agree : (o : Option (Syntax pattern)) → read-table s ≡ o → bind o (λ t. only-if (leb (length (print t)) source-limit) (some t)) ≡ decode s
+  agree : (o : Option (Syntax pattern)) → read-table s ≡ o → bind o (λ t. only-if (leb (length (print t)) (header-of s .format .longest)) (some t)) ≡ decode s
   unfolding bind
   agree none e =
       sym (nothing-decodes (decode s) refl (λ u d. Option·none-ne-some u (sym e ∙ decoded u d .0)))
   agree (some t) e =
       let w = read-whole s bytes t e in
+      let longest : ℕ = format (version-of s) .longest-source in
       ⊎-elim
       (λ n. kept _ _ (le-leb _ _ n) ∙ sym (short-decodes t w n))
-      (λ n. dropped _ _ (lt-leb _ _ n) ∙ sym (nothing-decodes (decode s) refl (λ u d. let x : t ≡ u = inside (sym e ∙ decoded u d .0) in let k : length (print t) ≤ source-limit = rw x (decoded u d .2) in omega arith)))
-      (le-or-lt (length (print t)) source-limit)
+      (λ n. dropped _ _ (lt-leb _ _ n) ∙ sym (nothing-decodes (decode s) refl (λ u d. let x : t ≡ u = inside (sym e ∙ decoded u d .0) in let k : length (print t) ≤ longest = rw x (decoded u d .1) in omega arith)))
+      (le-or-lt (length (print t)) longest)
 
   -- the checked walk is `decode`
   pub walk-is-decode : walk s ≡ decode s

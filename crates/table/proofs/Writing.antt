@@ -1,19 +1,21 @@
 -- Records stored one after the other, and the stores of a table. Assumes nothing.
 use mathlib.Core.Path.{_≡_, refl, sym, ap, ap₂, _∙_}
 use mathlib.Core.List.{List, [], _∷_, _++_, append-assoc}
-use Prim.Native.Nat.{ℕ, _+_, _*_, _<_, _≤_}
+use Prim.Native.Nat.{ℕ, _+_, _*_, _/_, _%_, _<_, _≤_}
 use native.Mathlib.Omega.{arith}
-use lib.ListN.{length, take, set, length-append}
+use lib.ListN.{length, take, length-append}
 use lib.Seq.{length-take-le}
-use Rattle.pattern.specs.Numbers.{atoms-place, length-place, header-size, record-size, mark, version}
-use Rattle.pattern.specs.Bytes.{Bytes, le16}
+use Rattle.pattern.specs.Numbers.{atoms-place, record-size}
+use Rattle.pattern.specs.Versions.{newest, length-place, header-size}
+use Rattle.pattern.specs.Bytes.{Bytes, le16, little}
 use Rattle.pattern.specs.Stores.{store-at, Puts}
 use Rattle.pattern.specs.Syntax.{pattern, Syntax, size}
-use Rattle.pattern.specs.Table.{pool, Rec, records, record-bytes, header, encode}
+use Rattle.pattern.specs.Table.{pool, Rec, records, record-bytes, header, encode-in, encode}
 use Rattle.pattern.specs.Answers.{put}
 use Rattle.pattern.proofs.Records.{record-bytes-append, length-record-bytes, count-records}
 use Rattle.pattern.proofs.Calls.{put-fits, put-short}
-use Rattle.pattern.proofs.Stores.{store-at-then, store-at-before, store-at-overwrite, take-overwrite, puts-then, puts-more}
+use Rattle.pattern.proofs.Stores.{store-at-then, store-at-before, store-at-overwrite, take-overwrite, puts-then}
+use Rattle.table.specs.Headers.{first-bytes}
 use Rattle.table.specs.Write.{put-records, WriteTablePre, table-of, table-output}
 use Rattle.table.specs.declared.write.TableWritten.the-variants.{Length, Room}
 
@@ -43,38 +45,45 @@ take-store-at l v n e h = rw (e, store-at-overwrite l v (omega arith)) (take-ove
 -- the records and the text of a tree, at the start of their buffers, make its table
 pub table-is : (recs text : Bytes) (t : Syntax pattern) → record-size * size t ≤ length recs → length (pool t) ≤ length text
     → table-of (size t) (length (pool t)) (put-records recs 0 (records 1 t 0 0)) (store-at text 0 (pool t)) ≡ encode t
-unfolding table-of encode
+unfolding table-of encode-in
 table-is recs text t h k =
     let xs : List Rec = records 1 t 0 0 in
     let r = take-store-at recs (record-bytes xs []) (record-size * size t) (omega (arith, length-record-bytes xs [], count-records 1 t 0 0)) h in
-    ap (header (size t) (length (pool t))) (ap₂ (λ r v. r ++ v) r (take-store-at text (pool t) (length (pool t)) refl k) ∙ sym (record-bytes-over xs (pool t)))
+    ap (header newest (size t) (length (pool t))) (ap₂ (λ r v. r ++ v) r (take-store-at text (pool t) (length (pool t)) refl k) ∙ sym (record-bytes-over xs (pool t)))
 
 module _ (position n m : ℕ) (recs text table : Bytes) (pre : WriteTablePre n m recs text) where
-  table-size : length (table-of n m recs text) ≡ header-size + record-size * n + m
-  unfolding table-of header
+  table-size : length (table-of n m recs text) ≡ header-size newest + record-size * n + m
+  unfolding table-of header little
   table-size =
       omega (arith, length-append (take (record-size * n) recs) (take m text), length-take-le (record-size * n) recs (pre .recs-there), length-take-le m text (pre .text-there))
 
-  pub no-room : length table < header-size + record-size * n + m → table-output position Room table ≡ put position (table-of n m recs text) table
+  pub no-room : length table < header-size newest + record-size * n + m → table-output position Room table ≡ put position (table-of n m recs text) table
   no-room h = sym (put-short position (table-of n m recs text) table (omega (arith, table-size)))
 
   -- the stores one after the other
-  pub writes-table : (mark′ t₁ t₂ t₃ t₄ : Bytes) → header-size + record-size * n + m ≤ length table → mark′ ≡ mark ++ le16 version [] → t₁ ≡ store-at table 0 (take atoms-place mark′)
-      → t₂ ≡ store-at (set t₁ atoms-place n) length-place (le16 m []) → t₃ ≡ store-at t₂ header-size (take (record-size * n) recs) → t₄ ≡ store-at t₃ (header-size + record-size * n) (take m text)
-      → table-output position (Length (header-size + record-size * n + m)) t₄ ≡ put position (table-of n m recs text) table
-  writes-table mark′ t₁ t₂ t₃ t₄ h e e₁ e₂ e₃ e₄ =
+  pub writes-table : (mark t₁ t₂ t₃ t₄ t₅ : Bytes) → header-size newest + record-size * n + m ≤ length table → mark ≡ first-bytes newest → t₁ ≡ store-at table 0 (take atoms-place mark)
+      → t₂ ≡ store-at t₁ atoms-place (le16 n []) → t₃ ≡ store-at t₂ (length-place newest) (le16 m []) → t₄ ≡ store-at t₃ (header-size newest) (take (record-size * n) recs)
+      → t₅ ≡ store-at t₄ (header-size newest + record-size * n) (take m text)
+      → table-output position (Length (header-size newest + record-size * n + m)) t₅ ≡ put position (table-of n m recs text) table
+  writes-table mark t₁ t₂ t₃ t₄ t₅ h e e₁ e₂ e₃ e₄ e₅ =
+      let size : ℕ = header-size newest in
       let r : Bytes = take (record-size * n) recs in
       let v : Bytes = take m text in
-      let a : Puts table 0 (mark ++ le16 version []) t₁ atoms-place = record { bytes = e₁ ∙ rw e; next = refl } in
-      let b : Puts table 0 eight t₂ header-size = puts-then (puts-more a n) (record { bytes = e₂; next = refl }) in
-      let c : Puts table 0 (eight ++ r) t₃ (header-size + record-size * n) = puts-then b (record { bytes = e₃; next = ap (λ k. header-size + k) (sym (length-take-le (record-size * n) recs (pre .recs-there))) }) in
-      let d : Puts table 0 ((eight ++ r) ++ v) t₄ (header-size + record-size * n + m) = puts-then c (record { bytes = e₄; next = ap (λ k. header-size + record-size * n + k) (sym (length-take-le m text (pre .text-there))) }) in
+      let a : Puts table 0 (first-bytes newest) t₁ atoms-place = record { bytes = e₁ ∙ rw e; next = refl } in
+      let b : Puts table 0 (first-bytes newest ++ le16 n []) t₂ (length-place newest) = puts-then a (record { bytes = e₂; next = refl }) in
+      let c : Puts table 0 nine t₃ size = puts-then b (record { bytes = e₃; next = refl }) in
+      let d : Puts table 0 (nine ++ r) t₄ (size + record-size * n) = puts-then c (record { bytes = e₄; next = ap (λ k. size + k) (sym (length-take-le (record-size * n) recs (pre .recs-there))) }) in
+      let f : Puts table 0 ((nine ++ r) ++ v) t₅ (size + record-size * n + m) = puts-then d (record { bytes = e₅; next = ap (λ k. size + record-size * n + k) (sym (length-take-le m text (pre .text-there))) }) in
       let z = table-size in
-      ap₂ (λ k l. table-output position (Length k) l) (sym z) (d .bytes ∙ ap (store-at table 0) (append-assoc eight r v ∙ whole) ∙ store-at-overwrite table (table-of n m recs text) (omega arith))
+      ap₂ (λ k l. table-output position (Length k) l) (sym z) (f .bytes ∙ ap (store-at table 0) (append-assoc nine r v ∙ whole) ∙ store-at-overwrite table (table-of n m recs text) (omega arith))
       ∙ sym (put-fits position (table-of n m recs text) table (omega arith))
     where
-      eight : Bytes
-      eight = ((mark ++ le16 version []) ++ n ∷ []) ++ le16 m []
+      nine : Bytes
+      nine = (first-bytes newest ++ le16 n []) ++ le16 m []
 
-      whole : eight ++ (take (record-size * n) recs ++ take m text) ≡ table-of n m recs text
-      whole = unfold table-of header in refl
+      -- the number of atoms has no third byte
+      top : n / 256 % 256 ≡ n / 256
+      top = omega (arith, pre .atoms)
+
+      whole : nine ++ (take (record-size * n) recs ++ take m text) ≡ table-of n m recs text
+      whole = unfold table-of header little in ap (λ (b : ℕ). first-bytes newest ++ n % 256 ∷ b ∷ le16 m (take (record-size * n) recs ++ take m text)) (sym top)

@@ -1,16 +1,16 @@
--- The reading of a table's records with every check: the tree that the test walks. Private: a model for contracts inside the library.
+-- The reading of what follows a header with every check: the tree that the test walks. Private: a model for contracts inside the library.
 use mathlib.Core.Bool.{Bool, true, false, _&&_, _||_}
 use mathlib.Core.List.{[], _∷_}
 use mathlib.Core.Option.{Option, none, some}
 use Prim.Native.Nat.{ℕ, zero, suc, _+_, _*_, pred}
 use lib.Dec.{leb, ltb, eqb}
 use lib.ListN.{length, take, drop}
-use Rattle.pattern.specs.Numbers.{source-limit, atom-limit, depth-limit, number-limit, set-limit, codes-kind, literal-kind, group-kind, header-size, record-size, open-high}
+use Rattle.pattern.specs.Numbers.{depth-limit, number-limit, set-limit, codes-kind, literal-kind, group-kind, record-size, open-high}
 use Rattle.pattern.specs.Bytes.{Bytes, between}
 use Rattle.pattern.specs.Syntax.{pattern, atom, body, branches, Syntax, last, then, repeat, codes, literal, group, only, or, size}
 use Rattle.pattern.specs.Print.{print}
-use Rattle.pattern.specs.Table.{pool}
-use Rattle.pattern.specs.Decode.{layout, record-at, high-of}
+use Rattle.pattern.specs.Table.{pool, Rec}
+use Rattle.pattern.specs.Decode.{rec-at, Layout, high-of}
 use Rattle.table.specs.Headers.{header-of, headed}
 
 -- ---- tests one after the other
@@ -46,18 +46,26 @@ a-set set = ltb 0 set && ltb set set-limit
 abbrev pub codes-leaf : (a b : ℕ) → Option (Syntax body)
 codes-leaf a b = only-if (a-set a) (only-if (eqb b 0) (some (codes a)))
 
--- ---- a table of A atoms
+-- ---- the records and the pool of A atoms
+
+-- they begin where the header ends
+abbrev pub payload-layout : ℕ → Layout
+payload-layout A = record { records = 0; pool = record-size * A }
+
+-- the record of atom i
+abbrev pub payload-record : Bytes → ℕ → Rec
+payload-record s i = rec-at s (0 + record-size * i)
 
 module _ (s : Bytes) (A : ℕ) where
   -- n bytes of the pool from p on
   abbrev pub pool-slice : (p n : ℕ) → Bytes
-  pool-slice p n = take n (drop (header-size + record-size * A + p) s)
+  pool-slice p n = take n (drop (record-size * A + p) s)
 
   -- a literal, by the fields a and b of its record, with p bytes of the pool before it
   abbrev pub text-leaf : (a b p : ℕ) → Option (Syntax body)
   text-leaf a b p =
       only-if (eqb a p)
-      (only-if (leb (header-size + record-size * A + p + b) (length s))
+      (only-if (leb (record-size * A + p + b) (length s))
       (only-if (all-plain (pool-slice p b)) (some (literal (pool-slice p b)))))
 
   -- a leaf, by its kind
@@ -74,19 +82,19 @@ module _ (s : Bytes) (A : ℕ) where
     read-pattern zero i p d = none
     read-pattern (suc f) i p d =
         bind (read-atom f i p d) λ a.
-        choose (eqb (record-at s (layout s) i .ends) 1) (some (last a))
-        (only-if (eqb (record-at s (layout s) i .ends) 0) (bind (read-pattern f (i + size a) (p + length (pool a)) d) λ q. some (then a q)))
+        choose (eqb (payload-record s i .ends) 1) (some (last a))
+        (only-if (eqb (payload-record s i .ends) 0) (bind (read-pattern f (i + size a) (p + length (pool a)) d) λ q. some (then a q)))
 
     pub read-atom : (f i p d : ℕ) → Option (Syntax atom)
     read-atom zero i p d = none
     read-atom (suc f) i p d =
         only-if (ltb i A)
-        (only-if (ordered (record-at s (layout s) i .low) (record-at s (layout s) i .high))
+        (only-if (ordered (payload-record s i .low) (payload-record s i .high))
         (bind (
-        choose (eqb (record-at s (layout s) i .kind) group-kind)
-        (only-if (ltb d depth-limit) (bind (read-branches f (record-at s (layout s) i .a) (suc i) p (suc d)) (closed-group (record-at s (layout s) i .b) i)))
-        (leaf (record-at s (layout s) i .kind) (record-at s (layout s) i .a) (record-at s (layout s) i .b) p)
-        ) λ b. some (repeat (record-at s (layout s) i .low) (high-of (record-at s (layout s) i .high)) b)))
+        choose (eqb (payload-record s i .kind) group-kind)
+        (only-if (ltb d depth-limit) (bind (read-branches f (payload-record s i .a) (suc i) p (suc d)) (closed-group (payload-record s i .b) i)))
+        (leaf (payload-record s i .kind) (payload-record s i .a) (payload-record s i .b) p)
+        ) λ b. some (repeat (payload-record s i .low) (high-of (payload-record s i .high)) b)))
 
     pub read-branches : (f k i p d : ℕ) → Option (Syntax branches)
     read-branches zero k i p d = none
@@ -101,10 +109,10 @@ unfoldable pub read-table : Bytes → Option (Syntax pattern)
 read-table s =
     let A : ℕ = header-of s .atoms in
     only-if (headed s)
-    (only-if (leb A atom-limit)
-    (bind (read-pattern s A (3 * A + 2) 0 0 0) λ t.
+    (only-if (leb A (header-of s .format .most))
+    (bind (read-pattern (drop (header-of s .records) s) A (3 * A + 2) 0 0 0) λ t.
     only-if (eqb (size t) A) (only-if (eqb (length (pool t)) (header-of s .length)) (some t))))
 
 -- and its source is short enough
 unfoldable pub walk : Bytes → Option (Syntax pattern)
-walk s = bind (read-table s) λ t. only-if (leb (length (print t)) source-limit) (some t)
+walk s = bind (read-table s) λ t. only-if (leb (length (print t)) (header-of s .format .longest)) (some t)

@@ -1,12 +1,14 @@
 -- The header of a table, as the code has it. Private: a model for contracts inside the library.
-use mathlib.Core.Bool.{Bool, true, false, _&&_}
+use mathlib.Core.Bool.{Bool, true, false, _&&_, _||_}
 use mathlib.Core.List.{[], _++_}
 use Prim.Native.Nat.{ℕ, _+_, _*_}
 use lib.Dec.{leb, eqb}
-use lib.ListN.{length, getD, take}
-use Rattle.pattern.specs.Numbers.{mark, version, atoms-place, length-place, header-size, record-size}
+use lib.ListN.{length, take}
+use Rattle.pattern.specs.Numbers.{mark, atom-limit, atoms-place, record-size}
+use Rattle.pattern.specs.Versions.{Version, v1, v2, newest, format, header-size}
 use Rattle.pattern.specs.Bytes.{Bytes, le16, equal}
-use Rattle.pattern.specs.Decode.{field, layout}
+use Rattle.pattern.specs.Decode.{field, version-of, count-in}
+use Rattle.table.specs.declared.layout.Format.{Format}
 use Rattle.table.specs.declared.header.Header.{Header}
 use Rattle.table.specs.declared.header.HeaderRead.{HeaderRead}
 use Rattle.table.specs.declared.header.HeaderRead.the-variants as head
@@ -15,23 +17,34 @@ unfoldable pub pick : {A : Type 0} → Bool → A → A → A
 pick true a b = a
 pick false a b = b
 
--- the mark and the version, as every table begins
-abbrev pub first-bytes : Bytes
-first-bytes = mark ++ le16 version []
+-- the mark and the version, as every table of a version begins
+abbrev pub first-bytes : Version → Bytes
+first-bytes v = mark ++ le16 (format v .version-number) []
+
+-- the mark and a version are there
+unfoldable pub marked : Bytes → Bool
+marked s = equal (take atoms-place s) (first-bytes v2) || equal (take atoms-place s) (first-bytes v1)
+
+-- what depends on the version
+abbrev pub format-of : Version → Format
+format-of v = record { count = format v .count-size; most = format v .most-atoms; longest = format v .longest-source }
 
 -- what the header says: the number of atoms and of bytes of the pool, and where the records and the pool begin
+abbrev pub header-by : Bytes → (atoms : ℕ) → Format → Header
+header-by s atoms f =
+    record { atoms = atoms; length = field s (atoms-place + f .count); records = atoms-place + f .count + 2; pool = atoms-place + f .count + 2 + record-size * atoms; format = f }
+
 abbrev pub header-of : Bytes → Header
-header-of s =
-    record { atoms = getD s atoms-place 0; length = field s length-place; records = layout s .records; pool = layout s .pool }
+header-of s = header-by s (count-in (version-of s) s) (format-of (version-of s))
 
--- a table is shorter: its header has the number of atoms in one byte, and the pool's length in two
+-- what follows the header of a table within the limits is shorter: the header has the pool's length in two bytes
 abbrev pub length-bound : ℕ
-length-bound = header-size + record-size * 256 + 65536
+length-bound = record-size * atom-limit + 65536
 
--- the mark is there, and the length is what the header says
+-- the mark and a version are there, and the length is what the header says
 unfoldable pub headed : Bytes → Bool
 headed s =
-    leb header-size (length s) && equal (take atoms-place s) first-bytes && eqb (length s) (header-of s .pool + header-of s .length)
+    leb (header-size newest) (length s) && marked s && eqb (length s) (header-of s .pool + header-of s .length)
 
 unfoldable pub read-header : Bytes → HeaderRead
 read-header s = pick (headed s) (head.Is (header-of s)) head.Bad

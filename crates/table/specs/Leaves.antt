@@ -3,7 +3,7 @@ use mathlib.Core.Path.{_≡_}
 use mathlib.Core.Option.{Option, none, some}
 use Prim.Native.Nat.{ℕ, _+_, _*_, _≤_, _<_}
 use lib.ListN.{length}
-use Rattle.pattern.specs.Numbers.{header-size, record-size}
+use Rattle.pattern.specs.Numbers.{atom-limit, record-size}
 use Rattle.pattern.specs.Bytes.{Bytes}
 use Rattle.pattern.specs.Syntax.{body, Syntax}
 use Rattle.pattern.specs.Table.{pool}
@@ -25,14 +25,14 @@ leaf-of none = leaf.Bad
 
 -- a leaf's bytes keep within the pool, and are few in the source
 abbrev pub Short : Bytes → (A p : ℕ) → Leaf → Type 0
-Short s A p (leaf.Is v w) = (header-size + record-size * A + p + v ≤ length s) × (w ≤ 2 * v + 7)
+Short s A p (leaf.Is v w) = (record-size * A + p + v ≤ length s) × (w ≤ 2 * v + 7)
 Short s A p leaf.Bad = Unit {0}
 
 -- where a leaf may be read
 pub record LeafPre (s : Bytes) (A p : ℕ) : Type 0 where
-  pub pool : header-size + record-size * A + p ≤ length s
+  pub pool : record-size * A + p ≤ length s
   pub small : length s < length-bound
-  pub few : A < 256
+  pub few : A ≤ atom-limit
 
 pub record LeafPost (s : Bytes) (A p : ℕ) (o : Option (Syntax body)) (x : Leaf) : Type 0 where
   pub short : Short s A p x

@@ -3,7 +3,7 @@ use mathlib.Core.Path.{_≡_}
 use mathlib.Core.Option.{Option, none, some}
 use Prim.Native.Nat.{ℕ, _+_, _*_, _-_, _≤_, _<_}
 use lib.ListN.{length}
-use Rattle.pattern.specs.Numbers.{atom-limit, depth-limit, header-size, record-size}
+use Rattle.pattern.specs.Numbers.{atom-limit, depth-limit, record-size}
 use Rattle.pattern.specs.Bytes.{Bytes}
 use Rattle.pattern.specs.Syntax.{Sort, pattern, Syntax, size, top-size}
 use Rattle.pattern.specs.Table.{pool}
@@ -36,7 +36,7 @@ pub record WalkPre (s : Bytes) (A : ℕ) (at : Place) (depth : ℕ) : Type 0 whe
   pub few : A ≤ atom-limit
   pub small : length s < length-bound
   pub atom : at .atom ≤ A
-  pub pool : header-size + record-size * A + at .pool ≤ length s
+  pub pool : record-size * A + at .pool ≤ length s
   pub source : at .source ≤ 20 * at .atom + 2 * at .pool
   pub shallow : depth ≤ depth-limit
 
@@ -44,7 +44,7 @@ pub record WalkPre (s : Bytes) (A : ℕ) (at : Place) (depth : ℕ) : Type 0 whe
 pub record WalkMoved (s : Bytes) (A : ℕ) (at to : Place) : Type 0 where
   pub on : at .atom < to .atom
   pub atom : to .atom ≤ A
-  pub pool : header-size + record-size * A + to .pool ≤ length s
+  pub pool : record-size * A + to .pool ≤ length s
   pub source : to .source + 1 + 20 * at .atom + 2 * at .pool ≤ at .source + 20 * to .atom + 2 * to .pool
 
 abbrev pub Past : Bytes → ℕ → Place → Passed → Type 0

@@ -1,25 +1,26 @@
-// The header of a table.
+// The header of a table: the one place that looks at its version.
 use crate::layout;
 use crate::layout::ATOMS_PLACE;
-use crate::layout::HEADER_SIZE;
-use crate::layout::LENGTH_PLACE;
+use crate::layout::Format;
 use crate::layout::RECORD_SIZE;
 use stores::equal;
 use stores::read16;
 use stores::wide;
 ghost use mathlib.Core.Path.{_≡_};
-ghost use Prim.Native.Nat.{_≤_};
-ghost use lib.ListN.{length, take};
-ghost use Rattle.pattern.specs.Numbers.{atoms-place, header-size};
-ghost use Rattle.pattern.specs.Bytes.{equal};
-ghost use Rattle.table.specs.Headers.{first-bytes, header-of, read-header};
+ghost use Prim.Native.Nat.{_+_, _≤_};
+ghost use lib.ListN.{length};
+ghost use Rattle.pattern.specs.Numbers.{atoms-place};
+ghost use Rattle.pattern.specs.Versions.{header-size};
+ghost use Rattle.pattern.specs.Decode.{version-of};
+ghost use Rattle.table.specs.Headers.{marked, header-by, header-of, read-header};
 
-// How many atoms and how many bytes of pool there are, and where the records and the pool begin.
+// How many atoms and how many bytes of pool there are, where the records and the pool begin, and what depends on the version.
 pub struct Header {
     pub atoms: usize,
     pub length: usize,
     pub records: usize,
     pub pool: usize,
+    pub format: Format,
 }
 
 pub enum HeaderRead {
@@ -27,38 +28,54 @@ pub enum HeaderRead {
     Bad,
 }
 
-// Whether a table begins with the mark and the version.
-fn marked(table: &[u8]) -> bool
+// Whether a table begins with the mark and a version.
+fn is_marked(table: &[u8]) -> bool
     requires { ⌜ atoms-place ≤ length (now table) ⌝ }
-    ensures { λ r. ⌜ r ≡ equal (take atoms-place (now (table .entry))) first-bytes ⌝ }
+    ensures { λ r. ⌜ r ≡ marked (now (table .entry)) ⌝ }
 {
-    let mark = layout::first_bytes();
-    equal(table, 0, &mark, 0, ATOMS_PLACE)
+    let newest = layout::first_bytes_2();
+    if equal(table, 0, &newest, 0, ATOMS_PLACE) {
+        return true;
+    }
+    let first = layout::first_bytes_1();
+    equal(table, 0, &first, 0, ATOMS_PLACE)
+}
+
+// What the header of a version says, by its atom count.
+fn header_by(table: &[u8], atoms: u16, format: Format) -> Header
+    requires { ⌜ (format .count ≤ 2) × (atoms-place + format .count + 2 ≤ length (now table)) ⌝ }
+    ensures { λ r. ⌜ r ≡ header-by (now (table .entry)) atoms format ⌝ }
+{
+    let place = ATOMS_PLACE + format.count;
+    let records = place + 2;
+    Header {
+        atoms: atoms as usize,
+        length: read16(table, place) as usize,
+        records,
+        pool: records + RECORD_SIZE * (atoms as usize),
+        format,
+    }
 }
 
 // What the header says, where there are bytes enough for one.
 pub fn header_at(table: &[u8]) -> Header
-    requires { ⌜ header-size ≤ length (now table) ⌝ }
+    requires { ⌜ header-size (version-of (now table)) ≤ length (now table) ⌝ }
     ensures { λ r. ⌜ r ≡ header-of (now (table .entry)) ⌝ }
 {
-    let atoms = wide(table[ATOMS_PLACE]) as usize;
-    let length = read16(table, LENGTH_PLACE) as usize;
-    Header {
-        atoms,
-        length,
-        records: HEADER_SIZE,
-        pool: HEADER_SIZE + RECORD_SIZE * atoms,
+    if read16(table, layout::VERSION_PLACE) == 1 {
+        return header_by(table, wide(table[ATOMS_PLACE]), layout::format_1());
     }
+    header_by(table, read16(table, ATOMS_PLACE), layout::format_2())
 }
 
-// The header, if the mark is there and the length is what the header says.
+// The header, if the mark and a version are there and the length is what the header says.
 pub fn read_header(table: &[u8]) -> HeaderRead
     ensures { λ r. ⌜ r ≡ read-header (now (table .entry)) ⌝ }
 {
-    if table.len() < HEADER_SIZE {
+    if table.len() < layout::HEADER_SIZE {
         return HeaderRead::Bad;
     }
-    if marked(table) {
+    if is_marked(table) {
         let h = header_at(table);
         if table.len() == h.pool + h.length {
             return HeaderRead::Is(h);

@@ -1,22 +1,67 @@
-// Where a table has what. That these are the numbers of the paper is part of the proofs of those who read and write it.
+// Where a table has what, and what depends on its version. That these are the numbers of the paper is part of the proofs of those who read and write it.
+use pattern::limits;
 ghost use mathlib.Core.Path.{_≡_};
-ghost use Rattle.table.specs.Headers.{first-bytes};
+ghost use Rattle.pattern.specs.Versions.{v1, v2};
+ghost use Rattle.table.specs.Headers.{first-bytes, format-of};
 
-// The places of the number of atoms and of the pool's length in the header.
+// The places of the version and of the atom count in the header.
+pub const VERSION_PLACE: usize = 3;
+
 pub const ATOMS_PLACE: usize = 5;
 
-pub const LENGTH_PLACE: usize = 6;
+// The header of the version that is written.
+const COUNT_SIZE: usize = 2;
 
-pub const HEADER_SIZE: usize = 8;
+pub const LENGTH_PLACE: usize = ATOMS_PLACE + COUNT_SIZE;
+
+pub const HEADER_SIZE: usize = LENGTH_PLACE + 2;
 
 pub const RECORD_SIZE: usize = 10;
 
 // The mark and the 16-bit version.
-const MARK: [u8; ATOMS_PLACE] = *b"MPT\x01\x00";
+const MARK_1: [u8; ATOMS_PLACE] = *b"MPT\x01\x00";
 
-// The first bytes of every table.
-pub fn first_bytes() -> [u8; ATOMS_PLACE]
-    ensures { λ r. ⌜ r ≡ first-bytes ⌝ }
+const MARK_2: [u8; ATOMS_PLACE] = *b"MPT\x02\x00";
+
+// The bytes of the header that hold the atom count, and the limits: the most atoms, and the longest shortest source.
+pub struct Format {
+    pub count: usize,
+    pub most: usize,
+    pub longest: usize,
+}
+
+// The first bytes of every table of version 1.
+pub fn first_bytes_1() -> [u8; ATOMS_PLACE]
+    ensures { λ r. ⌜ r ≡ first-bytes v1 ⌝ }
 {
-    MARK
+    MARK_1
+}
+
+// The first bytes of every table of version 2.
+pub fn first_bytes_2() -> [u8; ATOMS_PLACE]
+    ensures { λ r. ⌜ r ≡ first-bytes v2 ⌝ }
+{
+    MARK_2
+}
+
+// What version 1 has of its own.
+pub fn format_1() -> Format
+    ensures { λ r. ⌜ r ≡ format-of v1 ⌝ }
+{
+    Format {
+        count: 1,
+        most: 64,
+        longest: 512,
+    }
+}
+
+// What version 2 has of its own.
+pub fn format_2() -> Format
+    ensures { λ r. ⌜ r ≡ format-of v2 ⌝ }
+{
+    Format {
+        count: COUNT_SIZE,
+        most: limits::ATOM_LIMIT,
+        longest: limits::SOURCE_LIMIT,
+    }
 }

@@ -7,8 +7,6 @@ mod walk;
 pub mod write;
 
 use header::HeaderRead;
-use pattern::limits::ATOM_LIMIT;
-use pattern::limits::SOURCE_LIMIT;
 use walk::Place;
 use walk::Walked;
 ghost use mathlib.Core.Path.{_≡_};
@@ -34,7 +32,10 @@ pub fn test(table: &[u8]) -> Tested
     match header::read_header(table) {
         HeaderRead::Is(h) => {
             let atoms = h.atoms;
-            if ATOM_LIMIT < atoms {
+            let format = h.format;
+            let most = format.most;
+            let longest = format.longest;
+            if most < atoms {
                 return Tested::Bad;
             }
             let start = Place {
@@ -42,7 +43,8 @@ pub fn test(table: &[u8]) -> Tested
                 pool: 0,
                 source: 0,
             };
-            match walk::pattern(table, atoms, start, 0) {
+            let records = h.records;
+            match walk::pattern(&table[records..], atoms, start, 0) {
                 Walked::To(end, top) => {
                     if end.atom != atoms {
                         return Tested::Bad;
@@ -50,7 +52,7 @@ pub fn test(table: &[u8]) -> Tested
                     if end.pool != h.length {
                         return Tested::Bad;
                     }
-                    if SOURCE_LIMIT < end.source {
+                    if longest < end.source {
                         return Tested::Bad;
                     }
                     Tested::Good(Sizes {

@@ -1,9 +1,10 @@
 // The record of an atom, as a table has it.
-use crate::layout::HEADER_SIZE;
 use crate::layout::RECORD_SIZE;
 use stores::read16;
 ghost use mathlib.Core.Path.{_≡_};
-ghost use Rattle.pattern.specs.Decode.{layout, record-at};
+ghost use Prim.Native.Nat.{_+_, _*_};
+ghost use Rattle.pattern.specs.Numbers.{record-size};
+ghost use Rattle.pattern.specs.Decode.{rec-at};
 ghost use Rattle.table.specs.Fields.{record-of, RecordIn};
 
 // What a record says.
@@ -16,12 +17,12 @@ pub struct Record {
     pub b: u16,
 }
 
-// The record of atom i.
-pub fn record_at(table: &[u8], i: usize) -> Record
-    requires { ⌜ RecordIn (now table) i ⌝ }
-    ensures { λ r. ⌜ r ≡ record-of (record-at (now (table .entry)) (layout (now (table .entry))) i) ⌝ }
+// The record of atom i, where the records begin at a place.
+pub fn record_at(table: &[u8], records: usize, i: usize) -> Record
+    requires { ⌜ RecordIn (now table) records i ⌝ }
+    ensures { λ r. ⌜ r ≡ record-of (rec-at (now (table .entry)) (records + record-size * i)) ⌝ }
 {
-    let at = HEADER_SIZE + RECORD_SIZE * i;
+    let at = records + RECORD_SIZE * i;
     Record {
         kind: table[at],
         ends: table[at + 1],

@@ -1,7 +1,6 @@
-// The walk over a table's records: leaves, and a cycle of three functions for patterns, atoms and groups.
+// The walk over the records and the pool that follow the header: leaves, and a cycle of three functions for patterns, atoms and groups.
 use super::lengths;
 use super::lengths::TextLength;
-use crate::layout::HEADER_SIZE;
 use crate::layout::RECORD_SIZE;
 use crate::record::Record;
 use crate::record::record_at;
@@ -12,9 +11,9 @@ use pattern::limits::SET_LIMIT;
 use pattern::repeat::Repeat;
 ghost use mathlib.Core.Path.{_≡_};
 ghost use Prim.Native.Nat.{_<_};
-ghost use Rattle.pattern.specs.Decode.{layout, record-at};
+ghost use Rattle.pattern.specs.Numbers.{atom-limit};
 ghost use Rattle.table.specs.Fields.{RecordIn};
-ghost use Rattle.table.specs.Checked.{ordered, a-set, codes-leaf, text-leaf, leaf};
+ghost use Rattle.table.specs.Checked.{payload-record, ordered, a-set, codes-leaf, text-leaf, leaf};
 ghost use Rattle.table.specs.Leaves.{LeafPre, LeafPost};
 ghost use Rattle.table.specs.Walk.{WalkPre, AtomPost, PatternPost, GroupPost};
 
@@ -68,9 +67,9 @@ fn is_set(a: u16) -> bool
 }
 
 // The leaf of kind 1.
-fn codes_leaf(table: &[u8], atoms: usize, a: u16, b: u16, p: usize) -> Leaf
-    requires { ⌜ LeafPre (now table) atoms p ⌝ }
-    ensures { λ x. ⌜ LeafPost (now (table .entry)) atoms p (codes-leaf a b) x ⌝ }
+fn codes_leaf(payload: &[u8], atoms: usize, a: u16, b: u16, p: usize) -> Leaf
+    requires { ⌜ LeafPre (now payload) atoms p ⌝ }
+    ensures { λ x. ⌜ LeafPost (now (payload .entry)) atoms p (codes-leaf a b) x ⌝ }
 {
     if is_set(a) {
         if b == 0 {
@@ -81,16 +80,16 @@ fn codes_leaf(table: &[u8], atoms: usize, a: u16, b: u16, p: usize) -> Leaf
 }
 
 // The leaf of kind 2.
-fn text_leaf(table: &[u8], atoms: usize, a: u16, b: u16, p: usize) -> Leaf
-    requires { ⌜ LeafPre (now table) atoms p ⌝ }
-    ensures { λ x. ⌜ LeafPost (now (table .entry)) atoms p (text-leaf (now (table .entry)) atoms a b p) x ⌝ }
+fn text_leaf(payload: &[u8], atoms: usize, a: u16, b: u16, p: usize) -> Leaf
+    requires { ⌜ LeafPre (now payload) atoms p ⌝ }
+    ensures { λ x. ⌜ LeafPost (now (payload .entry)) atoms p (text-leaf (now (payload .entry)) atoms a b p) x ⌝ }
 {
     if a as usize == p {
         let v = b as usize;
-        let from = HEADER_SIZE + RECORD_SIZE * atoms + p;
+        let from = RECORD_SIZE * atoms + p;
         let to = from + v;
-        if to <= table.len() {
-            match lengths::text_length(&table[from..to]) {
+        if to <= payload.len() {
+            match lengths::text_length(&payload[from..to]) {
                 TextLength::Length(n) => return Leaf::Is(v, n + 2),
                 TextLength::Bad => return Leaf::Bad,
             }
@@ -100,38 +99,38 @@ fn text_leaf(table: &[u8], atoms: usize, a: u16, b: u16, p: usize) -> Leaf
 }
 
 // The leaf that a record says, with p bytes of the pool before it.
-fn leaf_at(table: &[u8], atoms: usize, r: Record, p: usize) -> Leaf
-    requires { ⌜ LeafPre (now table) atoms p ⌝ }
-    ensures { λ x. ⌜ LeafPost (now (table .entry)) atoms p (leaf (now (table .entry)) atoms (r .kind) (r .a) (r .b) p) x ⌝ }
+fn leaf_at(payload: &[u8], atoms: usize, r: Record, p: usize) -> Leaf
+    requires { ⌜ LeafPre (now payload) atoms p ⌝ }
+    ensures { λ x. ⌜ LeafPost (now (payload .entry)) atoms p (leaf (now (payload .entry)) atoms (r .kind) (r .a) (r .b) p) x ⌝ }
 {
     if r.kind == kind::CODES {
-        return codes_leaf(table, atoms, r.a, r.b, p);
+        return codes_leaf(payload, atoms, r.a, r.b, p);
     }
     if r.kind == kind::LITERAL {
-        return text_leaf(table, atoms, r.a, r.b, p);
+        return text_leaf(payload, atoms, r.a, r.b, p);
     }
     Leaf::Bad
 }
 
 // Whether atom i ends its branch: the second byte of its record.
-fn ends_of(table: &[u8], i: usize) -> u8
-    requires { ⌜ RecordIn (now table) i × (i < 256) ⌝ }
-    ensures { λ r. ⌜ r ≡ record-at (now (table .entry)) (layout (now (table .entry))) i .ends ⌝ }
+fn ends_of(payload: &[u8], i: usize) -> u8
+    requires { ⌜ RecordIn (now payload) 0 i × (i < atom-limit) ⌝ }
+    ensures { λ r. ⌜ r ≡ payload-record (now (payload .entry)) i .ends ⌝ }
 {
-    table[HEADER_SIZE + RECORD_SIZE * i + 1]
+    payload[RECORD_SIZE * i + 1]
 }
 
 // A pattern from a place on, inside depth groups.
-pub fn pattern(table: &[u8], atoms: usize, at: Place, depth: usize) -> Walked
-    requires { ⌜ WalkPre (now table) atoms at depth ⌝ }
-    ensures { λ r. ⌜ PatternPost (now (table .entry)) atoms at depth r ⌝ }
+pub fn pattern(payload: &[u8], atoms: usize, at: Place, depth: usize) -> Walked
+    requires { ⌜ WalkPre (now payload) atoms at depth ⌝ }
+    ensures { λ r. ⌜ PatternPost (now (payload .entry)) atoms at depth r ⌝ }
 {
     let mut from = at;
     let mut before: usize = 0;
     loop {
-        match atom(table, atoms, from, depth) {
+        match atom(payload, atoms, from, depth) {
             Passed::To(next) => {
-                let ends = ends_of(table, from.atom);
+                let ends = ends_of(payload, from.atom);
                 if ends == 1 {
                     return Walked::To(next, before + 1);
                 }
@@ -147,16 +146,16 @@ pub fn pattern(table: &[u8], atoms: usize, at: Place, depth: usize) -> Walked
 }
 
 // The atom at a place.
-fn atom(table: &[u8], atoms: usize, at: Place, depth: usize) -> Passed
-    requires { ⌜ WalkPre (now table) atoms at depth ⌝ }
-    ensures { λ r. ⌜ AtomPost (now (table .entry)) atoms at depth r ⌝ }
+fn atom(payload: &[u8], atoms: usize, at: Place, depth: usize) -> Passed
+    requires { ⌜ WalkPre (now payload) atoms at depth ⌝ }
+    ensures { λ r. ⌜ AtomPost (now (payload .entry)) atoms at depth r ⌝ }
 {
     let i = at.atom;
     let p = at.pool;
     if atoms <= i {
         return Passed::Bad;
     }
-    let r = record_at(table, i);
+    let r = record_at(payload, 0, i);
     if is_ordered(r.low, r.high) {
         let mut next = at;
         next.atom = i + 1;
@@ -164,7 +163,7 @@ fn atom(table: &[u8], atoms: usize, at: Place, depth: usize) -> Passed
         if r.kind == kind::GROUP {
             if depth < DEPTH_LIMIT {
                 next.source += 1;
-                match group(table, atoms, next, depth + 1, r.a as usize) {
+                match group(payload, atoms, next, depth + 1, r.a as usize) {
                     Passed::To(end) => {
                         if end.atom == r.b as usize {
                             let mut after = end;
@@ -178,7 +177,7 @@ fn atom(table: &[u8], atoms: usize, at: Place, depth: usize) -> Passed
             }
             return Passed::Bad;
         }
-        match leaf_at(table, atoms, r, p) {
+        match leaf_at(payload, atoms, r, p) {
             Leaf::Is(v, w) => {
                 next.pool = p + v;
                 next.source += w;
@@ -191,14 +190,14 @@ fn atom(table: &[u8], atoms: usize, at: Place, depth: usize) -> Passed
 }
 
 // k branches from a place on.
-fn group(table: &[u8], atoms: usize, at: Place, depth: usize, k: usize) -> Passed
-    requires { ⌜ WalkPre (now table) atoms at depth ⌝ }
-    ensures { λ r. ⌜ GroupPost (now (table .entry)) atoms at depth k r ⌝ }
+fn group(payload: &[u8], atoms: usize, at: Place, depth: usize, k: usize) -> Passed
+    requires { ⌜ WalkPre (now payload) atoms at depth ⌝ }
+    ensures { λ r. ⌜ GroupPost (now (payload .entry)) atoms at depth k r ⌝ }
 {
     let mut from = at;
     let mut left = k;
     while 0 < left {
-        match pattern(table, atoms, from, depth) {
+        match pattern(payload, atoms, from, depth) {
             Walked::To(next, _) => {
                 if left == 1 {
                     return Passed::To(next);

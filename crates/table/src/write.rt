@@ -53,9 +53,9 @@ pub fn write_table(
     if table.len() < total {
         return TableWritten::Room;
     }
-    let mark = layout::first_bytes();
+    let mark = layout::first_bytes_2();
     copy(&mark, layout::ATOMS_PLACE, table, 0);
-    table[layout::ATOMS_PLACE] = atoms as u8;
+    put16(table, layout::ATOMS_PLACE, atoms as u16);
     put16(table, layout::LENGTH_PLACE, text as u16);
     copy(
         recs,

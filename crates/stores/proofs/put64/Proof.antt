@@ -4,7 +4,7 @@ use Prim.Native.Nat.{_+_, _-_, _≤_}
 use native.Mathlib.Omega.{arith}
 use lib.ListN.{length, length-set}
 use Rattle.pattern.specs.Stores.{store-at}
-use Rattle.stores.specs.Little.{little}
+use Rattle.pattern.specs.Bytes.{little}
 use Rattle.stores.proofs.Little.{store-next, store-end}
 use Rattle.stores.proofs.put64.Statement.{statement}
 use Rattle.stores.proofs.put64.Tie as tie

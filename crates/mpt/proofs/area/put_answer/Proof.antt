@@ -1,7 +1,7 @@
 -- `area::put_answer` meets its contract: four numbers, one after the other. Assumes nothing.
 use mathlib.Core.Path.{_∙_}
 use Rattle.pattern.proofs.Stores.{store-at-overwrite, puts-then}
-use Rattle.stores.specs.Little.{little}
+use Rattle.pattern.specs.Bytes.{little}
 use Rattle.mpt.specs.Area.{area}
 use borrow.Author.Needs.{needs}
 use Rattle.mpt.proofs.area.put_answer.Statement.{statement}

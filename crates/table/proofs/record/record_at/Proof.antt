@@ -2,7 +2,7 @@
 use Prim.Native.Nat.{_+_, _*_}
 use lib.ListN.{getD}
 use borrow.Author.Needs.{needs}
-use Rattle.pattern.specs.Numbers.{header-size, record-size}
+use Rattle.pattern.specs.Numbers.{record-size}
 use Rattle.table.proofs.record.record_at.Statement.{statement}
 use Rattle.table.proofs.record.record_at.Tie as tie
 
@@ -11,7 +11,7 @@ returns c =
     let after-read16 = c .before .before .before in
     let start = after-read16 .before .before .before .before in
     let s = start .args .table .now in
-    let at = header-size + record-size * start .args .i in
+    let at = start .args .records + record-size * start .args .i in
     λ j. record { kind = getD s at 0; ends = getD s (at + 1) 0; low = after-read16 .read16 .ensures j; high = c .before .before .read162 .ensures j; a = c .before .read163 .ensures j; b = c .read164 .ensures j }
 
 pub record-at-spec : {M : Type 1} → statement M

@@ -65,7 +65,7 @@ pattern-claims t = (atom-below t, atom.Post, ends-of-reads.Asked, ends-of-reads.
 
 -- what is known where the length of a count was found
 atom-counted : (t : ℕ) (c : atom-lts.After-count-length (atom-claims t) (atom-at t) atom.Post)
-    → CountMeasured (c .before .before .before .before .before .before .args .table .now) (c .before .before .before .before .before .before .args .atoms) (c .before .before .before .before .before .before .args .at) (c .before .before .before .before .before .before .args .depth) (c .before .before .before .record-at .result) (c .count-length .result)
+    → CountMeasured (c .before .before .before .before .before .before .args .payload .now) (c .before .before .before .before .before .before .args .atoms) (c .before .before .before .before .before .before .args .at) (c .before .before .before .before .before .before .args .depth) (c .before .before .before .record-at .result) (c .count-length .result)
 atom-counted t c =
     let after-record-at = c .before .before .before in
     let after-if1 = after-record-at .before in

@@ -8,17 +8,17 @@ use Rattle.table.proofs.walk.leaf_at.Tie as tie
 returns : tie.Need-returns
 returns c =
     let a = c .before .before .before .before .args in
-    record { short = c .codes-leaf .ensures .short; reads = c .codes-leaf .ensures .reads ∙ leaf-one (a .table .now) (a .atoms) (a .r .kind) (a .r .a) (a .r .b) (a .p) (c .before .if1 .taken) }
+    record { short = c .codes-leaf .ensures .short; reads = c .codes-leaf .ensures .reads ∙ leaf-one (a .payload .now) (a .atoms) (a .r .kind) (a .r .a) (a .r .b) (a .p) (c .before .if1 .taken) }
 
 returns-2 : tie.Need-returns-2
 returns-2 c =
     let a = c .before .before .before .before .before .before .args in
-    record { short = c .text-leaf .ensures .short; reads = c .text-leaf .ensures .reads ∙ leaf-two (a .table .now) (a .atoms) (a .r .kind) (a .r .a) (a .r .b) (a .p) (c .before .before .before .if1 .left) (c .before .if2 .taken) }
+    record { short = c .text-leaf .ensures .short; reads = c .text-leaf .ensures .reads ∙ leaf-two (a .payload .now) (a .atoms) (a .r .kind) (a .r .a) (a .r .b) (a .p) (c .before .before .before .if1 .left) (c .before .if2 .taken) }
 
 returns-3 : tie.Need-returns-3
 returns-3 c =
     let a = c .before .before .before .before .before .args in
-    record { short = tt; reads = leaf-other (a .table .now) (a .atoms) (a .r .kind) (a .r .a) (a .r .b) (a .p) (c .before .before .if1 .left) (c .if2 .left) }
+    record { short = tt; reads = leaf-other (a .payload .now) (a .atoms) (a .r .kind) (a .r .a) (a .r .b) (a .p) (c .before .before .if1 .left) (c .if2 .left) }
 
 pub leaf-at-spec : {M : Type 1} → statement M
 leaf-at-spec =
