@@ -10,11 +10,11 @@ use Rattle.pattern.specs.Bytes.{Bytes}
 use Rattle.pattern.specs.Syntax.{Sort, pattern, atom, Syntax, last, then, repeat, codes, literal, group, only, or, size, top-size, nodes}
 use Rattle.pattern.specs.Within.{Fits, InLimits, Limited}
 use Rattle.pattern.specs.Print.{print}
-use Rattle.pattern.specs.Decode.{dummy, tree-of, decode}
+use Rattle.pattern.specs.Decode.{version-of, dummy, tree-of, decode}
 use Rattle.pattern.proofs.Accepted.{accepted-exactly}
 use Rattle.pattern.proofs.Bound.{nodes-size}
 use Rattle.pattern.proofs.RoundTrip.{tree-encode}
-use Rattle.pattern.proofs.Calls.{print-accepted, decoded-encode}
+use Rattle.pattern.proofs.Calls.{print-accepted, print-compiles}
 use Rattle.table.specs.declared.Sizes.{Sizes}
 use Rattle.table.specs.declared.Tested.the-variants as verdict
 use Rattle.table.specs.Tested.{tested}
@@ -25,6 +25,10 @@ use Rattle.atoms.specs.Atoms.{GoodTable, atoms, node, head, AtomIn}
 -- the tree that a table decodes to is within the limits
 limited : (table : Bytes) (t : Syntax pattern) → decode table ≡ some t → Limited t
 limited table t d = let (n, h, g) = accepted-exactly (print t) t .0 (print-accepted table t d) in g
+
+-- and is what the table is read as
+tree-is : (table : Bytes) (t : Syntax pattern) → decode table ≡ some t → tree-of table ≡ t
+tree-is table t d = let c = print-compiles table t d in ap tree-of (sym (c .whole)) ∙ tree-encode (version-of table) t (c .within) (c .few)
 
 -- the table is good, and the sizes are of its tree
 pub record GoodSizes (table : Bytes) (s : Sizes) : Type 0 where
@@ -43,7 +47,7 @@ module _ (table : Bytes) where
       go none d e = let z : _≡_ {A = ℕ} 0 1 = cc in absurd (omega arith)
       go (some t) d e =
           let g = limited table t d in
-          let r : tree-of table ≡ t = ap tree-of (sym (decoded-encode table t d)) ∙ tree-encode t (g .tree) in
+          let r = tree-is table t d in
           let y : s ≡ record { atoms = size t; top = top-size t; source = length (print t) } = cc in
           record {
             good = record { decoded = d ∙ ap some (sym r) };

@@ -2,23 +2,25 @@
 use mathlib.Core.Path.{_≡_, refl, sym, ap, ap₂, subst, _∙_}
 use mathlib.Core.List.{List, [], _∷_, _++_, append-nil}
 use mathlib.Core.Option.{Option}
-use Prim.Native.Nat.{ℕ, zero, suc, _+_, _-_, _≤_, _<_}
+use Prim.Native.Nat.{ℕ, zero, suc, _+_, _*_, _-_, _≤_, _<_}
 use native.Mathlib.Omega.{arith}
 use lib.ListN.{length, getD, take, drop, length-append, length-drop}
 use lib.Seq.{getD-drop, take-append-seam}
-use Rattle.pattern.specs.Numbers.{codes-kind, group-kind, literal-kind}
+use Rattle.pattern.specs.Numbers.{codes-kind, group-kind, literal-kind, record-size}
 use Rattle.pattern.specs.Bytes.{Bytes}
 use Rattle.pattern.specs.Syntax.{pattern, atom, body, branches, Syntax, last, then, repeat, codes, literal, group, only, or, size, nodes}
 use Rattle.pattern.specs.Table.{pool, branch-count, kind-field, a-field, b-field, rec, records}
-use Rattle.pattern.specs.Decode.{dummy, layout, record-at, high-of, tree-of}
+use Rattle.pattern.specs.Decode.{rec-at, version-of, dummy, layout, record-at, high-of, tree-of}
 use Rattle.pattern.proofs.Bound.{all-nodes, nodes-size, outside}
 use Rattle.pattern.proofs.Stretch.{slice-take}
 use Rattle.pattern.proofs.Records.{Placed, head-there, then-there}
 use Rattle.pattern.proofs.RoundTrip.{some-pattern, encode-length, high-again}
 use Rattle.pattern.proofs.Nodes.{At, at-atom, at-last, at-next, at-branch, Held, held}
-use Rattle.pattern.proofs.Calls.{decoded-encode}
+use Rattle.pattern.proofs.Calls.{print-compiles}
 use Rattle.table.specs.declared.record.Record.{Record}
 use Rattle.table.specs.Fields.{record-of, RecordIn}
+use Rattle.table.specs.Headers.{header-of}
+use Rattle.table.specs.declared.header.Header.{Header}
 use Rattle.atoms.specs.Atoms.{atoms, node, branches-from, head, body-of, AtomIn}
 use Rattle.atoms.specs.Records.{LiteralAt, GroupIn, FollowedIn, RecordOf}
 use Rattle.atoms.proofs.Goods.{count-fits}
@@ -119,7 +121,8 @@ module _ (table : Bytes) (x : ℕ) (ok : AtomIn table x) where
   view : View table x
   view =
       let t : Syntax pattern = tree-of table in
-      let k = subst (λ (s : Bytes). Held s (layout s) (nodes t) 0 x) (decoded-encode table t (ok .good .decoded)) (held t x (ok .there)) in
+      let c = print-compiles table t (ok .good .decoded) in
+      let k = subst (λ (s : Bytes). Held s (layout s) (nodes t) 0 x) (c .whole) (held (version-of table) t (c .few) x (ok .there)) in
       let z : 0 + x ≡ x = omega arith in
       view-of (k .ends) (k .text) (k .node) (k .at) (subst (λ (i : ℕ). Placed table (layout table) (k .ends) (k .node) i (k .text)) z (k .placed))
 
@@ -165,8 +168,12 @@ no-bytes (b ∷ l) e = absurd (omega arith)
 
 module _ (table : Bytes) (x : ℕ) (ok : AtomIn table x) where
   -- the header and the record lie in the table
-  pub record-in : RecordIn table x
-  record-in = record { within = omega (arith, ok .there, ap length (decoded-encode table (tree-of table) (ok .good .decoded)), encode-length (tree-of table)) }
+  pub record-in : RecordIn table (header-of table .records) x
+  record-in = record { within = omega (arith, ok .there, ap length (print-compiles table (tree-of table) (ok .good .decoded) .whole), encode-length (version-of table) (tree-of table)) }
+
+  -- a record that is read where the header says
+  pub record-from : {h : Header} → h ≡ header-of table → record-of (rec-at table (h .records + record-size * x)) ≡ record-of (record-at table (layout table) x)
+  record-from e = ap (λ (h : Header). record-of (rec-at table (h .records + record-size * x))) e
 
   v : View table x
   v = view table x ok

@@ -5,6 +5,7 @@ ghost use Rattle.pattern.specs.Syntax.{size};
 ghost use Rattle.atoms.specs.Atoms.{node, head, AtomIn};
 ghost use Rattle.atoms.specs.Records.{RecordOf, LiteralIn, LiteralAt};
 use pattern::kind;
+use table::header::header_at;
 use table::record;
 use table::record::Record;
 
@@ -19,7 +20,8 @@ pub fn record_at(table: &[u8], x: usize) -> Record
     requires { ⌜ AtomIn (now table) x ⌝ }
     ensures { λ r. ⌜ RecordOf (now (table .entry)) x r ⌝ }
 {
-    record::record_at(table, x)
+    let h = header_at(table);
+    record::record_at(table, h.records, x)
 }
 
 // The value of the literal x; an empty one lies anywhere.
@@ -27,12 +29,12 @@ pub fn literal_at(table: &[u8], x: usize) -> Span
     requires { ⌜ LiteralIn (now table) x ⌝ }
     ensures { λ r. ⌜ LiteralAt (now (table .entry)) x (r .from) (r .len) ⌝ }
 {
-    let r = record::record_at(table, x);
+    let h = header_at(table);
+    let r = record::record_at(table, h.records, x);
     let len = r.b as usize;
     if len == 0 {
         return Span { from: 0, len };
     }
-    let h = table::header::header_at(table);
     Span {
         from: h.pool + r.a as usize,
         len,
