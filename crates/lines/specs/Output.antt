@@ -32,7 +32,7 @@ unfoldable pub split : Bytes → List Bytes
 split input = lines-after [] input
 
 unfoldable pub first-line : Bytes
-first-line = bytes "MPT 1" ++ newline-byte ∷ []
+first-line = bytes "MPT 2" ++ newline-byte ∷ []
 
 unfoldable pub output : (input : Bytes) → Bytes
 output input = first-line ++ answers (split input) zeros .text

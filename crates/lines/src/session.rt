@@ -16,7 +16,7 @@ use stores::copy;
 // The line that the output begins with.
 const FIRST_SIZE: usize = 6;
 
-const FIRST_LINE: [u8; FIRST_SIZE] = *b"MPT 1\n";
+const FIRST_LINE: [u8; FIRST_SIZE] = *b"MPT 2\n";
 
 // What a read gave: nothing, since it failed; the end of the input; or the first bytes of the buffer.
 pub enum Input {

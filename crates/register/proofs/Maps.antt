@@ -8,15 +8,14 @@ use native.Mathlib.Omega.{arith}
 use lib.Dec.{eqb, eqb→eq}
 use lib.ListN.{length, take, drop, set, replicate, length-append, length-set, length-replicate}
 use lib.Seq.{split-at, set-split, getD-set-same, getD-set-other, take-suc}
-use Rattle.pattern.specs.Numbers.{table-room}
+use Rattle.pattern.specs.Versions.{table-room}
 use Rattle.pattern.specs.Bytes.{Bytes}
 use Rattle.pattern.specs.Syntax.{pattern, Syntax}
-use Rattle.pattern.specs.Print.{print}
-use Rattle.pattern.specs.Table.{header, encode}
-use Rattle.pattern.specs.Decode.{decode}
+use Rattle.pattern.specs.Decode.{version-of, decode}
 use Rattle.pattern.proofs.Tests.{true-T}
-use Rattle.pattern.proofs.Calls.{print-accepted, decoded-encode}
-use Rattle.pattern.proofs.Rooms.{table-fits}
+use Rattle.pattern.proofs.Calls.{print-compiles}
+use Rattle.pattern.proofs.RoundTrip.{encode-length}
+use Rattle.pattern.proofs.Rooms.{good-fits}
 use Rattle.register.specs.Maps.{numbers, Map, table-of, empty, tables, total, is-table, missing}
 use Rattle.register.specs.Layout.{allowed, Proper, table-count}
 
@@ -32,7 +31,7 @@ table-short t = go (decode t) refl
   where
     go : (o : Option (Syntax pattern)) → decode t ≡ o → (elim o [ none ↦ false | some _ ↦ true ]) ≡ true → length t ≤ table-room
     go none d e = absurd (true-T false e)
-    go (some x) d e = let n = table-fits (print x) x (print-accepted t x d) in rw (decoded-encode t x d) at n
+    go (some x) d e = good-fits t x d
 
 pub allowed-short : (t : Bytes) → allowed t ≡ true → length t ≤ table-room
 unfolding allowed
@@ -44,12 +43,12 @@ allowed-short t e = go (eqb (length t) 0) refl
 
 -- no bytes are no table, so a number has one just where it isn't missing
 pub no-bytes-no-table : is-table [] ≡ false
-unfolding is-table encode header
+unfolding is-table
 no-bytes-no-table = go (decode []) refl
   where
     go : (o : Option (Syntax pattern)) → decode [] ≡ o → (elim o [ none ↦ false | some _ ↦ true ]) ≡ false
     go none d = refl
-    go (some x) d = absurd (omega (arith, ap length (decoded-encode [] x d)))
+    go (some x) d = absurd (omega (arith, ap length (print-compiles [] x d .whole), encode-length (version-of []) x))
 
 pub there-is-table : (m : Map) → Proper m → (k : ℕ) → missing m k ≡ false → is-table (table-of m k) ≡ true
 unfolding allowed

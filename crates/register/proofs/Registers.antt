@@ -8,7 +8,8 @@ use Prim.Native.Nat.{ℕ, _+_, _*_, _≤_, _<_}
 use native.Mathlib.Omega.{arith}
 use borrow.Author.Tests.{lt-ltb, le-ltb}
 use lib.ListN.{length, drop, set, length-append}
-use Rattle.pattern.specs.Numbers.{table-room, TABLE, FULL, REGISTER, MISSING}
+use Rattle.pattern.specs.Numbers.{TABLE, FULL, REGISTER, MISSING}
+use Rattle.pattern.specs.Versions.{table-room}
 use Rattle.pattern.specs.Bytes.{Bytes, overwrite}
 use Rattle.pattern.specs.Scan.{refuse}
 use Rattle.pattern.specs.Answers.{MatchOutput, untried, ended, matchOf}

@@ -7,7 +7,8 @@ use Prim.Native.Nat.{ℕ, zero, suc, _+_, _≤_}
 use native.Mathlib.Omega.{arith}
 use lib.Dec.{eqb, ltb}
 use lib.ListN.{length, take, drop, replicate, length-replicate, take-append-drop, replicate-append-replicate}
-use Rattle.pattern.specs.Numbers.{table-room, parts-room}
+use Rattle.pattern.specs.Numbers.{parts-room}
+use Rattle.pattern.specs.Versions.{table-room}
 use Rattle.pattern.specs.Bytes.{Bytes, zeroed}
 use Rattle.pattern.specs.Decode.{decode}
 use Rattle.pattern.specs.Answers.{compileOf, Ending, untried, exhausted, decided, ended}

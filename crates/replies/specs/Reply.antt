@@ -5,7 +5,8 @@ use mathlib.Core.Option.{Option, none, some}
 use Prim.Native.Nat.{ℕ, suc}
 use lib.Dec.{ltb, eqb}
 use lib.ListN.{length, take, drop, replicate}
-use Rattle.pattern.specs.Numbers.{table-room, parts-room}
+use Rattle.pattern.specs.Numbers.{parts-room}
+use Rattle.pattern.specs.Versions.{table-room}
 use Rattle.pattern.specs.Bytes.{Bytes, bytes}
 use Rattle.pattern.specs.Decode.{decode}
 use Rattle.pattern.specs.Answers.{Output, compileOf, Ending, ended, match-ending}
