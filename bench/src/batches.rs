@@ -44,9 +44,8 @@ impl Row {
     }
 
     fn outputs(&self) -> Outputs {
-        let work = (2 * usize::from(self.table[5]) + 4) * (self.len + 1) * (self.len + 1);
         Outputs {
-            scratch: vec![0; work],
+            scratch: vec![0; plain::work(&self.table, self.len)],
             verdicts: vec![255; LABELS],
             parts: vec![255; LABELS * part_bytes(&self.table)],
         }
@@ -83,7 +82,7 @@ impl Row {
 
 /// The bytes of the parts of a pattern without groups.
 fn part_bytes(table: &[u8]) -> usize {
-    2 * usize::from(table[5])
+    2 * plain::atoms(table)
 }
 
 /// The labels of a batch by single calls of the library, with the part bytes of each.

@@ -15,9 +15,9 @@ const BUDGET: u64 = 10_000_000;
 // ---- the line tool in plain Rust ----
 
 struct Room {
-    table: [u8; 1_160],
+    table: [u8; plain::TABLE],
     scratch: Vec<u8>,
-    parts: [u8; 128],
+    parts: [u8; plain::PARTS],
 }
 
 impl Room {
@@ -34,12 +34,13 @@ impl Room {
         };
         let (table, label) = (&self.table[..len], &line[tab + 1..]);
         // An end is at most 255, so an upper byte that stays 255 is after the last part.
-        self.parts.fill(255);
-        match plain::match_label(table, label, &mut self.scratch, &mut self.parts, BUDGET) {
+        let parts = &mut self.parts[..2 * plain::atoms(table)];
+        parts.fill(255);
+        match plain::match_label(table, label, &mut self.scratch, parts, BUDGET) {
             Err((number, _)) => writeln!(out, "M {number}"),
             Ok((false, _)) => writeln!(out, "0"),
             Ok((true, _)) => {
-                let ends = self.parts.chunks(2).take_while(|pair| pair[1] == 0);
+                let ends = parts.chunks(2).take_while(|pair| pair[1] == 0);
                 for (at, pair) in ends.enumerate() {
                     write!(out, "{}{}", if at == 0 { "1 " } else { "," }, pair[0])?;
                 }
@@ -52,13 +53,13 @@ impl Room {
 /// Answers standard input line by line, until its end or a fault.
 pub fn answer_input() {
     let mut room = Room {
-        table: [0; 1_160],
+        table: [0; plain::TABLE],
         scratch: vec![0; 65_536],
-        parts: [0; 128],
+        parts: [0; plain::PARTS],
     };
     let (mut input, mut line) = (stdin().lock(), Vec::new());
     let mut out = BufWriter::with_capacity(65_536, stdout().lock());
-    let mut open = writeln!(out, "MPT 1").is_ok();
+    let mut open = writeln!(out, "MPT 2").is_ok();
     while open && input.read_until(b'\n', &mut line).is_ok_and(|len| len > 0) {
         let text = line.strip_suffix(b"\n").unwrap_or(&line);
         open = room.answer(text, &mut out).is_ok();

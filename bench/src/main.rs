@@ -10,6 +10,9 @@
 //! bench [--quick] --batches    (f) alone
 //! bench [--quick] --registers    (g) alone
 //! bench --lines    the line tool in plain Rust, for the comparison
+//!
+//! Two libraries are compared by two builds, each with its own MPT_LIB and CARGO_TARGET_DIR, run in
+//! turn. A library from before version 2 gets its own tables, and no rows of more than 64 atoms.
 
 mod batches;
 mod clock;
@@ -18,6 +21,8 @@ mod matches;
 mod naive;
 mod plain;
 mod plain_registers;
+#[cfg(test)]
+mod plain_tests;
 mod proved;
 mod registers;
 mod rounds;

@@ -16,7 +16,7 @@ fn time_match<const WAYS: usize>(
     ways: [Way; WAYS],
     rounds: usize,
 ) -> (u64, Rounds<WAYS>) {
-    let work = (2 * usize::from(table[5]) + 4) * (label.len() + 1) * (label.len() + 1);
+    let work = plain::work(table, label.len());
     let (mut scratch, mut parts) = (vec![0; work], [0; 128]);
     let found = ways[0](table, label, &mut scratch, &mut parts, u64::MAX);
     // Every way gives the same answer and parts.
@@ -123,7 +123,8 @@ pub fn groups_of_groups(lens: &[usize]) {
         let ways: [Way; 2] = [proved::match_label, plain::match_label];
         let (trials, timed) = time_match(&table, &label, ways, 3);
         let [library, plain] = timed.times().map(|time| time / 1e6);
-        let bound = (table[5] as u64) * ((n + 1) * (n + 1) * (n + 2) * (n + 3) / 6) as u64;
+        let bound =
+            plain::atoms(&table) as u64 * ((n + 1) * (n + 1) * (n + 2) * (n + 3) / 6) as u64;
         let ratio = timed.ratio(0, 1);
         print!("{n:>5}{bound:>14}{trials:>14}{library:>12.3}{plain:>12.3}{ratio:>8.2}");
         if stopped {

@@ -5,6 +5,16 @@ pub type Refusal = (u32, usize);
 
 const OPEN: u16 = 65_535;
 
+/// The most atoms and bytes of source.
+const ATOMS: usize = 256;
+pub const SOURCE: usize = 2_048;
+
+/// The most bytes of a table, header, records and pool.
+pub const TABLE: usize = 9 + 10 * ATOMS + SOURCE;
+
+/// The most bytes of parts.
+pub const PARTS: usize = 2 * ATOMS;
+
 /// The bit of each code letter, 0 for any other byte.
 const LETTER_BITS: [u8; 256] = {
     let mut bits = [0; 256];
@@ -67,137 +77,154 @@ fn count(source: &[u8], at: &mut usize) -> Result<(u16, u16), Refusal> {
     }
 }
 
+/// The byte at `at`; past the end stands one that no pattern continues with.
+fn byte(source: &[u8], at: usize) -> u8 {
+    source.get(at).copied().unwrap_or(0)
+}
+
+/// The set of the letters at `at`.
+fn letters(source: &[u8], at: &mut usize) -> Result<u8, Refusal> {
+    let mut set = 0;
+    while byte(source, *at).is_ascii_alphabetic() {
+        let bit = LETTER_BITS[usize::from(byte(source, *at))];
+        if bit == 0 {
+            return Err((3, *at));
+        }
+        set |= bit;
+        *at += 1;
+    }
+    Ok(set)
+}
+
+/// Adds the value of the literal whose quote is at `at` to the pool.
+fn literal(source: &[u8], at: &mut usize, pool: &mut Vec<u8>) -> Result<(), Refusal> {
+    loop {
+        *at += 1;
+        match byte(source, *at) {
+            b'"' => {
+                *at += 1;
+                if byte(source, *at) != b'"' {
+                    return Ok(());
+                }
+            }
+            b' '..=b'~' => (),
+            _ => return Err((2, *at)),
+        }
+        pool.push(byte(source, *at));
+    }
+}
+
+/// The table so far, and the records of the open groups.
 struct Builder {
-    records: [[u8; 10]; 64],
-    atoms: usize,
-    pool: [u8; 512],
-    pool_len: usize,
+    records: Vec<[u8; 10]>,
+    pool: Vec<u8>,
+    open: [usize; 8],
+    depth: usize,
 }
 
 impl Builder {
-    fn put(&mut self, kind: u8, low: u16, high: u16, a: u16, b: u16) {
-        let record = &mut self.records[self.atoms];
-        record[0] = kind;
-        record[2..4].copy_from_slice(&low.to_le_bytes());
-        record[4..6].copy_from_slice(&high.to_le_bytes());
-        record[6..8].copy_from_slice(&a.to_le_bytes());
-        record[8..10].copy_from_slice(&b.to_le_bytes());
-        self.atoms += 1;
+    /// With room for all that a source of so many bytes can have: arrays of the limits' sizes
+    /// would have to be set to zero first.
+    fn new(source_len: usize) -> Self {
+        Builder {
+            records: Vec::with_capacity((source_len / 2).min(ATOMS)),
+            pool: Vec::with_capacity(source_len),
+            open: [0; 8],
+            depth: 0,
+        }
+    }
+
+    fn put(&mut self, kind: u8, (low, high): (u16, u16), a: u16, b: u16) {
+        let [l0, l1] = low.to_le_bytes();
+        let [h0, h1] = high.to_le_bytes();
+        let [a0, a1] = a.to_le_bytes();
+        let [b0, b1] = b.to_le_bytes();
+        self.records.push([kind, 0, l0, l1, h0, h1, a0, a1, b0, b1]);
+    }
+
+    /// Ends the branches and groups that end at `at`, after an atom; whether the source ends too.
+    fn end(&mut self, source: &[u8], at: &mut usize) -> Result<bool, Refusal> {
+        let mut ended = self.records.len() - 1;
+        loop {
+            match byte(source, *at) {
+                b'0'..=b'9' | b'.' => return Ok(false),
+                b',' if self.depth > 0 => {
+                    self.records[ended][1] = 1;
+                    // At most 255 branches, since the group is an atom too.
+                    self.records[self.open[self.depth - 1]][6] += 1;
+                    *at += 1;
+                    return Ok(false);
+                }
+                b')' if self.depth > 0 => {
+                    self.records[ended][1] = 1;
+                    self.depth -= 1;
+                    ended = self.open[self.depth];
+                    let after = (self.records.len() as u16).to_le_bytes();
+                    self.records[ended][8..10].copy_from_slice(&after);
+                    *at += 1;
+                }
+                _ if *at == source.len() && self.depth == 0 => {
+                    self.records[ended][1] = 1;
+                    return Ok(true);
+                }
+                _ => return Err((2, *at)),
+            }
+        }
     }
 
     fn write(&self, source_len: usize, table: &mut [u8]) -> Result<usize, Refusal> {
-        let records_end = 8 + 10 * self.atoms;
-        let len = records_end + self.pool_len;
+        let records_end = 9 + 10 * self.records.len();
+        let len = records_end + self.pool.len();
         if table.len() < len {
             return Err((8, source_len));
         }
-        table[..5].copy_from_slice(b"MPT\x01\x00");
-        table[5] = self.atoms as u8;
-        table[6..8].copy_from_slice(&(self.pool_len as u16).to_le_bytes());
-        table[8..records_end].copy_from_slice(self.records[..self.atoms].as_flattened());
-        table[records_end..len].copy_from_slice(&self.pool[..self.pool_len]);
+        table[..5].copy_from_slice(b"MPT\x02\x00");
+        table[5..7].copy_from_slice(&(self.records.len() as u16).to_le_bytes());
+        table[7..9].copy_from_slice(&(self.pool.len() as u16).to_le_bytes());
+        table[9..records_end].copy_from_slice(self.records.as_flattened());
+        table[records_end..len].copy_from_slice(&self.pool);
         Ok(len)
     }
 }
 
-/// Compiles in one pass; the length of the table.
+/// Compiles in one pass to version 2; the length of the table.
 pub fn compile(source: &[u8], table: &mut [u8]) -> Result<usize, Refusal> {
-    if source.len() > 512 {
-        return Err((1, 512));
+    if source.len() > SOURCE {
+        return Err((1, SOURCE));
     }
-    let mut builder = Builder {
-        records: [[0; 10]; 64],
-        atoms: 0,
-        pool: [0; 512],
-        pool_len: 0,
-    };
-    let mut open = [0; 8];
-    let mut depth = 0;
+    let mut builder = Builder::new(source.len());
     let mut at = 0;
-    // Past the end stands a byte that no pattern continues with.
-    let byte = |at: usize| source.get(at).copied().unwrap_or(0);
     loop {
         let start = at;
         let counted = count(source, &mut at);
         // FORM and RANGE stand at the first byte too and are the lower numbers.
-        if builder.atoms == 64 && !matches!(counted, Err((2 | 5, _))) {
+        if builder.records.len() == ATOMS && !matches!(counted, Err((2 | 5, _))) {
             return Err((6, start));
         }
-        let (low, high) = counted?;
-        let mut ended = builder.atoms;
-        match byte(at) {
+        let counted = counted?;
+        match byte(source, at) {
             b'A'..=b'Z' | b'a'..=b'z' => {
-                let mut set = 0;
-                while byte(at).is_ascii_alphabetic() {
-                    let bit = LETTER_BITS[usize::from(byte(at))];
-                    if bit == 0 {
-                        return Err((3, at));
-                    }
-                    set |= bit;
-                    at += 1;
-                }
-                builder.put(1, low, high, u16::from(set), 0);
+                let set = letters(source, &mut at)?;
+                builder.put(1, counted, u16::from(set), 0);
             }
             b'"' => {
-                let offset = builder.pool_len;
-                loop {
-                    at += 1;
-                    match byte(at) {
-                        b'"' => {
-                            at += 1;
-                            if byte(at) != b'"' {
-                                break;
-                            }
-                        }
-                        b' '..=b'~' => (),
-                        _ => return Err((2, at)),
-                    }
-                    builder.pool[builder.pool_len] = byte(at);
-                    builder.pool_len += 1;
-                }
-                builder.put(
-                    2,
-                    low,
-                    high,
-                    offset as u16,
-                    (builder.pool_len - offset) as u16,
-                );
+                let offset = builder.pool.len();
+                literal(source, &mut at, &mut builder.pool)?;
+                let len = builder.pool.len() - offset;
+                builder.put(2, counted, offset as u16, len as u16);
             }
             b'(' => {
-                if depth == 8 {
-                    return Err((7, at));
-                }
-                open[depth] = builder.atoms;
-                depth += 1;
+                let open = builder.open.get_mut(builder.depth).ok_or((7, at))?;
+                *open = builder.records.len();
+                builder.depth += 1;
+                builder.put(3, counted, 1, 0);
                 at += 1;
-                builder.put(3, low, high, 1, 0);
                 continue;
             }
             _ => return Err((2, at)),
         }
-        loop {
-            match byte(at) {
-                b'0'..=b'9' | b'.' => break,
-                b',' if depth > 0 => {
-                    builder.records[ended][1] = 1;
-                    let group = &mut builder.records[open[depth - 1]];
-                    group[6] += 1;
-                    at += 1;
-                    break;
-                }
-                b')' if depth > 0 => {
-                    builder.records[ended][1] = 1;
-                    depth -= 1;
-                    ended = open[depth];
-                    builder.records[ended][8] = builder.atoms as u8;
-                    at += 1;
-                }
-                _ if at == source.len() && depth == 0 => {
-                    builder.records[ended][1] = 1;
-                    return builder.write(source.len(), table);
-                }
-                _ => return Err((2, at)),
-            }
+        if builder.end(source, &mut at)? {
+            return builder.write(source.len(), table);
         }
     }
 }
@@ -212,6 +239,51 @@ struct Record {
     high: u16,
     a: usize,
     b: usize,
+}
+
+/// What a header says, and the limits of its version.
+struct Header {
+    len: usize,
+    atoms: usize,
+    pool_len: usize,
+    most_atoms: usize,
+    most_source: usize,
+}
+
+/// The header of version 1 or 2.
+fn header(bytes: &[u8]) -> Option<Header> {
+    let number = |low: u8, high: u8| usize::from(u16::from_le_bytes([low, high]));
+    match *bytes {
+        [b'M', b'P', b'T', 1, 0, atoms, p0, p1, ..] => Some(Header {
+            len: 8,
+            atoms: usize::from(atoms),
+            pool_len: number(p0, p1),
+            most_atoms: 64,
+            most_source: 512,
+        }),
+        [b'M', b'P', b'T', 2, 0, a0, a1, p0, p1, ..] => Some(Header {
+            len: 9,
+            atoms: number(a0, a1),
+            pool_len: number(p0, p1),
+            most_atoms: ATOMS,
+            most_source: SOURCE,
+        }),
+        _ => None,
+    }
+}
+
+/// The atom count of a good table.
+pub fn atoms(table: &[u8]) -> usize {
+    header(table).map_or(0, |header| header.atoms)
+}
+
+/// The scratch bytes of a match with a good table.
+pub fn work(table: &[u8], label_len: usize) -> usize {
+    work_of(atoms(table), label_len)
+}
+
+fn work_of(atoms: usize, label_len: usize) -> usize {
+    (2 * atoms + 4) * (label_len + 1) * (label_len + 1)
 }
 
 /// A table by its atom count, records and pool.
@@ -245,6 +317,27 @@ impl Table<'_> {
         }
     }
 
+    /// Ends a branch with atom `r` and the groups that end with it, given the open groups and
+    /// their branches to come; whether the pattern ends too, or None if a group ends elsewhere.
+    fn close(&self, r: usize, open: &mut [(usize, usize); 8], depth: &mut usize) -> Option<bool> {
+        while *depth > 0 {
+            let (group, branches) = &mut open[*depth - 1];
+            *branches -= 1;
+            if *branches > 0 {
+                return Some(false);
+            }
+            let closed = self.record(*group);
+            if closed.b != r + 1 {
+                return None;
+            }
+            *depth -= 1;
+            if !closed.last {
+                return Some(false);
+            }
+        }
+        Some(true)
+    }
+
     /// The number of top-level atoms.
     pub fn tops(&self) -> usize {
         let mut tops = 1;
@@ -266,23 +359,25 @@ fn digits(number: u16) -> usize {
     }
 }
 
-fn count_len(low: u16, high: u16) -> usize {
-    if low == high {
-        return digits(low);
+/// The length of the shortest count with these two numbers, or None if no count has them.
+fn count_len(low: u16, high: u16) -> Option<usize> {
+    if low > 9_999 || (high != OPEN && (high > 9_999 || high < low)) {
+        return None;
     }
-    1 + if low == 0 { 0 } else { digits(low) } + if high == OPEN { 0 } else { digits(high) }
+    if low == high {
+        return Some(digits(low));
+    }
+    let low_len = if low == 0 { 0 } else { digits(low) };
+    let high_len = if high == OPEN { 0 } else { digits(high) };
+    Some(low_len + 1 + high_len)
 }
 
-/// A good table with the length of its shortest source, or None.
-pub fn test(bytes: &[u8]) -> Option<(Table<'_>, usize)> {
-    let (header, rest) = bytes.split_first_chunk::<8>()?;
-    let atoms = usize::from(header[5]);
-    let pool_len = usize::from(u16::from_le_bytes([header[6], header[7]]));
-    if header[..5] != *b"MPT\x01\x00"
-        || atoms == 0
-        || atoms > 64
-        || rest.len() != 10 * atoms + pool_len
-    {
+/// A table as its header and length allow, records untested, and its version's limit of source.
+fn split(bytes: &[u8]) -> Option<(Table<'_>, usize)> {
+    let header = header(bytes)?;
+    let atoms = header.atoms;
+    let rest = &bytes[header.len..];
+    if atoms == 0 || atoms > header.most_atoms || rest.len() != 10 * atoms + header.pool_len {
         return None;
     }
     let (records, pool) = rest.split_at(10 * atoms);
@@ -291,32 +386,44 @@ pub fn test(bytes: &[u8]) -> Option<(Table<'_>, usize)> {
         records: records.as_chunks().0,
         pool,
     };
-    let mut open = [(0, 0); 8];
-    let mut depth = 0;
-    let mut pool_at = 0;
-    let mut len = 0;
-    for r in 0..atoms {
-        let record = table.record(r);
-        let Record {
-            low, high, a, b, ..
-        } = record;
-        if table.records[r][1] > 1 || low > 9_999 || (high != OPEN && (high > 9_999 || high < low))
-        {
+    Some((table, header.most_source))
+}
+
+/// The length of a literal in source, or None if it has a byte that none has.
+fn literal_len(value: &[u8]) -> Option<usize> {
+    let mut len = 2 + value.len();
+    for &byte in value {
+        if !(32..=126).contains(&byte) {
             return None;
         }
-        len += count_len(low, high);
-        match record.kind {
+        len += usize::from(byte == b'"');
+    }
+    Some(len)
+}
+
+/// A good table with the length of its shortest source, or None.
+pub fn test(bytes: &[u8]) -> Option<(Table<'_>, usize)> {
+    let (table, most_source) = split(bytes)?;
+    let (mut open, mut depth) = ([(0, 0); 8], 0);
+    let (mut pool_at, mut len) = (0, 0);
+    for r in 0..table.atoms {
+        let Record {
+            kind,
+            last,
+            low,
+            high,
+            a,
+            b,
+        } = table.record(r);
+        if table.records[r][1] > 1 {
+            return None;
+        }
+        len += count_len(low, high)?;
+        match kind {
             1 if (1..128).contains(&a) && b == 0 => len += a.count_ones() as usize,
             2 if a == pool_at => {
-                let value = pool.get(a..a + b)?;
+                len += literal_len(table.pool.get(a..a + b)?)?;
                 pool_at += b;
-                len += 2 + b;
-                for &byte in value {
-                    if !(32..=126).contains(&byte) {
-                        return None;
-                    }
-                    len += usize::from(byte == b'"');
-                }
             }
             3 if depth < 8 && a > 0 => {
                 open[depth] = (r, a);
@@ -326,27 +433,13 @@ pub fn test(bytes: &[u8]) -> Option<(Table<'_>, usize)> {
             }
             _ => return None,
         }
-        let mut last = record.last;
-        while last && depth > 0 {
-            let (group, branches) = &mut open[depth - 1];
-            *branches -= 1;
-            if *branches > 0 {
-                last = false;
-                break;
-            }
-            let closed = table.record(*group);
-            if closed.b != r + 1 {
-                return None;
-            }
-            last = closed.last;
-            depth -= 1;
-        }
         // The pattern ends with the last record, and no earlier.
-        if (last && depth == 0) != (r + 1 == atoms) {
+        let ends = last && table.close(r, &mut open, &mut depth)?;
+        if ends != (r + 1 == table.atoms) {
             return None;
         }
     }
-    (depth == 0 && pool_at == pool_len && len <= 512).then_some((table, len))
+    (depth == 0 && pool_at == table.pool.len() && len <= most_source).then_some((table, len))
 }
 
 /// Whether the table is good.
@@ -592,7 +685,7 @@ pub fn match_tested<T: Trials, const PLACE: usize>(
         return Err((12, 0));
     }
     let w = label.len() + 1;
-    let work = (2 * table.atoms + 4) * w * w;
+    let work = work_of(table.atoms, label.len());
     if scratch.len() < work {
         return Err((13, 0));
     }

@@ -4,7 +4,7 @@
 use crate::plain::{Refusal, Verdict};
 use crate::rounds::Rounds;
 use crate::tables::table_of;
-use crate::{plain_registers, proved};
+use crate::{plain, plain_registers, proved};
 use std::hint::black_box;
 
 type Init = fn(&mut [u8]) -> Result<(), Refusal>;
@@ -81,7 +81,7 @@ impl Kept {
 fn match_row(kept: Kept, label: &[u8], rounds: usize) {
     let register = kept.filled(&LIBRARY);
     assert!(register == kept.filled(&PLAIN));
-    let work = (2 * usize::from(kept.table[5]) + 4) * (label.len() + 1) * (label.len() + 1);
+    let work = plain::work(&kept.table, label.len());
     let mut outputs = [(); 3].map(|()| (vec![0; work], [255; 128]));
     let [library, plain, single] = &mut outputs;
     let by_number = |calls: &Calls, (scratch, parts): &mut (Vec<u8>, [u8; 128])| {
