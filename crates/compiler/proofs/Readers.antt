@@ -41,7 +41,7 @@ use Rattle.scanner.proofs.Places.{letter-place, class-letter}
 use Rattle.compiler.proofs.Descent.{codes-enter, literal-enter, group-enter, group-deep, body-form, atom-next, depth-next, flag-count, flag-one, group-closes, pattern-parts, branch-form}
 use Rattle.compiler.proofs.Written.{wrote-leaf, wrote-group, wrote-last, wrote-then, wrote-only, wrote-or}
 
-pub count-is : (s : Bytes) (i n : ℕ) (r : CountResult) (rep : Repeat) (next : Cursor) → r ≡ counted.Repeat rep next → CountPost s i n r → CountIs s i n rep next
+pub count-is : (s : Bytes) (i n : ℕ) (r : CountResult) (rep : Repeat) (next : Cursor) → r ≡ counted.Repeat next rep → CountPost s i n r → CountIs s i n rep next
 unfolding CountPost
 count-is s i n r rep next e h = subst (λ r. CountPost s i n r) e h
 

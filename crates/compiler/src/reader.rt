@@ -131,7 +131,7 @@ fn read_atom(s: &[u8], st: ReaderState, depth: usize, recs: &mut [u8], pool: &mu
     let n = st.atoms;
     let p = st.pool;
     match count(s, at, n) {
-        CountResult::Repeat(rep, next) => match next.class(s) {
+        CountResult::Repeat(next, rep) => match next.class(s) {
             Class::Letter(b, after) => read_codes(s, b, after, rep, n, p, recs),
             Class::Quote(after) => read_literal(s, after, rep, n, p, recs, pool),
             Class::Opening(after) => {

@@ -100,10 +100,10 @@ module _ (s : Bytes) (i n : ℕ) where
       rw (falls-fields (low r) (high r) f) (go (falls (low r) (high r)) (λ k. h .scan k n ∙ tested-as _ _ (ap (λ x. refuse (atom-rows n x)) l ∙ fit-fault n r f)))
     where
       go : (b : Bool) → Answers (λ k. elim (refuse ((b, RANGE) ∷ (leb atom-limit n, ATOMS) ∷ [])) [ none ↦ scanned s (counting r, k) (end .at) (suc n) | some f ↦ refused f i ])
-          → CountPost s i n (cond b (counted.Fault RANGE i) (within-atoms n i (counted.Repeat (repeat-of (low r) (high r)) end)))
+          → CountPost s i n (cond b (counted.Fault RANGE i) (within-atoms n i (counted.Repeat end (repeat-of (low r) (high r)))))
       go true a = refused-here RANGE i (unfold refuse in a)
       go false a =
-          atoms-tested (λ k. scanned s (counting r, k) (end .at) (suc n)) (counted.Repeat (repeat-of (low r) (high r)) end) (unfold refuse in a)
+          atoms-tested (λ k. scanned s (counting r, k) (end .at) (suc n)) (counted.Repeat end (repeat-of (low r) (high r))) (unfold refuse in a)
           (λ l a. unfold CountPost in record { state = r; begun = λ e. subst NotEmpty e d; rep-is = refl; onward = o; room = l; stops = t; scan = a })
 
 -- what the reader of digits found
@@ -215,7 +215,7 @@ module _ (n start : ℕ) (r : CountRead) where
     unfolding judged
     judged-range h = rw e (simp (lt-ltb (rep .high) (rep .low) h))
 
-    pub judged-repeat : rep .low ≤ rep .high → within-atoms n start (counted.Repeat rep end) ≡ judged n start r
+    pub judged-repeat : rep .low ≤ rep .high → within-atoms n start (counted.Repeat end rep) ≡ judged n start r
     unfolding judged
     judged-repeat h = rw e (simp (le-ltb (rep .high) (rep .low) h))
 

@@ -1,7 +1,7 @@
 -- What the byte at a place says of it. Assumes nothing.
 use mathlib.Core.Path.{_≡_, refl, sym, ap, _∙_, subst}
 use mathlib.Core.Bool.{Bool, true, false, not, cond}
-use Prim.Native.Nat.{ℕ, _-_, _≤_, _<_}
+use Prim.Native.Nat.{ℕ, _-_, _≤_, _<_, _/_, _%_}
 use native.Mathlib.Omega.{arith}
 use lib.Dec.{leb, eqb}
 use lib.ListN.{length}
@@ -24,9 +24,9 @@ pub digit-test : (b : ℕ) → b < 256 → cond (leb 48 b) (leb b 57) false ≡ 
 unfolding is-digit char-class between all agree
 digit-test b h = agreed _ _ (all-at 256 (λ b. agree (cond (leb 48 b) (leb b 57) false) (is-digit b)) tt b h)
 
-pub letter-test : (b : ℕ) → b < 256 → cond (leb b 90) (leb 65 b) (cond (leb 97 b) (leb b 122) false) ≡ is-letter b
+pub letter-test : (b : ℕ) → b < 256 → cond (eqb (b / 64) 1) (cond (leb 1 (b % 32)) (leb (b % 32) 26) false) false ≡ is-letter b
 unfolding is-letter char-class between all agree
-letter-test b h = agreed _ _ (all-at 256 (λ b. agree (cond (leb b 90) (leb 65 b) (cond (leb 97 b) (leb b 122) false)) (is-letter b)) tt b h)
+letter-test b h = agreed _ _ (all-at 256 (λ b. agree (cond (eqb (b / 64) 1) (cond (leb 1 (b % 32)) (leb (b % 32) 26) false) false) (is-letter b)) tt b h)
 
 pub plain-test : (b : ℕ) → b < 256 → cond (eqb b 34) false (cond (leb 32 b) (leb b 126) false) ≡ is-plain b
 unfolding is-plain literal-class between all agree

@@ -81,7 +81,7 @@ within-atoms n start found = cond (leb atom-limit n) (counted.Fault ATOMS start)
 
 -- the refusals of what was read, in their order
 unfoldable pub judged : (n start : ℕ) → CountRead → CountResult
-judged n start (count-read.Repeat rep end) = cond (ltb (rep .high) (rep .low)) (counted.Fault RANGE start) (within-atoms n start (counted.Repeat rep end))
+judged n start (count-read.Repeat rep end) = cond (ltb (rep .high) (rep .low)) (counted.Fault RANGE start) (within-atoms n start (counted.Repeat end rep))
 judged n start (count-read.Large p) = within-atoms n start (counted.Fault NUMBER p)
 judged n start count-read.None = counted.Fault FORM start
 
@@ -99,7 +99,7 @@ pub record CountRefused (s : Bytes) (i n f p : ℕ) : Type 0 where
   pub scan : (k : Stack) → scanned s (counting empty, k) i n ≡ refused f p
 
 unfoldable pub CountPost : Bytes → (i n : ℕ) → CountResult → Type 0
-CountPost s i n (counted.Repeat rep next) = CountIs s i n rep next
+CountPost s i n (counted.Repeat next rep) = CountIs s i n rep next
 CountPost s i n (counted.Fault f p) = CountRefused s i n f p
 
 -- what was read is right, of whatever atom it is judged

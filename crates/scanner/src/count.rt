@@ -24,7 +24,7 @@ enum CountRead {
 }
 
 pub enum CountResult {
-    Repeat(Repeat, Cursor),
+    Repeat(Cursor, Repeat),
     Fault(u32, usize),
 }
 
@@ -108,7 +108,7 @@ fn judge(read: CountRead, n: usize, start: usize) -> CountResult
             if rep.high < rep.low {
                 CountResult::Fault(refusal::RANGE, start)
             } else {
-                within_atoms(n, start, CountResult::Repeat(rep, end))
+                within_atoms(n, start, CountResult::Repeat(end, rep))
             }
         }
         CountRead::Large(p) => within_atoms(n, start, CountResult::Fault(refusal::NUMBER, p)),

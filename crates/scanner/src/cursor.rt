@@ -55,10 +55,9 @@ fn is_digit(b: u8) -> bool
 fn is_letter(b: u8) -> bool
     ensures { λ r. ⌜ r ≡ is-letter b ⌝ }
 {
-    if b <= b'Z' {
-        b'A' <= b
-    } else if b'a' <= b {
-        b <= b'z'
+    if b / 64 == 1 {
+        let place = b % 32;
+        if 1 <= place { place <= 26 } else { false }
     } else {
         false
     }

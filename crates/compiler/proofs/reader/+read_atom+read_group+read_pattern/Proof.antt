@@ -77,8 +77,8 @@ read-pattern-claims t = (read-atom-below t, read-atom.Post, last-reads.Asked, la
 
 -- what is known where a count was read: the count, and that the reader was ready
 read-atom-counted : (t : ℕ) (c : read-atom-lts.After-known-told (read-atom-claims t) (read-atom-at t) read-atom.Post)
-    → CountIs (c .before .before .before .before .before .before .before .before .args .s .now) (c .before .before .before .before .before .before .before .before .args .st .at .at) (c .before .before .before .before .before .before .before .before .args .st .atoms) (c .before .rep .given .0 .0) (c .before .rep .given .0 .1 .0)
-read-atom-counted t c = count-is _ _ _ _ _ _ (c .before .rep .given .1) (c .before .before .before .count .ensures)
+    → CountIs (c .before .before .before .before .before .before .before .before .args .s .now) (c .before .before .before .before .before .before .before .before .args .st .at .at) (c .before .before .before .before .before .before .before .before .args .st .atoms) (c .before .next .given .0 .1 .0) (c .before .next .given .0 .0)
+read-atom-counted t c = count-is _ _ _ _ _ _ (c .before .next .given .1) (c .before .before .before .count .ensures)
 
 read-atom-ready : (t : ℕ) (c : read-atom-lts.After-known-told (read-atom-claims t) (read-atom-at t) read-atom.Post) → ReadPre (c .before .before .before .before .before .before .before .before .args .s .now) (c .before .before .before .before .before .before .before .before .args .st) (c .before .before .before .before .before .before .before .before .args .depth)
 read-atom-ready t c = c .before .before .before .before .before .before .before .before .pre .1 .0
@@ -89,8 +89,8 @@ read-atom-room t c = c .before .before .before .before .before .before .before .
 read-atom-count-requires : (t : ℕ) → read-atom-lts.Need-count-requires (read-atom-claims t) (read-atom-at t) read-atom.Post
 read-atom-count-requires t c κs = c .before .before .before .before .pre .1 .0 .within
 
-read-atom-enum-known-rep : (t : ℕ) → read-atom-lts.Need-enum-known-rep (read-atom-claims t) (read-atom-at t) read-atom.Post
-read-atom-enum-known-rep t c = search needs
+read-atom-enum-known-next : (t : ℕ) → read-atom-lts.Need-enum-known-next (read-atom-claims t) (read-atom-at t) read-atom.Post
+read-atom-enum-known-next t c = search needs
 
 read-atom-class-requires : (t : ℕ) → read-atom-lts.Need-class-requires (read-atom-claims t) (read-atom-at t) read-atom.Post
 read-atom-class-requires t c κs = search needs
@@ -411,7 +411,7 @@ pub +read-atom+read-group+read-pattern-spec : {M : Type 1} → statement M
 +read-atom+read-group+read-pattern-spec =
     close μ-read-atom μ-read-group μ-read-pattern (λ t. read-atom-lts.spec (read-atom-claims t) (read-atom-at t) read-atom.Post
     (read-atom-count-requires t)
-    (read-atom-enum-known-rep t)
+    (read-atom-enum-known-next t)
     (read-atom-class-requires t)
     (read-atom-enum-known-b t)
     (read-atom-read-codes-requires t)
