@@ -7,14 +7,16 @@ mod matching;
 mod register;
 mod source;
 mod table;
+mod version;
 
 pub use batch::{cut, match_batch, Batch};
 pub use matching::{match_label, part_bytes, Matched};
 pub use register::{
     register_init, register_match, register_remove, register_store, Register, REGISTER_LEAST,
 };
-pub use source::compile;
+pub use source::{compile, compile_to};
 pub use table::{good, write_back};
+pub use version::{Version, VERSION_1, VERSION_2};
 
 /// A refusal by its number and position, as the table of refusals gives them.
 #[derive(Clone, Copy, Debug, PartialEq, Eq)]
@@ -42,8 +44,6 @@ pub const FULL: u32 = 17;
 pub const REGISTER: u32 = 18;
 pub const MISSING: u32 = 19;
 
-pub const SOURCE_MOST: usize = 512;
-pub const ATOMS_MOST: usize = 64;
 pub const DEPTH_MOST: usize = 8;
 pub const NUMBER_MOST: u32 = 9_999;
 pub const LABEL_MOST: usize = 255;

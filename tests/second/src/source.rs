@@ -1,8 +1,8 @@
 //! Source to table. A state machine traces the source byte by byte; the
 //! faults and the records are then read off the trace, each on its own.
 
-use crate::{Refusal, ATOMS, ATOMS_MOST, CODE, CODES, DEPTH, DEPTH_MOST, FORM, LONG, NUMBER};
-use crate::{NUMBER_MOST, OPEN, RANGE, ROOM, SOURCE_MOST};
+use crate::{Refusal, Version, ATOMS, CODE, CODES, DEPTH, DEPTH_MOST, FORM, LONG, NUMBER};
+use crate::{NUMBER_MOST, OPEN, RANGE, ROOM, VERSION_2};
 
 /// Where a source stands after a byte.
 #[derive(Clone, Copy, PartialEq)]
@@ -136,14 +136,22 @@ fn code_faults(source: &[u8], places: &[Place]) -> Vec<usize> {
         .collect()
 }
 
-/// The digits at which a number, the first or second of its count, first exceeds 9,999.
+/// The digit at which a number first exceeds 9,999.
+fn digit_over(digits: &[u8]) -> Option<usize> {
+    let mut value = 0;
+    digits.iter().position(|digit| {
+        value = 10 * value + u32::from(digit - b'0');
+        value > NUMBER_MOST
+    })
+}
+
+/// The places of these digits, for the first and second number of each count.
 fn number_faults(source: &[u8], counts: &[Count]) -> Vec<usize> {
     let mut faults = Vec::new();
     for count in counts {
         let mut start = count.start;
         for digits in source[count.start..count.end].split(|&b| b == b'.') {
-            let over = |&last: &usize| number(&digits[..=last]) > Some(NUMBER_MOST);
-            faults.extend((0..digits.len()).find(over).map(|last| start + last));
+            faults.extend(digit_over(digits).map(|digit| start + digit));
             start += digits.len() + 1;
         }
     }
@@ -162,12 +170,8 @@ fn range_faults(source: &[u8], counts: &[Count]) -> Vec<usize> {
         .collect()
 }
 
-fn atom_faults(counts: &[Count]) -> Vec<usize> {
-    counts
-        .iter()
-        .skip(ATOMS_MOST)
-        .map(|count| count.start)
-        .collect()
+fn atom_faults(counts: &[Count], most: usize) -> Vec<usize> {
+    counts.iter().skip(most).map(|count| count.start).collect()
 }
 
 fn depth_faults(source: &[u8], places: &[Place]) -> Vec<usize> {
@@ -176,78 +180,92 @@ fn depth_faults(source: &[u8], places: &[Place]) -> Vec<usize> {
         .collect()
 }
 
-/// The table of a source without faults.
-fn records(source: &[u8], places: &[Place], counts: &[Count]) -> Vec<u8> {
-    let mut records = Vec::new();
-    let mut pool = Vec::new();
+/// What a body gives to its record: kind, a, b, and the first place after it.
+struct Body {
+    kind: u8,
+    a: usize,
+    b: usize,
+    after: usize,
+}
+
+/// The first place from `body` on whose state is another one than these.
+fn end_of(places: &[Place], body: usize, states: &[State]) -> usize {
+    let other = |place: &Place| !states.contains(&place.state);
+    let len = places[body..].iter().position(other);
+    len.map_or(places.len(), |len| body + len)
+}
+
+fn codes_body(source: &[u8], places: &[Place], body: usize) -> Body {
+    let after = end_of(places, body, &[Codes]);
+    let letters = source[body..after].to_ascii_uppercase();
+    let bits = (0..7).filter(|&bit| letters.contains(&CODES[bit]));
+    Body {
+        kind: 1,
+        a: bits.map(|bit| 1 << bit).sum(),
+        b: 0,
+        after,
+    }
+}
+
+/// The value goes to the pool.
+fn literal_body(source: &[u8], places: &[Place], body: usize, pool: &mut Vec<u8>) -> Body {
+    let after = end_of(places, body, &[Literal, Quote]);
+    let a = pool.len();
+    let value = (body + 1..after).filter(|&p| places[p].state == Literal);
+    pool.extend(value.map(|p| source[p]));
+    Body {
+        kind: 2,
+        a,
+        b: pool.len() - a,
+        after,
+    }
+}
+
+fn group_body(source: &[u8], places: &[Place], body: usize, counts: &[Count]) -> Body {
+    let inside = places[body].depth;
+    let close = (body..source.len())
+        .find(|&p| places[p].depth < inside)
+        .unwrap();
+    let parts_branches =
+        |p: &usize| source[*p] == b',' && places[*p].state == Begin && places[*p].depth == inside;
+    Body {
+        kind: 3,
+        a: 1 + (body..close).filter(parts_branches).count(),
+        b: counts.iter().filter(|c| c.start < close).count(),
+        after: close + 1,
+    }
+}
+
+/// The records and the pool of a source without faults.
+fn records(source: &[u8], places: &[Place], counts: &[Count]) -> (Vec<u8>, Vec<u8>) {
+    let (mut records, mut pool) = (Vec::new(), Vec::new());
     for count in counts {
-        let body = count.end;
-        let kind: u8;
-        let a: usize;
-        let b: usize;
-        // The first place after the body.
-        let mut after = body;
-        match places[body].state {
-            Codes => {
-                while after < source.len() && places[after].state == Codes {
-                    after += 1;
-                }
-                let has = |letter: &u8| source[body..after].to_ascii_uppercase().contains(letter);
-                kind = 1;
-                a = (0..7)
-                    .filter(|&bit| has(&CODES[bit]))
-                    .map(|bit| 1 << bit)
-                    .sum();
-                b = 0;
-            }
-            Literal => {
-                while after < source.len() && matches!(places[after].state, Literal | Quote) {
-                    after += 1;
-                }
-                kind = 2;
-                a = pool.len();
-                pool.extend(
-                    (body + 1..after)
-                        .filter(|&p| places[p].state == Literal)
-                        .map(|p| source[p]),
-                );
-                b = pool.len() - a;
-            }
-            _ => {
-                let inside = places[body].depth;
-                let close = (body..source.len())
-                    .find(|&p| places[p].depth < inside)
-                    .unwrap();
-                let parts_branches = |p: &usize| {
-                    source[*p] == b',' && places[*p].state == Begin && places[*p].depth == inside
-                };
-                after = close + 1;
-                kind = 3;
-                a = 1 + (body..close).filter(parts_branches).count();
-                b = counts.iter().filter(|c| c.start < close).count();
-            }
-        }
-        let last = after == source.len() || matches!(source[after], b',' | b')');
+        let body = match places[count.end].state {
+            Codes => codes_body(source, places, count.end),
+            Literal => literal_body(source, places, count.end, &mut pool),
+            _ => group_body(source, places, count.end, counts),
+        };
+        let last = body.after == source.len() || matches!(source[body.after], b',' | b')');
         let (low, high) = count.low_high(source);
-        records.extend([kind, u8::from(last)]);
-        for field in [low, high, a as u16, b as u16] {
+        records.extend([body.kind, u8::from(last)]);
+        for field in [low, high, body.a as u16, body.b as u16] {
             records.extend(field.to_le_bytes());
         }
     }
-    let mut table = b"MPT\x01\x00".to_vec();
-    table.push(counts.len() as u8);
-    table.extend((pool.len() as u16).to_le_bytes());
-    table.extend(records);
-    table.extend(pool);
-    table
+    (records, pool)
 }
 
 /// Compiles a source to a table of at most `room` bytes.
 pub fn compile(source: &[u8], room: usize) -> Result<Vec<u8>, Refusal> {
-    if source.len() > SOURCE_MOST {
+    compile_to(VERSION_2, source, room)
+}
+
+/// The same by the limits of a version and with its header: the version 1 table of a source too.
+pub fn compile_to(version: Version, source: &[u8], room: usize) -> Result<Vec<u8>, Refusal> {
+    if source.len() > version.source_most {
         return Err(Refusal {
             number: LONG,
-            position: SOURCE_MOST,
+            position: version.source_most,
         });
     }
     let (places, form) = trace(source);
@@ -257,7 +275,7 @@ pub fn compile(source: &[u8], room: usize) -> Result<Vec<u8>, Refusal> {
         (CODE, code_faults(source, &places)),
         (NUMBER, number_faults(source, &counts)),
         (RANGE, range_faults(source, &counts)),
-        (ATOMS, atom_faults(&counts)),
+        (ATOMS, atom_faults(&counts, version.atoms_most)),
         (DEPTH, depth_faults(source, &places)),
     ];
     let each = faults
@@ -266,7 +284,9 @@ pub fn compile(source: &[u8], room: usize) -> Result<Vec<u8>, Refusal> {
     if let Some((position, number)) = each.min() {
         return Err(Refusal { number, position });
     }
-    let table = records(source, &places, &counts);
+    let (records, pool) = records(source, &places, &counts);
+    let header = version.header(counts.len(), pool.len());
+    let table = [header, records, pool].concat();
     if table.len() > room {
         return Err(Refusal {
             number: ROOM,

@@ -1,10 +1,8 @@
 //! Table to source. A table is good when the source printed from it
-//! compiles to the same bytes.
+//! compiles to the same bytes by the limits of its version.
 
-use crate::{compile, Refusal, CODES, OPEN, ROOM, TABLE};
-
-pub(crate) const HEADER: usize = 8;
-pub(crate) const RECORD: usize = 10;
+use crate::version::RECORD;
+use crate::{compile_to, Refusal, Version, CODES, OPEN, ROOM, TABLE};
 
 #[derive(Clone, Copy)]
 pub(crate) struct Record {
@@ -18,8 +16,10 @@ pub(crate) struct Record {
 
 /// The records and the pool, as far as the lengths allow; nothing else is looked at.
 pub(crate) fn decode(table: &[u8]) -> Option<(Vec<Record>, &[u8])> {
-    let atoms = usize::from(*table.get(5)?);
-    let pool = table.get(HEADER + RECORD * atoms..)?;
+    let version = Version::of(table)?;
+    let atoms = version.atom_count(table)?;
+    let after = table.get(version.header_len()..)?;
+    let (records, pool) = after.split_at_checked(RECORD * atoms)?;
     let record = |bytes: &[u8]| {
         let field = |at: usize| u16::from_le_bytes([bytes[at], bytes[at + 1]]);
         Record {
@@ -31,11 +31,8 @@ pub(crate) fn decode(table: &[u8]) -> Option<(Vec<Record>, &[u8])> {
             b: field(8),
         }
     };
-    let records = table[HEADER..HEADER + RECORD * atoms]
-        .chunks_exact(RECORD)
-        .map(record)
-        .collect();
-    Some((records, pool))
+    let records = records.chunks_exact(RECORD).map(record);
+    Some((records.collect(), pool))
 }
 
 fn count_text(low: u16, high: u16) -> String {
@@ -48,12 +45,39 @@ fn count_text(low: u16, high: u16) -> String {
     }
 }
 
+fn literal_text(value: &[u8]) -> Vec<u8> {
+    let mut text = vec![b'"'];
+    for &byte in value {
+        text.extend(vec![byte; if byte == b'"' { 2 } else { 1 }]);
+    }
+    text.push(b'"');
+    text
+}
+
+/// What follows an atom: the ends of its branch and of groups. For each open group: the branches
+/// still to end, and the group's own last.
+fn end_text(mut last: u8, open: &mut Vec<(u16, u8)>) -> Vec<u8> {
+    let mut text = Vec::new();
+    while last == 1 {
+        let Some((branches, group_last)) = open.pop() else {
+            break;
+        };
+        if branches > 1 {
+            text.push(b',');
+            open.push((branches - 1, group_last));
+            break;
+        }
+        text.push(b')');
+        last = group_last;
+    }
+    text
+}
+
 /// The shortest source with this structure, if the table has one at all.
 fn print(table: &[u8]) -> Option<Vec<u8>> {
     let (records, pool) = decode(table)?;
     let mut source = Vec::new();
-    // For each open group: the branches still to end, and the group's own last.
-    let mut open: Vec<(u16, u8)> = Vec::new();
+    let mut open = Vec::new();
     for record in records {
         source.extend(count_text(record.low, record.high).bytes());
         match record.kind {
@@ -65,15 +89,7 @@ fn print(table: &[u8]) -> Option<Vec<u8>> {
             2 => {
                 let start = usize::from(record.a);
                 let value = pool.get(start..start + usize::from(record.b))?;
-                source.push(b'"');
-                for &byte in value {
-                    source.extend(if byte == b'"' {
-                        vec![byte; 2]
-                    } else {
-                        vec![byte]
-                    });
-                }
-                source.push(b'"');
+                source.extend(literal_text(value));
             }
             3 => {
                 source.push(b'(');
@@ -82,26 +98,15 @@ fn print(table: &[u8]) -> Option<Vec<u8>> {
             }
             _ => return None,
         }
-        let mut last = record.last;
-        while last == 1 {
-            let Some((branches, group_last)) = open.pop() else {
-                break;
-            };
-            if branches > 1 {
-                source.push(b',');
-                open.push((branches - 1, group_last));
-                break;
-            }
-            source.push(b')');
-            last = group_last;
-        }
+        source.extend(end_text(record.last, &mut open));
     }
     Some(source)
 }
 
 fn source_of(table: &[u8]) -> Option<Vec<u8>> {
     let source = print(table)?;
-    (compile(&source, usize::MAX).ok()? == table).then_some(source)
+    let compiled = compile_to(Version::of(table)?, &source, usize::MAX).ok()?;
+    (compiled == table).then_some(source)
 }
 
 /// Whether some accepted source compiles to this table.

@@ -82,7 +82,7 @@ fn examples_of_refusals() {
     assert_eq!(refusal(b"3Q"), (CODE, 1));
     assert_eq!(refusal(b"3.10000N"), (NUMBER, 6));
     assert_eq!(refusal(b"20000N"), (NUMBER, 4));
-    assert!(compile(b"9999N", 18).is_ok());
+    assert!(compile(b"9999N", 19).is_ok());
 }
 
 #[test]
@@ -94,10 +94,10 @@ fn digits_of_numbers() {
     assert_eq!(refusal(b"9999.010000N"), (NUMBER, 10));
     assert_eq!(refusal(b".10000N"), (NUMBER, 5));
     assert_eq!(refusal(b"1(3U,100000000000000000000N)"), (NUMBER, 9));
-    assert!(compile(&[b"0".repeat(507), b"9999N".to_vec()].concat(), 18).is_ok());
+    assert!(compile(&[b"0".repeat(2_043), b"9999N".to_vec()].concat(), 19).is_ok());
     assert_eq!(
-        refusal(&[b"0".repeat(507), b"10000".to_vec()].concat()),
-        (NUMBER, 511)
+        refusal(&[b"0".repeat(2_043), b"10000".to_vec()].concat()),
+        (NUMBER, 2_047)
     );
     // Of the digit and the place of FORM the lesser one.
     assert_eq!(refusal(b"20000"), (NUMBER, 4));
@@ -116,7 +116,8 @@ fn digits_of_numbers() {
 
 #[test]
 fn order_of_refusals() {
-    assert_eq!(refusal(&[b'N'; 513]), (LONG, 512));
+    assert_eq!(refusal(&[b'N'; 2_049]), (LONG, 2_048));
+    assert_eq!(refusal(&[b'N'; 2_048]), (FORM, 0));
     assert_eq!(refusal(b"1.10000Q,"), (NUMBER, 6));
     assert_eq!(refusal(b"10000.3Q"), (NUMBER, 4));
     assert_eq!(refusal(b"1Q10000N"), (CODE, 1));
@@ -124,22 +125,22 @@ fn order_of_refusals() {
     assert_eq!(refusal(b"1\"\x1f"), (FORM, 2));
     assert_eq!(refusal(b"1\"a\"\""), (FORM, 5));
     let atoms = |count| b"1N".repeat(count);
-    assert!(compile(&atoms(64), usize::MAX).is_ok());
-    assert_eq!(refusal(&atoms(65)), (ATOMS, 128));
+    assert!(compile(&atoms(256), usize::MAX).is_ok());
+    assert_eq!(refusal(&atoms(257)), (ATOMS, 512));
     assert_eq!(
-        refusal(&[atoms(64), b"5.3N".to_vec()].concat()),
-        (RANGE, 128)
+        refusal(&[atoms(256), b"5.3N".to_vec()].concat()),
+        (RANGE, 512)
     );
     for over in [&b".10000N"[..], b"20000N", b"5.10000N", b"20000"] {
-        assert_eq!(refusal(&[&atoms(64), over].concat()), (ATOMS, 128));
-        assert_eq!(refusal(&[&atoms(63), over].concat()).0, NUMBER);
+        assert_eq!(refusal(&[&atoms(256), over].concat()), (ATOMS, 512));
+        assert_eq!(refusal(&[&atoms(255), over].concat()).0, NUMBER);
     }
-    assert_eq!(refusal(&[atoms(64), b",".to_vec()].concat()), (FORM, 128));
+    assert_eq!(refusal(&[atoms(256), b",".to_vec()].concat()), (FORM, 512));
     let nested = |depth| [b"1(".repeat(depth), b"1N".to_vec(), b")".repeat(depth)].concat();
     assert!(compile(&nested(8), usize::MAX).is_ok());
     assert_eq!(refusal(&nested(9)), (DEPTH, 17));
     assert_eq!(
-        compile(b"2N", 17),
+        compile(b"2N", 18),
         Err(Refusal {
             number: ROOM,
             position: 2
@@ -150,8 +151,8 @@ fn order_of_refusals() {
 #[test]
 fn bytes_of_tables() {
     let two_digits = [
-        0x4D, 0x50, 0x54, 0x01, 0x00, 0x01, 0x00, 0x00, 0x01, 0x01, 0x02, 0x00, 0x02, 0x00, 0x10,
-        0x00, 0x00, 0x00,
+        0x4D, 0x50, 0x54, 0x02, 0x00, 0x01, 0x00, 0x00, 0x00, 0x01, 0x01, 0x02, 0x00, 0x02, 0x00,
+        0x10, 0x00, 0x00, 0x00,
     ];
     assert_eq!(table(b"2N"), two_digits);
     assert_eq!(table(b"002n"), two_digits);
@@ -164,13 +165,13 @@ fn bytes_of_tables() {
     ];
     assert_eq!(
         grouped,
-        [&b"MPT\x01\x00\x04\x02\x00"[..], &records, b"a\""].concat()
+        [&b"MPT\x02\x00\x04\x00\x02\x00"[..], &records, b"a\""].concat()
     );
 }
 
 #[test]
 fn written_back() {
-    let back = |source: &[u8]| String::from_utf8(write_back(&table(source), 512).unwrap()).unwrap();
+    let back = |source: &[u8]| String::from_utf8(write_back(&table(source), 99).unwrap()).unwrap();
     assert_eq!(back(b"002n"), "2N");
     assert_eq!(back(b"0.0nNa"), "0AN");
     assert_eq!(back(b"0.7upnleca"), ".7ACELNPU");
@@ -204,11 +205,11 @@ fn damaged_tables() {
             let mut damaged = table.clone();
             damaged[at] = byte;
             let number = |at: usize| u16::from_le_bytes([damaged[at], damaged[at + 1]]);
-            let (low, high) = (number(10), number(12));
+            let (low, high) = (number(11), number(13));
             let fits = low <= 9_999 && low <= high && (high <= 9_999 || high == 65_535);
             let expected = match at {
-                10..=13 => fits,
-                14 => (1..128).contains(&byte),
+                11..=14 => fits,
+                15 => (1..128).contains(&byte),
                 _ => byte == table[at],
             };
             assert_eq!(good(&damaged), expected, "byte {at} is {byte}");
@@ -218,18 +219,6 @@ fn damaged_tables() {
         assert!(!good(&table[..length]));
     }
     assert!(!good(&[&table[..], &[0]].concat()));
-    // Four literals of 63 quotes print to 516 bytes, more than any source may have.
-    let long = [b"1\"".to_vec(), b"\"\"".repeat(63), b"\"".to_vec()].concat();
-    assert_eq!(long.len(), 129);
-    let mut over = compile(&long.repeat(3), 999).unwrap();
-    assert!(good(&over));
-    over[5] = 4;
-    over[6] = 252;
-    over[29] = 0;
-    let last = over.len() - 189;
-    over.splice(last..last, [2, 1, 1, 0, 1, 0, 189, 0, 63, 0]);
-    over.extend([b'"'; 63]);
-    assert!(!good(&over));
 }
 
 #[test]
@@ -357,4 +346,7 @@ fn line_tool() {
     assert_eq!(line::answer(&[&b"1N\t"[..], &[b'1'; 256]].concat()), "M 12");
     assert_eq!(line::answer(&[&b"1N\t"[..], &[b'1'; 104]].concat()), "M 13");
     assert_eq!(line::answer(&[&b".N\t"[..], &[b'1'; 103]].concat()), "M 15");
+    let eighty = [b"1N".repeat(80), b"\t".to_vec(), b"7".repeat(18)].concat();
+    assert_eq!(line::answer(&eighty), "0");
+    assert_eq!(line::answer(&[&eighty[..], b"7"].concat()), "M 13");
 }

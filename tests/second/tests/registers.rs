@@ -39,16 +39,16 @@ fn layout() {
     store(&mut buffer, 255, &two);
     store(&mut buffer, 1, &literal);
     let mut wanted = empty(1_100);
-    wanted[12] = 20;
-    wanted[1_028] = 18;
-    wanted[1_032..1_052].copy_from_slice(&literal);
-    wanted[1_052..1_070].copy_from_slice(&two);
+    wanted[12] = 21;
+    wanted[1_028] = 19;
+    wanted[1_032..1_053].copy_from_slice(&literal);
+    wanted[1_053..1_072].copy_from_slice(&two);
     assert_eq!(buffer, wanted);
     // The last bytes of the longer register stay behind the shorter one.
     let result = register_remove(&buffer, 1);
     write(&mut buffer, result);
     wanted[12] = 0;
-    wanted[1_032..1_050].copy_from_slice(&two);
+    wanted[1_032..1_051].copy_from_slice(&two);
     assert_eq!(buffer, wanted);
 }
 
@@ -64,8 +64,8 @@ fn lengths_of_buffers() {
         assert_eq!(matched.number, REGISTER);
     }
     assert_eq!(number(register_init(&[9; 1_032])), 0);
-    assert_eq!(number(register_store(&empty(1_049), 0, &two)), FULL);
-    assert_eq!(number(register_store(&empty(1_050), 0, &two)), 0);
+    assert_eq!(number(register_store(&empty(1_050), 0, &two)), FULL);
+    assert_eq!(number(register_store(&empty(1_051), 0, &two)), 0);
 }
 
 #[test]
@@ -117,7 +117,7 @@ fn order_of_refusals() {
 #[test]
 fn good_buffers() {
     let two = table(b"2N");
-    let mut buffer = empty(1_090);
+    let mut buffer = empty(1_092);
     store(&mut buffer, 0, &two);
     store(&mut buffer, 1, &two);
     let good = |change: &dyn Fn(&mut Vec<u8>)| {
@@ -132,11 +132,11 @@ fn good_buffers() {
     for at in 8..1_032 {
         assert!(!good(&|buffer| buffer[at] ^= 1));
     }
-    assert!(good(&|buffer| buffer.truncate(1_068)));
-    assert!(!good(&|buffer| buffer.truncate(1_067)));
-    assert!(good(&|buffer| buffer[1_068..].fill(0)));
-    assert!(!good(&|buffer| buffer[1_050] = 0));
-    // Two lengths of 18 for 0 and 1, or for 0 and 7, mean other maps.
+    assert!(good(&|buffer| buffer.truncate(1_070)));
+    assert!(!good(&|buffer| buffer.truncate(1_069)));
+    assert!(good(&|buffer| buffer[1_070..].fill(0)));
+    assert!(!good(&|buffer| buffer[1_051] = 0));
+    // Two lengths of 19 for 0 and 1, or for 0 and 7, mean other maps.
     assert!(good(&|buffer| buffer.swap(12, 36)));
     // Lengths whose sum wraps to the right one, and lengths past the end.
     let lens = |lens: [u32; 2]| {
@@ -145,9 +145,9 @@ fn good_buffers() {
             buffer[12..16].copy_from_slice(&lens[1].to_le_bytes());
         })
     };
-    assert!(lens([18, 18]) && lens([18, 0]) && lens([0, 18]) && lens([0, 0]));
-    assert!(!lens([17, 19]) && !lens([36, 0]) && !lens([18, 40]) && !lens([18, 41]));
-    assert!(!lens([u32::MAX, 37]) && !lens([18, u32::MAX]) && !lens([1 << 31, (1 << 31) + 36]));
+    assert!(lens([19, 19]) && lens([19, 0]) && lens([0, 19]) && lens([0, 0]));
+    assert!(!lens([18, 20]) && !lens([38, 0]) && !lens([19, 41]) && !lens([19, 42]));
+    assert!(!lens([u32::MAX, 39]) && !lens([19, u32::MAX]) && !lens([1 << 31, (1 << 31) + 38]));
 }
 
 #[test]
@@ -155,7 +155,7 @@ fn all_numbers() {
     let tables: Vec<Vec<u8>> = (0..=255)
         .map(|number: usize| table(format!("{number}N").as_bytes()))
         .collect();
-    let mut buffer = empty(REGISTER_LEAST + 256 * 18);
+    let mut buffer = empty(REGISTER_LEAST + 256 * 19);
     for number in (0..=255).rev() {
         store(&mut buffer, number, &tables[usize::from(number)]);
     }
@@ -165,4 +165,31 @@ fn all_numbers() {
         let yes = register_match(&buffer, number, &label, 999, 2, u64::MAX).verdict;
         assert_eq!(yes, number < 9);
     }
+}
+
+#[test]
+fn both_versions() {
+    let old = |source: &[u8]| compile_to(VERSION_1, source, usize::MAX).unwrap();
+    let mut buffer = empty(REGISTER_LEAST + 18 + 19);
+    store(&mut buffer, 8, &old(b"2N"));
+    store(&mut buffer, 3, &table(b"2N"));
+    assert_eq!(
+        buffer[REGISTER_LEAST..],
+        [table(b"2N"), old(b"2N")].concat()
+    );
+    for number in [3, 8] {
+        assert!(register_match(&buffer, number, b"42", 54, 2, 99).verdict);
+    }
+    // The same pattern in the other version is a byte longer, or shorter.
+    assert_eq!(number(register_store(&buffer, 8, &table(b"2N"))), FULL);
+    store(&mut buffer, 3, &old(b"3A"));
+    store(&mut buffer, 8, &table(b"2N"));
+    assert_eq!(
+        buffer[REGISTER_LEAST..],
+        [old(b"3A"), table(b"2N")].concat()
+    );
+    // By the old limits a version 1 table isn't good, here either.
+    let mut bad = table(&b"1N".repeat(65));
+    bad.splice(..9, *b"MPT\x01\x00\x41\x00\x00");
+    assert_eq!(number(register_store(&empty(2_000), 0, &bad)), TABLE);
 }
