@@ -4,6 +4,28 @@ use std::collections::HashMap;
 
 pub type Refusal = (u32, usize);
 
+/// What a version of tables has of its own.
+struct Version {
+    opening: &'static [u8; 5],
+    header: usize,
+    atoms: usize,
+    source: usize,
+}
+
+const OLD: Version = Version {
+    opening: b"MPT\x01\x00",
+    header: 8,
+    atoms: 64,
+    source: 512,
+};
+
+const NEW: Version = Version {
+    opening: b"MPT\x02\x00",
+    header: 9,
+    atoms: 256,
+    source: 2_048,
+};
+
 /// A repeat count and a body; no second number means no upper end.
 #[derive(Debug, PartialEq)]
 pub struct Atom {
@@ -77,7 +99,7 @@ impl Reader<'_> {
             return self.form();
         }
         self.atoms += 1;
-        if self.atoms > 64 {
+        if self.atoms > NEW.atoms {
             self.fault(6, start);
         }
         let low = first.unwrap_or(0);
@@ -158,8 +180,8 @@ impl Reader<'_> {
 
 /// Reads a source, or gives the refusal of 1 to 7.
 pub fn read(source: &[u8]) -> Result<Vec<Atom>, Refusal> {
-    if source.len() > 512 {
-        return Err((1, 512));
+    if source.len() > NEW.source {
+        return Err((1, NEW.source));
     }
     let mut reader = Reader {
         source,
@@ -229,8 +251,8 @@ pub fn size(atom: &Atom) -> usize {
 pub fn to_table(pattern: &[Atom]) -> Vec<u8> {
     let (mut records, mut pool) = (Vec::new(), Vec::new());
     put_records(pattern, 0, &mut records, &mut pool);
-    let mut table = b"MPT\x01\x00".to_vec();
-    table.push((records.len() / 10) as u8);
+    let mut table = NEW.opening.to_vec();
+    put(&mut table, records.len() / 10);
     put(&mut table, pool.len());
     [table, records, pool].concat()
 }
@@ -274,30 +296,38 @@ pub fn to_source(pattern: &[Atom]) -> Vec<u8> {
     source
 }
 
+/// A number of any width, the lowest byte first.
+fn number_in(bytes: &[u8]) -> usize {
+    let more = |number: usize, &byte: &u8| 256 * number + usize::from(byte);
+    bytes.iter().rev().fold(0, more)
+}
+
 /// Reads a table record by record, or None if it isn't good.
 pub fn from_table(table: &[u8]) -> Option<Vec<Atom>> {
-    if table.len() < 8 || table[..5] != *b"MPT\x01\x00" {
+    let named = |version: &Version| table.starts_with(version.opening);
+    let version = [OLD, NEW].into_iter().find(named)?;
+    let header = table.get(..version.header)?;
+    let (count, pool_len) = header[5..].split_at(version.header - 7);
+    let (atoms, pool_len) = (number_in(count), number_in(pool_len));
+    let fits = (1..=version.atoms).contains(&atoms);
+    if !fits || table.len() != version.header + 10 * atoms + pool_len {
         return None;
     }
-    let atoms = usize::from(table[5]);
-    let pool_len = usize::from(table[6]) + 256 * usize::from(table[7]);
-    if !(1..=64).contains(&atoms) || table.len() != 8 + 10 * atoms + pool_len {
-        return None;
-    }
+    let (records, pool) = table[version.header..].split_at(10 * atoms);
     let mut reader = TableReader {
-        table,
-        atoms,
+        records,
+        pool,
         at: 0,
         pool_at: 0,
     };
     let pattern = reader.branch(0)?;
     let whole = reader.at == atoms && reader.pool_at == pool_len;
-    (whole && to_source(&pattern).len() <= 512).then_some(pattern)
+    (whole && to_source(&pattern).len() <= version.source).then_some(pattern)
 }
 
 struct TableReader<'a> {
-    table: &'a [u8],
-    atoms: usize,
+    records: &'a [u8],
+    pool: &'a [u8],
     at: usize,
     pool_at: usize,
 }
@@ -315,10 +345,7 @@ impl TableReader<'_> {
     }
 
     fn atom(&mut self, depth: usize) -> Option<(Atom, bool)> {
-        if self.at == self.atoms {
-            return None;
-        }
-        let record = &self.table[8 + 10 * self.at..][..10];
+        let record = self.records.get(10 * self.at..10 * self.at + 10)?;
         let field = |at: usize| u32::from(record[at]) + 256 * u32::from(record[at + 1]);
         let (low, high, a, b) = (field(2), field(4), field(6) as usize, field(8) as usize);
         let high = (high != 65_535).then_some(high);
@@ -329,7 +356,7 @@ impl TableReader<'_> {
         let body = match record[0] {
             1 if (1..128).contains(&a) && b == 0 => Body::Codes(a as u16),
             2 if a == self.pool_at => {
-                let value = self.table[8 + 10 * self.atoms..].get(a..a + b)?;
+                let value = self.pool.get(a..a + b)?;
                 if value.iter().any(|byte| !(32..=126).contains(byte)) {
                     return None;
                 }

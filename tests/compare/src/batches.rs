@@ -3,7 +3,8 @@
 
 use crate::call::{Batch, Call, Case};
 use crate::fixed::changed_tables;
-use crate::tables::work;
+use crate::tables::{atom_count, work, PARTS_MOST};
+use second::{Version, VERSION_1, VERSION_2};
 
 pub fn ends_of(ends: &[usize]) -> Vec<u8> {
     let bytes = ends.iter().flat_map(|&end| (end as u16).to_le_bytes());
@@ -23,13 +24,17 @@ pub fn joined(labels: &[Vec<u8>]) -> (Vec<u8>, Vec<u8>) {
 }
 
 impl Batch {
-    /// Each output just as long as the labels need it, and no limit of the trials.
     fn of(source: &[u8], all: &[Vec<u8>]) -> Self {
-        let table = second::compile(source, usize::MAX).unwrap();
+        Self::in_version(VERSION_2, source, all)
+    }
+
+    /// Each output just as long as the labels need it, and no limit of the trials.
+    fn in_version(version: Version, source: &[u8], all: &[Vec<u8>]) -> Self {
+        let table = second::compile_to(version, source, usize::MAX).unwrap();
         let (labels, ends) = joined(all);
         let longest = all.iter().map(Vec::len).filter(|&len| len <= 255).max();
         Batch {
-            scratch_len: work(usize::from(table[5]), longest.unwrap_or(0)),
+            scratch_len: work(atom_count(&table), longest.unwrap_or(0)),
             verdicts_len: all.len(),
             parts_len: all.len() * second::part_bytes(&table).unwrap(),
             table,
@@ -56,7 +61,7 @@ impl Batch {
 
     /// The scratch of a label of `len` bytes.
     fn work(&self, len: usize) -> usize {
-        work(usize::from(self.table[5]), len)
+        work(atom_count(&self.table), len)
     }
 }
 
@@ -66,9 +71,9 @@ fn short(count: usize) -> Vec<Vec<u8>> {
     (0..count).map(label).collect()
 }
 
-/// A pattern of 64 parts, each of them empty or a byte.
-fn many_parts() -> Vec<u8> {
-    b".1N".repeat(64)
+/// A pattern of so many parts, each of them empty or a byte.
+fn many_parts(atoms: usize) -> Vec<u8> {
+    b".1N".repeat(atoms)
 }
 
 /// Each count about the ends of its range, of empty labels and of others, with whole ends, half an
@@ -93,9 +98,14 @@ fn counts() -> Vec<Call> {
 /// Verdicts and parts of every length about the one needed, and none at all.
 fn outputs() -> Vec<Call> {
     let mut calls = Vec::new();
-    for source in [b".3N".to_vec(), b".N1.N.A".to_vec(), many_parts()] {
+    for (version, source) in [
+        (VERSION_2, b".3N".to_vec()),
+        (VERSION_1, b".N1.N.A".to_vec()),
+        (VERSION_1, many_parts(VERSION_1.atoms_most)),
+        (VERSION_2, many_parts(VERSION_2.atoms_most)),
+    ] {
         for count in [1, 2, 5, 96] {
-            let batch = Batch::of(&source, &short(count));
+            let batch = Batch::in_version(version, &source, &short(count));
             let about = |len: usize| [0, len / 2, len - 1, len, len + 1, len + 200];
             for verdicts_len in about(batch.verdicts_len) {
                 calls.push(batch.with(|batch| batch.verdicts_len = verdicts_len));
@@ -169,16 +179,21 @@ fn long_labels() -> Vec<Call> {
 fn some_refused() -> Vec<Call> {
     let digits = |len: usize| b"0123456789".repeat(2)[..len].to_vec();
     let mut calls = Vec::new();
-    for source in [&b".2N.N"[..], b".(1N,2A)1N", b"1N.E"] {
+    for (version, source) in [
+        (VERSION_2, &b".2N.N"[..]),
+        (VERSION_1, b".(1N,2A)1N"),
+        (VERSION_1, b"1N.E"),
+    ] {
         for lens in [[0, 1, 2, 3, 5, 8], [8, 5, 3, 2, 1, 0], [3, 8, 0, 5, 1, 2]] {
             let mut labels: Vec<Vec<u8>> = lens.map(digits).to_vec();
             labels.insert(3, b"12-".to_vec());
-            let batch = Batch::of(source, &labels);
+            let batch = Batch::in_version(version, source, &labels);
             for len in lens {
                 calls.push(batch.with_scratch(batch.work(len) - 1));
                 calls.push(batch.with_scratch(batch.work(len)));
                 let room = batch.scratch_len;
-                let exact = second::match_label(&batch.table, &digits(len), room, 128, u64::MAX);
+                let exact =
+                    second::match_label(&batch.table, &digits(len), room, PARTS_MOST, u64::MAX);
                 for budget in [exact.trials.saturating_sub(1), exact.trials] {
                     calls.push(batch.with(|batch| batch.budget = budget));
                     calls.push(batch.with(|batch| {
@@ -197,7 +212,7 @@ fn some_refused() -> Vec<Call> {
 fn tables() -> Vec<Call> {
     let batch = Batch::of(b".N1.N.A", &short(3));
     let mut calls = Vec::new();
-    for table in changed_tables().into_iter().step_by(11) {
+    for table in changed_tables().into_iter().step_by(21) {
         calls.push(batch.with(|batch| batch.table = table.clone()));
         calls.push(batch.with(|batch| {
             batch.table = table;

@@ -133,7 +133,7 @@ impl Call {
         }
     }
 
-    fn budget(&self) -> Option<u64> {
+    pub fn budget(&self) -> Option<u64> {
         match *self {
             Call::Match { budget, .. }
             | Call::Batch(Batch { budget, .. })

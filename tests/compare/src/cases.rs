@@ -2,11 +2,11 @@
 
 use crate::batches::{ends_of, joined};
 use crate::call::{Batch, Call, Case};
-use crate::tables::{damage, table, table_of, work};
+use crate::tables::{any_pattern, atom_count, damage, generated_table, table, work};
 use generate::labels::{bound, cheap_pattern, flatten, long_match, most_trials, sample};
-use generate::patterns::pattern;
-use generate::sources::{count_at_limit, mutate, source};
-use generate::{Atom, Random};
+use generate::sources::{count_at_limit, large_source, mutate, source};
+use generate::{Atom, Random, LIMITS, OLD_LIMITS};
+use second::VERSION_2;
 
 /// A length about the one needed: mostly enough, at times one short.
 pub fn about(random: &mut Random, needed: usize) -> usize {
@@ -20,13 +20,15 @@ pub fn about(random: &mut Random, needed: usize) -> usize {
 }
 
 fn compile_call(random: &mut Random) -> Call {
-    let source = if random.once_in(8) {
-        count_at_limit(random)
-    } else {
-        source(random)
+    let source = match random.below(32) {
+        0..=1 => count_at_limit(random, LIMITS),
+        2..=3 => count_at_limit(random, OLD_LIMITS),
+        4..=6 => large_source(random, LIMITS),
+        7 => large_source(random, OLD_LIMITS),
+        _ => source(random),
     };
-    let needed =
-        second::compile(&source, usize::MAX).map_or(random.below(1_200), |table| table.len());
+    let needed = second::compile(&source, usize::MAX)
+        .map_or(random.below(VERSION_2.table_most()), |table| table.len());
     Call::Compile {
         source,
         table_len: about(random, needed),
@@ -35,8 +37,8 @@ fn compile_call(random: &mut Random) -> Call {
 
 fn write_back_call(random: &mut Random) -> Call {
     let table = table(random);
-    let needed =
-        second::write_back(&table, usize::MAX).map_or(random.below(600), |source| source.len());
+    let needed = second::write_back(&table, usize::MAX)
+        .map_or(random.below(VERSION_2.source_most), |source| source.len());
     Call::WriteBack {
         table,
         source_len: about(random, needed),
@@ -88,10 +90,7 @@ pub fn budget_about(random: &mut Random, table: &[u8], label: &[u8]) -> u64 {
         0..=4 => exact,
         5..=6 => exact.saturating_sub(1),
         7 => exact + 1,
-        8 => bound(
-            usize::from(*table.get(5).unwrap_or(&1)),
-            label.len().min(255),
-        ),
+        8 => bound(atom_count(table), label.len().min(255)),
         9 => u64::MAX,
         10 => random.bits() % (exact + 1),
         _ => random.pick(&[0, 1, 10_000_000]),
@@ -108,7 +107,7 @@ fn pattern_and_label(random: &mut Random, dearest: u64) -> (Vec<Atom>, Vec<u8>) 
         }
         2..=3 => (cheap_pattern(random), dearest),
         4..=30 => (cheap_pattern(random), dearest / 20),
-        _ => (pattern(random), 200_000),
+        _ => (any_pattern(random), 200_000),
     };
     let label = near_label(random, &tree, most);
     (tree, label)
@@ -117,7 +116,7 @@ fn pattern_and_label(random: &mut Random, dearest: u64) -> (Vec<Atom>, Vec<u8>) 
 fn match_call(random: &mut Random, dearest: u64) -> Call {
     let (tree, mut label) = pattern_and_label(random, dearest);
     let atoms = atoms_of(&tree).len();
-    let mut table = table_of(&tree);
+    let mut table = generated_table(random, &tree);
     if random.once_in(12) {
         damage(random, &mut table);
     }
@@ -179,12 +178,12 @@ fn damage_ends(random: &mut Random, labels: &mut Vec<u8>, ends: &mut Vec<u8>) {
 }
 
 fn batch_call(random: &mut Random) -> Call {
-    let tree = pattern(random);
+    let tree = any_pattern(random);
     let count = label_count(random);
     let most = (400_000 / (count as u64 + 1)).min(100_000);
     let near = (0..count).map(|_| near_label(random, &tree, most));
     let mut all: Vec<Vec<u8>> = near.collect();
-    let mut table = table_of(&tree);
+    let mut table = generated_table(random, &tree);
     if random.once_in(16) {
         damage(random, &mut table);
     }

@@ -3,6 +3,8 @@
 use crate::call::{Batch, Call, Case};
 use crate::expected::{expected, Expected};
 use crate::lent::Lent;
+use crate::tables::turned_to;
+use second::VERSION_2;
 use std::fmt;
 
 fn same<T: PartialEq + fmt::Display>(name: &str, found: T, wanted: T) -> Result<(), String> {
@@ -135,6 +137,22 @@ fn check_in_turn(case: &Case, number: u32, left: &[Lent], margin: usize) -> Resu
         .try_for_each(|(left, single)| left.check_beside(single))
 }
 
+/// Compiles what was written back: the result is the version 2 table of the same pattern.
+fn check_compiled_again(case: &Case, written: usize, left: &mut [Lent]) -> Result<(), String> {
+    let (Call::WriteBack { table, .. }, [source]) = (&case.call, left) else {
+        return Ok(());
+    };
+    let mut again = vec![0; VERSION_2.table_most()];
+    let mut area = [0; 32];
+    let number = library::compile(&source.bytes()[..written], &mut again, &mut area);
+    same("number of compiling again", number, 0)?;
+    again.truncate(field(&area, 1) as usize);
+    if again == turned_to(VERSION_2, table) {
+        return Ok(());
+    }
+    Err("compiled again it is another table".to_string())
+}
+
 /// Makes the call on both sides; gives what both answer, or the first difference.
 pub fn compare(case: &Case, margin: usize) -> Result<Expected, String> {
     let wanted = expected(case);
@@ -156,6 +174,9 @@ pub fn compare(case: &Case, margin: usize) -> Result<Expected, String> {
     }
     if number != second::ANSWER {
         check_in_turn(case, number, &outputs, margin)?;
+    }
+    if number == 0 {
+        check_compiled_again(case, wanted.result as usize, &mut outputs)?;
     }
     Ok(wanted)
 }

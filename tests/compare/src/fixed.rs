@@ -4,8 +4,10 @@ use crate::batches::{areas, batches};
 use crate::call::{Call, Case};
 use crate::long::{each_set, long_labels, wide_counts, wrapped_inputs, wrapped_rooms};
 use crate::registers::{register_areas, registers};
-use crate::tables::table_of;
+use crate::tables::{table_in, ONE_ATOM};
+use crate::versions::versions;
 use generate::{Atom, Body};
+use second::{VERSION_1, VERSION_2};
 
 /// Every byte as a code, in a literal, before a code and after an atom.
 fn each_byte() -> Vec<Call> {
@@ -19,7 +21,7 @@ fn each_byte() -> Vec<Call> {
         ] {
             calls.push(Call::Compile {
                 source,
-                table_len: 19,
+                table_len: ONE_ATOM + 1,
             });
         }
     }
@@ -42,33 +44,31 @@ fn each_count() -> Vec<Call> {
         ] {
             calls.push(Call::Compile {
                 source: source.into_bytes(),
-                table_len: 18,
+                table_len: ONE_ATOM,
             });
         }
         for high in numbers {
             calls.push(Call::Compile {
                 source: format!("{low}.{high}N").into_bytes(),
-                table_len: 18,
+                table_len: ONE_ATOM,
             });
-            let table = table_of(&[Atom {
-                low,
-                high: Some(high),
-                body: Body::Codes(16),
-            }]);
-            calls.push(Call::WriteBack {
-                table,
-                source_len: 10,
-            });
+            for version in [VERSION_1, VERSION_2] {
+                let (high, body) = (Some(high), Body::Codes(16));
+                calls.push(Call::WriteBack {
+                    table: table_in(version, &[Atom { low, high, body }]),
+                    source_len: 10,
+                });
+            }
         }
     }
     calls
 }
 
-/// Numbers that first exceed 9,999 at each place of a source; about the 65th atom, such counts and
-/// those that fall, cut off at each place.
+/// Numbers that first exceed 9,999 at each place of a source; about the last atom that the limits
+/// of either version allow, such counts and those that fall, cut off at each place.
 fn each_digit() -> Vec<Call> {
     let mut sources = Vec::new();
-    for zeros in 0..=508 {
+    for zeros in 0..=VERSION_2.source_most - 4 {
         let zeros = "0".repeat(zeros);
         sources.push(format!("{zeros}10000N"));
         sources.push(format!("9.{zeros}99999"));
@@ -84,7 +84,8 @@ fn each_digit() -> Vec<Call> {
         "20000.10000N",
         "5.3N",
     ];
-    for atoms in 62..=65 {
+    let about = |most: usize| most - 2..=most + 1;
+    for atoms in about(VERSION_1.atoms_most).chain(about(VERSION_2.atoms_most)) {
         let atoms = "1N".repeat(atoms);
         for count in counts {
             sources.extend((0..=count.len()).map(|len| format!("{atoms}{}", &count[..len])));
@@ -92,13 +93,13 @@ fn each_digit() -> Vec<Call> {
     }
     let compile = |source: String| Call::Compile {
         source: source.into_bytes(),
-        table_len: 1_160,
+        table_len: VERSION_2.table_most(),
     };
     sources.into_iter().map(compile).collect()
 }
 
 /// The examples of the papers and what is made of every byte, set, count, digit, short source and
-/// changed table, the long calls, the batches and the registers; a quick run has fewer short sources
+/// changed table, of both versions, the long calls, the batches and the registers; a quick run has fewer short sources
 /// and no count past 32 bits.
 pub fn fixed(quick: bool) -> Vec<Case> {
     let short = short_sources(if quick { 4 } else { 5 })
@@ -115,6 +116,7 @@ pub fn fixed(quick: bool) -> Vec<Case> {
         .chain(each_set())
         .chain(short)
         .chain(changed_tables().into_iter().flat_map(of_changed))
+        .chain(versions())
         .chain(long_labels())
         .chain(wrapped_inputs())
         .chain(batches())
@@ -148,7 +150,7 @@ fn of_changed(table: Vec<u8>) -> [Call; 2] {
     [written, matched]
 }
 
-/// The matches that the papers name, under an ample budget and under each one up to 4.
+/// The matches that the papers name, with tables of both versions, under an ample budget and under each one up to 4.
 fn examples() -> Vec<Call> {
     let pairs: [(&[u8], &[u8]); 20] = [
         (b"3N1\".\"2N.U", b"123.45"),
@@ -175,14 +177,15 @@ fn examples() -> Vec<Call> {
     let mut calls = Vec::new();
     for (source, label) in pairs {
         for budget in [0, 1, 2, 3, 4, u64::MAX] {
-            let table = second::compile(source, 999).unwrap();
-            calls.push(Call::Match {
-                table,
-                label: label.to_vec(),
-                scratch_len: 4_000,
-                parts_len: 20,
-                budget,
-            });
+            for version in [VERSION_1, VERSION_2] {
+                calls.push(Call::Match {
+                    table: second::compile_to(version, source, usize::MAX).unwrap(),
+                    label: label.to_vec(),
+                    scratch_len: 4_000,
+                    parts_len: 20,
+                    budget,
+                });
+            }
         }
     }
     calls
@@ -206,19 +209,22 @@ fn short_sources(most: usize) -> Vec<Vec<u8>> {
     all
 }
 
-/// A table with one byte changed to each other value, at each place; every cut; a byte more.
+/// A table of each version with one byte changed to each other value, at each place; every cut; a
+/// byte more.
 pub fn changed_tables() -> Vec<Vec<u8>> {
-    let table =
-        second::compile(b"2.(1\"a\"\"\",3.5AN.(.E,1\"\"))1\"bc\".9999L", usize::MAX).unwrap();
+    let source = b"2.(1\"a\"\"\",3.5AN.(.E,1\"\"))1\"bc\".9999L";
     let mut all = Vec::new();
-    for at in 0..table.len() {
-        for byte in 0..=255 {
-            let mut changed = table.clone();
-            changed[at] = byte;
-            all.push(changed);
+    for version in [VERSION_1, VERSION_2] {
+        let table = second::compile_to(version, source, usize::MAX).unwrap();
+        for at in 0..table.len() {
+            for byte in 0..=255 {
+                let mut changed = table.clone();
+                changed[at] = byte;
+                all.push(changed);
+            }
         }
+        all.extend((0..table.len()).map(|len| table[..len].to_vec()));
+        all.extend((0..=255).map(|byte| [&table[..], &[byte]].concat()));
     }
-    all.extend((0..table.len()).map(|len| table[..len].to_vec()));
-    all.extend((0..=255).map(|byte| [&table[..], &[byte]].concat()));
     all
 }

@@ -2,14 +2,15 @@
 //! past 16 bits, counts past 32 bits.
 
 use crate::call::{Call, Case};
-use crate::tables::{table_of, work};
+use crate::tables::{atom_count, table_of, work, ONE_ATOM, PARTS_MOST};
 use generate::{Atom, Body};
+use second::VERSION_2;
 
-/// A match with the scratch that it needs and parts for 64 atoms.
-fn matching(table: Vec<u8>, label: Vec<u8>, budget: u64) -> Call {
+/// A match with the scratch that it needs and parts for the most atoms.
+pub fn matching(table: Vec<u8>, label: Vec<u8>, budget: u64) -> Call {
     Call::Match {
-        scratch_len: work(usize::from(table[5]), label.len()),
-        parts_len: 128,
+        scratch_len: work(atom_count(&table), label.len().min(255)),
+        parts_len: PARTS_MOST,
         table,
         label,
         budget,
@@ -21,7 +22,7 @@ fn once(body: Body) -> Vec<u8> {
     table_of(&[Atom { low, high, body }])
 }
 
-fn digits(len: usize) -> Vec<u8> {
+pub fn digits(len: usize) -> Vec<u8> {
     b"0123456789".repeat(26)[..len].to_vec()
 }
 
@@ -33,7 +34,7 @@ pub fn each_set() -> Vec<Call> {
         let source = second::write_back(&table, 8).unwrap();
         calls.push(Call::Compile {
             source,
-            table_len: 18,
+            table_len: ONE_ATOM,
         });
         for byte in 0..=255 {
             calls.push(matching(table.clone(), vec![byte], 4));
@@ -52,6 +53,9 @@ pub fn long_labels() -> Vec<Call> {
     let mut pairs = vec![
         (b"1N".repeat(64), digits(64)),
         (b".N".repeat(64), digits(21)),
+        (b"1N".repeat(100), digits(100)),
+        (b".1N".repeat(256), digits(40)),
+        (b".N".repeat(256), digits(12)),
         (literal(255), b"x".repeat(255)),
         (
             [b"1N".repeat(63), literal(192)].concat(),
@@ -79,13 +83,13 @@ pub fn long_labels() -> Vec<Call> {
 /// Inputs of a length that 16 bits wrap to a good one, and pools of as much as 65,535 bytes.
 pub fn wrapped_inputs() -> Vec<Call> {
     let mut calls = Vec::new();
-    for len in [0, 1, 2, 7, 100, 255, 256, 494, 512].map(|more| 65_536 + more) {
+    for len in [0, 1, 2, 7, 100, 255, 256, 512, 2_030, 2_048].map(|more| 65_536 + more) {
         calls.push(Call::Compile {
             source: [b"1".to_vec(), b"N".repeat(len - 1)].concat(),
-            table_len: 18,
+            table_len: ONE_ATOM,
         });
         let label = b"5".repeat(len);
-        let table = second::compile(b".N", 18).unwrap();
+        let table = second::compile(b".N", ONE_ATOM).unwrap();
         calls.push(Call::Match {
             table,
             label,
@@ -94,7 +98,9 @@ pub fn wrapped_inputs() -> Vec<Call> {
             budget: 1_000_000,
         });
     }
-    for pool in [65_535, 65_536, 65_537, 65_543, 65_791, 66_030, 66_048] {
+    for pool in [
+        65_535, 65_536, 65_537, 65_543, 65_791, 66_048, 67_566, 67_584,
+    ] {
         // The lengths in the table are the pool's lowest 16 bits.
         let table = once(Body::Literal(b"x".repeat(pool)));
         for table in [table[..table.len() % 65_536].to_vec(), table] {
@@ -102,7 +108,7 @@ pub fn wrapped_inputs() -> Vec<Call> {
             calls.push(matching(table.clone(), label, 10_000_000));
             calls.push(Call::WriteBack {
                 table,
-                source_len: 512,
+                source_len: VERSION_2.source_most,
             });
         }
     }
@@ -141,11 +147,16 @@ pub fn wrapped_rooms() -> Vec<Case> {
     cases
 }
 
-/// More than 2^32 trials, within the budget and not.
+/// More than 2^32 trials, within the budget and not; 255 atoms on as many bytes.
 pub fn wide_counts() -> Vec<Call> {
-    let table = second::compile(&b".E".repeat(7), usize::MAX).unwrap();
-    let budgets = [u64::MAX, (1 << 32) + 5];
-    budgets
-        .map(|budget| matching(table.clone(), digits(255), budget))
-        .to_vec()
+    let pairs = [
+        (b".E".repeat(7), u64::MAX),
+        (b".E".repeat(7), (1 << 32) + 5),
+        (b"1N".repeat(255), u64::MAX),
+    ];
+    let call = |(source, budget): (Vec<u8>, _)| {
+        let table = second::compile(&source, usize::MAX).unwrap();
+        matching(table, digits(255), budget)
+    };
+    pairs.map(call).to_vec()
 }

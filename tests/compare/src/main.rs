@@ -15,6 +15,7 @@ mod long;
 mod registers;
 mod sequences;
 mod tables;
+mod versions;
 
 use call::{Batch, Call, Case};
 use comparison::compare;
@@ -183,8 +184,11 @@ fn print_counts(name: &str, counts: impl Iterator<Item = (u32, u64)>) {
     println!("{name}: {}", text.join(", "));
 }
 
-/// Whether a call matches a label in more trials than `most`.
+/// Whether a call makes more trials than `most` on a label.
 fn exceeds(case: &Case, most: u64) -> bool {
+    if case.call.budget().is_none_or(|budget| budget <= most) {
+        return false;
+    }
     let ample = usize::MAX;
     let over = |label: &&[u8]| {
         let matched = match &case.call {

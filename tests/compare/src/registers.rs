@@ -1,17 +1,21 @@
 //! Fixed calls on registers: every length about the least one, tables that just fit, each byte of
-//! the layout changed, all 256 numbers, what is lent to a match at each limit.
+//! the layout changed, tables of both versions, all 256 numbers, what is lent to a match at each limit.
 
 use crate::call::{Call, Case};
 use crate::expected::expected;
 use crate::fixed::changed_tables;
-use crate::sequences::table_of_len;
-use second::{Register, REGISTER_LEAST};
+use crate::tables::{table_of_len, turned_to, work, ONE_ATOM, PARTS_MOST};
+use second::{Register, Version, REGISTER_LEAST, VERSION_1, VERSION_2};
 
 /// The bytes behind the tables.
 const SPARE: u8 = 165;
 
 fn table(source: &[u8]) -> Vec<u8> {
     second::compile(source, usize::MAX).unwrap()
+}
+
+fn old_table(source: &[u8]) -> Vec<u8> {
+    second::compile_to(VERSION_1, source, usize::MAX).unwrap()
 }
 
 /// A register that keeps some tables and has some bytes to spare.
@@ -23,14 +27,15 @@ fn register_of(tables: &[(u8, Vec<u8>)], spare: usize) -> Vec<u8> {
     [map.laid_out(), vec![SPARE; spare]].concat()
 }
 
-/// Six tables of different lengths, the least and the greatest number among theirs.
+/// Six tables of different lengths and of both versions, the least and the greatest number among
+/// theirs.
 fn six() -> Vec<(u8, Vec<u8>)> {
     vec![
         (0, table(b"1N")),
-        (1, table(b"1\"ab\"")),
+        (1, old_table(b"1\"ab\"")),
         (2, table(b".2(1N,1\"c\")1A")),
-        (7, table(b"1N")),
-        (128, table(b".E1\"\"")),
+        (7, old_table(b"1N")),
+        (128, old_table(b".E1\"\"")),
         (255, table(b"1.3AN")),
     ]
 }
@@ -95,7 +100,7 @@ fn lengths() -> Vec<Call> {
     let empty = register_of(&[], 200);
     let mut calls = Vec::new();
     for len in [
-        0, 1, 3, 7, 8, 9, 1_030, 1_031, 1_032, 1_033, 1_049, 1_050, 1_051,
+        0, 1, 3, 7, 8, 9, 1_030, 1_031, 1_032, 1_033, 1_049, 1_050, 1_051, 1_052,
     ] {
         for register in [&empty[..len], &vec![0; len], &vec![255; len]] {
             calls.extend(each_call(register));
@@ -130,7 +135,7 @@ fn changed_bytes() -> Vec<Call> {
         let near = [old.wrapping_add(1), old.wrapping_sub(1), old ^ 128];
         let values: Vec<u8> = match at {
             0..8 => (0..=255).collect(),
-            _ => [&near[..], &[0, 1, 2, 18, 127, 255]].concat(),
+            _ => [&near[..], &[0, 1, 2, 18, 19, 127, 255]].concat(),
         };
         for (turn, &value) in values.iter().enumerate() {
             let mut changed = register.clone();
@@ -145,13 +150,13 @@ fn changed_bytes() -> Vec<Call> {
 }
 
 /// Lengths of two or three numbers that end before, at or past the end of the buffer, or whose sum
-/// 32 bits wrap to one that fits; each set in a register of two tables of 18 bytes.
+/// 32 bits wrap to one that fits; each set in a register of two tables of 18 and 19 bytes.
 fn summed_lengths() -> Vec<Call> {
-    let small = [0, 1, 17, 18, 19, 35, 36, 37, 40, 41, 54];
+    let small = [0, 1, 17, 18, 19, 20, 36, 37, 38, 41, 42, 55];
     let large = [1 << 8, 1 << 16, 1 << 24, 1 << 31].map(|more| more + 18);
     let wrapped = small.map(|len: u32| len.wrapping_neg());
     let lens = [&small[..], &large, &wrapped, &[65_536, 1 << 31, 1 << 24]].concat();
-    let register = register_of(&[(0, table(b"1N")), (255, table(b"2N"))], 4);
+    let register = register_of(&[(0, old_table(b"1N")), (255, table(b"2N"))], 4);
     let mut calls = Vec::new();
     let mut with = |fields: &[(usize, u32)]| {
         let mut changed = register.clone();
@@ -168,7 +173,7 @@ fn summed_lengths() -> Vec<Call> {
         with(&[(7, first)]);
     }
     // 256 times 2^24 is 2^32.
-    for len in [1 << 24, u32::MAX, 18, 1] {
+    for len in [1 << 24, u32::MAX, 18, 19, 1] {
         let all: Vec<(usize, u32)> = (0..256).map(|number| (number, len)).collect();
         with(&all);
         with(&all[1..]);
@@ -179,14 +184,14 @@ fn summed_lengths() -> Vec<Call> {
 /// Tables that aren't good or are others, stored and lying in a register.
 fn tables() -> Vec<Call> {
     let mut calls = Vec::new();
-    for (turn, table) in changed_tables().into_iter().step_by(7).enumerate() {
+    for (turn, table) in changed_tables().into_iter().step_by(13).enumerate() {
         calls.push(store(&register_of(&six(), 100), 4, &table));
         // A length of 0 stands for no table.
         let register = register_of(&[six(), vec![(4, table)]].concat(), 20);
         calls.push(call_in_turn(turn, &register));
     }
     let register = register_of(&six(), 70_000);
-    for len in [0, 1, 7, 8, 65_536, 65_554] {
+    for len in [0, 1, 7, 8, 9, 65_536, 65_536 + ONE_ATOM] {
         let mut table = table(b"1N");
         table.resize(len, 0);
         calls.push(store(&register, 4, &table));
@@ -194,21 +199,33 @@ fn tables() -> Vec<Call> {
     calls
 }
 
+/// Tables of both versions, from the shortest to the longest that one literal makes.
+fn tables_to_fit() -> [Vec<u8>; 7] {
+    let longest = |version: Version| version.header_len() + 10 + version.source_most - 3;
+    [
+        table_of_len(VERSION_1, 18),
+        table_of_len(VERSION_2, 19),
+        table_of_len(VERSION_1, 40),
+        table_of_len(VERSION_2, 40),
+        table_of_len(VERSION_2, 257),
+        table_of_len(VERSION_1, longest(VERSION_1)),
+        table_of_len(VERSION_2, longest(VERSION_2)),
+    ]
+}
+
 /// Tables for a number before, at and after a kept one, in buffers that they just fit and in those
 /// of a byte less or more.
 fn fits() -> Vec<Call> {
-    let lens = [18, 19, 40, 257, 518];
     let mut calls = Vec::new();
-    for (kept, stored) in lens
-        .iter()
-        .flat_map(|&kept| lens.map(|stored| (kept, stored)))
-    {
-        let alone = register_of(&[(9, table_of_len(kept))], 600);
-        for capacity in [kept.max(stored), kept + stored] {
-            for len in [capacity - 1, capacity, capacity + 1] {
-                let register = &alone[..REGISTER_LEAST + len];
-                for number in [0, 9, 255] {
-                    calls.push(store(register, number, &table_of_len(stored)));
+    for kept in tables_to_fit() {
+        let alone = register_of(&[(9, kept.clone())], VERSION_2.table_most());
+        for stored in tables_to_fit() {
+            for capacity in [kept.len().max(stored.len()), kept.len() + stored.len()] {
+                for len in [capacity - 1, capacity, capacity + 1] {
+                    let register = &alone[..REGISTER_LEAST + len];
+                    for number in [0, 9, 255] {
+                        calls.push(store(register, number, &stored));
+                    }
                 }
             }
         }
@@ -216,7 +233,7 @@ fn fits() -> Vec<Call> {
     calls
 }
 
-/// A store of a table of some length, or a removal.
+/// A store of a table of some length, its version by the number, or a removal.
 enum Step {
     Store(u8, usize),
     Remove(u8),
@@ -227,7 +244,10 @@ fn in_turn(mut register: Vec<u8>, steps: &[Step]) -> Vec<Call> {
     let mut calls = Vec::new();
     for step in steps {
         let call = match *step {
-            Step::Store(number, len) => store(&register, number, &table_of_len(len)),
+            Step::Store(number, len) => {
+                let version = [VERSION_1, VERSION_2][usize::from(number % 2)];
+                store(&register, number, &table_of_len(version, len))
+            }
             Step::Remove(number) => remove(&register, number),
         };
         let case = fixed_case(call);
@@ -250,10 +270,10 @@ fn freed_room() -> Vec<Call> {
         Remove(80),
         Store(0, 101),
         Store(0, 100),
-        Store(255, 18),
+        Store(255, 19),
         Store(200, 30),
         Store(255, 70),
-        Store(7, 18),
+        Store(7, 19),
         Remove(5),
         Store(7, 100),
         Remove(5),
@@ -271,35 +291,104 @@ fn freed_room() -> Vec<Call> {
     in_turn(register_of(&[], 300), &steps)
 }
 
+/// A version 1 table replaced by the version 2 table of its pattern and the other way round, with
+/// no byte to spare, one and two; all tables of a register turned to the other version.
+fn versions() -> Vec<Call> {
+    let sources = [
+        &b"2N"[..],
+        b"1\"ab\"",
+        b".2(1N,1\"c\")1A",
+        &b".1N".repeat(64),
+    ];
+    let mut calls = Vec::new();
+    for source in sources {
+        for (kept, stored) in [
+            (old_table(source), table(source)),
+            (table(source), old_table(source)),
+        ] {
+            for spare in 0..3 {
+                let register = register_of(&[(0, old_table(b"1A")), (5, kept.clone())], spare);
+                calls.push(store(&register, 5, &stored));
+                calls.push(store(&register, 9, &stored));
+                calls.push(matched(&register, 5, b"12"));
+                calls.push(remove(&register, 5));
+            }
+        }
+    }
+    for version in [VERSION_1, VERSION_2] {
+        let turned = six().into_iter();
+        let turned: Vec<_> = turned
+            .map(|(at, table)| (at, turned_to(version, &table)))
+            .collect();
+        calls.extend(each_call(&register_of(&turned, 40)));
+    }
+    calls
+}
+
+/// Tables of 64, 65 and 256 atoms, stored, replaced by each other, matched and removed.
+fn large_tables() -> Vec<Call> {
+    let optional = |atoms| b".1N".repeat(atoms);
+    let tables = [
+        old_table(&optional(64)),
+        table(&optional(64)),
+        table(&optional(65)),
+        table(&optional(256)),
+        table(&[b"1N".repeat(255), b"1\"x\"".to_vec()].concat()),
+    ];
+    let mut calls = Vec::new();
+    for kept in &tables {
+        let register = register_of(&[(1, old_table(b"1N")), (80, kept.clone())], 3_000);
+        for stored in &tables {
+            calls.push(store(&register, 80, stored));
+            calls.push(store(&register, 255, stored));
+        }
+        calls.push(remove(&register, 1));
+        calls.push(remove(&register, 80));
+        for (atoms, parts_len) in [(256, PARTS_MOST), (64, 128), (63, 128), (256, 127)] {
+            calls.push(Call::MatchNumber {
+                register: register.clone(),
+                number: 80,
+                label: b"123456".to_vec(),
+                scratch_len: work(atoms, 6),
+                parts_len,
+                budget: 1_000_000,
+            });
+        }
+    }
+    calls
+}
+
 /// All 256 numbers: each stored beside all others, replaced, removed and matched; once with small
 /// tables and no byte to spare, and some of them with tables far past 16 bits.
 fn all_numbers() -> Vec<Call> {
     let (mut calls, mut small, mut large) = (Vec::new(), Vec::new(), Vec::new());
+    // Every other table of the large ones is of version 1.
+    let of_len = |number: u8, len| {
+        let version = [VERSION_1, VERSION_2][usize::from(number % 2)];
+        table_of_len(version, len + usize::from(number % 99))
+    };
     for number in 0..=255 {
         small.push((number, table(format!("{}N", number % 4).as_bytes())));
-        large.push((number, table_of_len(400 + usize::from(number % 99))));
+        large.push((number, of_len(number, 400)));
     }
     let (register, far) = (register_of(&small, 0), register_of(&large, 10));
     for number in 0..=255 {
         let mut others = small.clone();
         others.remove(usize::from(number));
-        calls.push(store(&register_of(&others, 18), number, &table(b"2N")));
+        calls.push(store(
+            &register_of(&others, ONE_ATOM),
+            number,
+            &table(b"2N"),
+        ));
         calls.push(store(&register, number, &table(b"1A")));
+        calls.push(store(&register, number, &old_table(b"1A")));
         calls.push(store(&register, number, &table(b"1\"a\"")));
         calls.push(remove(&register, number));
         calls.push(matched(&register, number, b"12"));
         if [0, 1, 127, 128, 200, 254, 255].contains(&number) {
-            calls.push(store(&far, number, &table_of_len(18)));
-            calls.push(store(
-                &far,
-                number,
-                &table_of_len(410 + usize::from(number % 99)),
-            ));
-            calls.push(store(
-                &far,
-                number,
-                &table_of_len(411 + usize::from(number % 99)),
-            ));
+            calls.push(store(&far, number, &table_of_len(VERSION_1, 18)));
+            calls.push(store(&far, number, &of_len(number, 410)));
+            calls.push(store(&far, number, &of_len(number, 411)));
             calls.push(remove(&far, number));
             calls.push(matched(&far, number, b"xx"));
         }
@@ -322,8 +411,7 @@ fn limits_of_matches() -> Vec<Call> {
             &[b'a'; 256],
             &[b'a'; 300],
         ] {
-            let places = label.len() + 1;
-            let work = 6 * places * places;
+            let work = work(1, label.len());
             for scratch_len in [0, work - 1, work, work + 9] {
                 for parts_len in [0, 1, 2, 7] {
                     for budget in [0, 7, 10_000] {
@@ -381,6 +469,8 @@ pub fn registers() -> Vec<Call> {
         summed_lengths(),
         tables(),
         fits(),
+        versions(),
+        large_tables(),
         freed_room(),
         all_numbers(),
         limits_of_matches(),

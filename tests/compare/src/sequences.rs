@@ -3,14 +3,18 @@
 use crate::call::{Call, Case};
 use crate::cases::{about, budget_about, long_label, near_label};
 use crate::expected::Expected;
-use crate::tables::{table, table_of, work};
-use generate::patterns::{codes, pattern, repeat};
+use crate::tables::{any_pattern, any_version, atom_count, generated_table, table};
+use crate::tables::{table_of_len, work, RECORD};
+use generate::patterns::{codes, repeat};
 use generate::{Atom, Body, Random};
-use second::{Register, REGISTER_LEAST};
+use second::{Register, REGISTER_LEAST, VERSION_2};
 use std::collections::BTreeMap;
 
 /// The most trials of a label that is made for a pattern.
 const DEAREST: u64 = 20_000;
+
+/// Room for 256 tables of any pattern.
+const NEVER_FULL: usize = 256 * VERSION_2.table_most();
 
 type Map = BTreeMap<u8, Vec<u8>>;
 
@@ -36,18 +40,11 @@ fn lens(random: &mut Random, index: u64) -> (usize, u64) {
         1 => (random.between(40, 400), 2_000),
         3 => (random.between(400, 3_000), 2_000),
         5 => (random.between(3_000, 20_000), 2_000),
-        7 => (random.pick(&[5_000, 20_000, 296_960]), 600),
+        7 => (random.pick(&[5_000, 20_000, NEVER_FULL]), 600),
         _ if random.once_in(4) => return (random.pick(&[0, 1, 8, 1_031]), 10),
-        _ => (random.pick(&[0, 17, 18, 19, 36, 100, 700, 3_000]), 50),
+        _ => (random.pick(&[0, 17, 18, 19, 20, 37, 100, 700, 5_000]), 50),
     };
     (REGISTER_LEAST + capacity, calls)
-}
-
-/// A table of `len` bytes, 18 to 518.
-pub fn table_of_len(len: usize) -> Vec<u8> {
-    let body = Body::Literal(vec![b'x'; len - 18]);
-    let (low, high) = (1, Some(1));
-    table_of(&[Atom { low, high, body }])
 }
 
 fn one_atom(random: &mut Random) -> Vec<Atom> {
@@ -152,7 +149,7 @@ impl Sequence {
         let near = (0..3).map(|_| near_label(&mut self.random, tree, DEAREST));
         let labels = near.collect();
         self.labels.insert(number, labels);
-        table_of(tree)
+        generated_table(&mut self.random, tree)
     }
 
     /// A table as long as the room that is left for it, or a byte longer.
@@ -160,10 +157,14 @@ impl Sequence {
         let others = self.map.iter().flatten().filter(|kept| *kept.0 != number);
         let kept: usize = others.map(|(_, table)| table.len()).sum();
         let room = self.register.len().saturating_sub(REGISTER_LEAST + kept);
-        let len = (room + self.random.below(2)).clamp(18, 518);
+        let version = any_version(&mut self.random);
+        // A literal's source has three bytes besides it.
+        let least = version.header_len() + RECORD;
+        let most = least + version.source_most - 3;
+        let len = (room + self.random.below(2)).clamp(least, most);
         self.labels
-            .insert(number, vec![b"x".repeat(len.min(30) - 18)]);
-        table_of_len(len)
+            .insert(number, vec![b"x".repeat((len - least).min(12))]);
+        table_of_len(version, len)
     }
 
     /// A store of a table of one atom, of a pattern, of one that just fits, or of one that may not
@@ -171,7 +172,7 @@ impl Sequence {
     fn store(&mut self, register: Vec<u8>, number: u8, kind: usize) -> Call {
         let tree = match kind {
             0..=5 => one_atom(&mut self.random),
-            6..=12 => pattern(&mut self.random),
+            6..=12 => any_pattern(&mut self.random),
             _ => Vec::new(),
         };
         let table = match kind {
@@ -200,12 +201,16 @@ impl Sequence {
         let random = &mut self.random;
         let kept = self.map.as_ref().and_then(|map| map.get(&number));
         let table = kept.map_or(&[][..], |table| table);
-        let atoms = usize::from(*table.get(5).unwrap_or(&1));
+        let atoms = atom_count(table);
         let parts = second::part_bytes(table).unwrap_or(2);
         let mut lens = [work(atoms, label.len().min(255)), parts];
         if random.once_in(3) {
             let at = random.below(2);
             lens[at] = about(random, lens[at]);
+        }
+        // The largest scratch takes too long to be lent often.
+        if lens[0] > 1_000_000 && !random.once_in(20) {
+            lens[0] = random.below(10_000);
         }
         let budget = if label.len() > 60 {
             random.below(10_000) as u64

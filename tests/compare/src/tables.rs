@@ -1,8 +1,15 @@
-//! Tables, good or damaged.
+//! Tables of either version, good or damaged.
 
-use generate::patterns::{branch, pattern};
+use generate::patterns::{branch, large_pattern, pattern};
 use generate::sources::random_bytes;
 use generate::{Atom, Body, Random};
+use second::{Version, VERSION_1, VERSION_2};
+
+pub const RECORD: usize = 10;
+/// The length of a version 2 table of one atom without a literal.
+pub const ONE_ATOM: usize = VERSION_2.header_len() + RECORD;
+/// The part bytes of the most atoms.
+pub const PARTS_MOST: usize = 2 * VERSION_2.atoms_most;
 
 fn put(bytes: &mut Vec<u8>, number: usize) {
     bytes.extend((number as u16).to_le_bytes());
@@ -40,13 +47,57 @@ fn put_records(branch: &[Atom], records: &mut Vec<u8>, pool: &mut Vec<u8>) {
     }
 }
 
-pub fn table_of(pattern: &[Atom]) -> Vec<u8> {
+/// A header with these numbers, as far as its bytes hold them.
+pub fn header(version: Version, atoms: usize, pool_len: usize) -> Vec<u8> {
+    let mut header = b"MPT".to_vec();
+    put(&mut header, usize::from(version.number));
+    put(&mut header, atoms);
+    header.truncate(version.header_len() - 2);
+    put(&mut header, pool_len);
+    header
+}
+
+/// The table of a pattern, which may pass the version's limits.
+pub fn table_in(version: Version, pattern: &[Atom]) -> Vec<u8> {
     let (mut records, mut pool) = (Vec::new(), Vec::new());
     put_records(pattern, &mut records, &mut pool);
-    let mut table = b"MPT\x01\x00".to_vec();
-    table.push((records.len() / 10) as u8);
-    put(&mut table, pool.len());
-    [table, records, pool].concat()
+    let header = header(version, records.len() / RECORD, pool.len());
+    [header, records, pool].concat()
+}
+
+pub fn table_of(pattern: &[Atom]) -> Vec<u8> {
+    table_in(VERSION_2, pattern)
+}
+
+pub fn any_version(random: &mut Random) -> Version {
+    random.pick(&[VERSION_1, VERSION_1, VERSION_2, VERSION_2, VERSION_2])
+}
+
+/// The atom count that a table names; 1 without a whole header.
+pub fn atom_count(table: &[u8]) -> usize {
+    let count = Version::of(table).and_then(|version| version.atom_count(table));
+    count.unwrap_or(1)
+}
+
+/// The records and the pool of a table under a header of this version.
+pub fn turned_to(version: Version, table: &[u8]) -> Vec<u8> {
+    let Some(own) = Version::of(table).filter(|own| table.len() >= own.header_len()) else {
+        return table.to_vec();
+    };
+    let (own_header, rest) = table.split_at(own.header_len());
+    let pool_len = [
+        own_header[own.header_len() - 2],
+        own_header[own.header_len() - 1],
+    ];
+    let pool_len = usize::from(u16::from_le_bytes(pool_len));
+    [header(version, atom_count(table), pool_len), rest.to_vec()].concat()
+}
+
+/// A table of `len` bytes: one literal of x.
+pub fn table_of_len(version: Version, len: usize) -> Vec<u8> {
+    let body = Body::Literal(vec![b'x'; len - version.header_len() - RECORD]);
+    let (low, high) = (1, Some(1));
+    table_in(version, &[Atom { low, high, body }])
 }
 
 /// The scratch for a table of some atoms and a label of `len` bytes.
@@ -54,126 +105,171 @@ pub fn work(atoms: usize, len: usize) -> usize {
     (2 * atoms + 4) * (len + 1) * (len + 1)
 }
 
+fn once(body: Body) -> Atom {
+    let (low, high) = (1, Some(1));
+    Atom { low, high, body }
+}
+
+/// Groups one in the other, as deep as the limit or some more.
+fn deep(random: &mut Random) -> Vec<Atom> {
+    let depth = random.between(7, 10);
+    let wrap = |inner, _| {
+        let (low, body) = (1, Body::Group(vec![inner]));
+        let high = None;
+        vec![Atom { low, high, body }]
+    };
+    (0..depth).fold(vec![once(Body::Codes(16))], wrap)
+}
+
+/// Literals whose shortest source has about `most` bytes: 3 and two for each quote, one for each x.
+fn about_most_bytes(random: &mut Random, most: usize) -> Vec<Atom> {
+    let quotes = (most - 6) / 2;
+    let first = random.between(quotes / 4, quotes / 2);
+    let literal = |quotes, more| [vec![b'"'; quotes], vec![b'x'; more]].concat();
+    let values = [
+        literal(first, 0),
+        literal(quotes - first - 1, random.between(1, 4)),
+    ];
+    values.map(|value| once(Body::Literal(value))).to_vec()
+}
+
+/// A number, a set, a byte of a literal or a group past its limit.
+fn fault(random: &mut Random, atom: &mut Atom) {
+    match random.below(6) {
+        0 => atom.low = 10_000,
+        1 => atom.high = Some(10_000),
+        2 => (atom.low, atom.high) = (3, Some(2)),
+        3 => atom.body = Body::Codes(random.pick(&[0, 127, 128, 255, 256])),
+        4 => atom.body = Body::Literal(vec![random.pick(&[31, 32, 126, 127, 200])]),
+        _ => {
+            let branches = if random.once_in(2) { 0 } else { 1 };
+            atom.body = Body::Group((0..branches).map(|_| Vec::new()).collect());
+        }
+    }
+}
+
 /// A table of the right form that may pass a limit.
 fn table_past_limits(random: &mut Random) -> Vec<u8> {
+    let version = any_version(random);
     let mut tree = match random.below(3) {
-        0 => branch(random, 70, 3),
-        1 => {
-            let depth = random.between(7, 10);
-            let innermost = vec![Atom {
-                low: 1,
-                high: Some(1),
-                body: Body::Codes(16),
-            }];
-            let wrap = |inner, _| {
-                vec![Atom {
-                    low: 1,
-                    high: None,
-                    body: Body::Group(vec![inner]),
-                }]
-            };
-            (0..depth).fold(innermost, wrap)
+        0 => {
+            let atoms = version.atoms_most - 3 + random.below(9);
+            let depth = random.pick(&[0, 3]);
+            branch(random, atoms, depth)
         }
-        _ => {
-            // Literals whose source comes near 512 bytes: 2n + 3 for n quotes and an exact count.
-            let first = random.between(60, 190);
-            let second = 253 - first + random.below(3);
-            let quotes = |len| Atom {
-                low: 1,
-                high: Some(1),
-                body: Body::Literal(vec![b'"'; len]),
-            };
-            vec![quotes(first), quotes(second)]
-        }
+        1 => deep(random),
+        _ => about_most_bytes(random, version.source_most),
     };
     if random.once_in(3) {
         let at = random.below(tree.len());
-        match random.below(6) {
-            0 => tree[at].low = 10_000,
-            1 => tree[at].high = Some(10_000),
-            2 => (tree[at].low, tree[at].high) = (3, Some(2)),
-            3 => tree[at].body = Body::Codes(random.pick(&[0, 127, 128, 255, 256])),
-            4 => tree[at].body = Body::Literal(vec![random.pick(&[31, 32, 126, 127, 200])]),
-            _ => {
-                tree[at].body = Body::Group(if random.once_in(2) {
-                    vec![]
-                } else {
-                    vec![vec![]]
-                })
-            }
-        }
+        fault(random, &mut tree[at]);
     }
-    table_of(&tree)
+    table_in(version, &tree)
 }
 
-/// Changes fields of records, bytes, the length or the order.
+/// Changes the version, the header with it or not.
+fn damage_version(random: &mut Random, table: &mut Vec<u8>) {
+    if random.once_in(2) {
+        *table = turned_to(any_version(random), table);
+    } else if table.len() >= 5 {
+        let number = random.pick(&[0u16, 1, 1, 2, 2, 3, 256, 257, 258, 513]);
+        table[3..5].copy_from_slice(&number.to_le_bytes());
+    }
+}
+
+/// Changes a byte or a field of a record.
+fn damage_record(random: &mut Random, table: &mut [u8], record: usize) {
+    let field = record + random.pick(&[2, 4, 6, 8]);
+    match random.below(5) {
+        0 => table[record + 1] ^= 1,
+        1 => table[record] = random.pick(&[0, 1, 2, 3, 4]),
+        2..=3 => table[field] = table[field].wrapping_add(random.pick(&[1, 255])),
+        _ => {
+            let value = random.pick(&[0u16, 1, 127, 128, 255, 256, 9_999, 10_000, 65_534, 65_535]);
+            table[field..field + 2].copy_from_slice(&value.to_le_bytes());
+        }
+    }
+}
+
+/// A record more or less, the atom count with it.
+fn damage_count(random: &mut Random, table: &mut Vec<u8>, record: usize) {
+    let copy = table[record..record + RECORD].to_vec();
+    if random.once_in(2) {
+        table.splice(record..record, copy);
+        table[5] = table[5].wrapping_add(1);
+    } else {
+        table.drain(record..record + RECORD);
+        table[5] = table[5].wrapping_sub(1);
+    }
+}
+
+/// A byte more or less in the pool, its length with it or not.
+fn damage_pool(random: &mut Random, table: &mut Vec<u8>, header_len: usize) {
+    let more = random.once_in(2);
+    if more {
+        table.push(random.pick(b"a\"\x00 "));
+    } else {
+        table.pop();
+    }
+    if random.once_in(2) && table.len() >= header_len {
+        let len = &mut table[header_len - 2];
+        *len = if more {
+            len.wrapping_add(1)
+        } else {
+            len.wrapping_sub(1)
+        };
+    }
+}
+
+/// Changes fields of records, bytes, the version, the length or the order.
 pub fn damage(random: &mut Random, table: &mut Vec<u8>) {
     for _ in 0..random.between(1, 2) {
-        let records = table.len().saturating_sub(8) / 10;
+        let header_len = Version::of(table).unwrap_or(VERSION_2).header_len();
+        let records = table.len().saturating_sub(header_len) / RECORD;
         if records == 0 {
             return;
         }
-        let record = 8 + 10 * random.below(records);
-        match random.below(12) {
-            0..=1 => {
-                let at = random.below(table.len());
-                table[at] = random.bits() as u8;
-            }
-            2 => {
-                let at = random.below(table.len());
-                table[at] = table[at].wrapping_add(random.pick(&[1, 255, 2, 254]));
-            }
-            3 => table[record + 1] ^= 1,
-            4 => table[record] = random.pick(&[0, 1, 2, 3, 4]),
-            5..=6 => {
-                let at = record + random.pick(&[2, 4, 6, 8]);
-                table[at] = table[at].wrapping_add(random.pick(&[1, 255]));
-            }
-            7 => {
-                let at = record + random.pick(&[2, 4, 6, 8]);
-                let value =
-                    random.pick(&[0u16, 1, 127, 128, 255, 256, 9_999, 10_000, 65_534, 65_535]);
-                table[at..at + 2].copy_from_slice(&value.to_le_bytes());
-            }
-            8 => table[random.between(0, 7)] = random.bits() as u8,
-            9 => {
-                // Another atom count, with a record more or less.
-                let copy = table[record..record + 10].to_vec();
-                if random.once_in(2) {
-                    table.splice(record..record, copy);
-                    table[5] = table[5].wrapping_add(1);
-                } else {
-                    table.drain(record..record + 10);
-                    table[5] = table[5].wrapping_sub(1);
-                }
-                return;
-            }
-            10 => table.truncate(random.below(table.len())),
-            _ => {
-                // A byte more or less in the pool, its length with it or not.
-                let more = random.once_in(2);
-                if more {
-                    table.push(random.pick(b"a\"\x00 "));
-                } else {
-                    table.pop();
-                }
-                if random.once_in(2) {
-                    table[6] = if more {
-                        table[6].wrapping_add(1)
-                    } else {
-                        table[6].wrapping_sub(1)
-                    };
-                }
-            }
+        let record = header_len + RECORD * random.below(records);
+        let at = random.below(table.len());
+        match random.below(14) {
+            0..=1 => table[at] = random.bits() as u8,
+            2 => table[at] = table[at].wrapping_add(random.pick(&[1, 255, 2, 254])),
+            3..=7 => damage_record(random, table, record),
+            8 => table[random.below(header_len)] = random.bits() as u8,
+            9 => return damage_count(random, table, record),
+            10 => table.truncate(at),
+            11..=12 => damage_version(random, table),
+            _ => damage_pool(random, table, header_len),
         }
     }
 }
 
+/// A pattern of few atoms, or once in 16 of 65 to 256.
+pub fn any_pattern(random: &mut Random) -> Vec<Atom> {
+    if random.once_in(16) {
+        large_pattern(random)
+    } else {
+        pattern(random)
+    }
+}
+
+/// The table of a generated pattern; one of many atoms is mostly of version 2.
+pub fn generated_table(random: &mut Random, tree: &[Atom]) -> Vec<u8> {
+    let table = table_of(tree);
+    let version = any_version(random);
+    let fits = atom_count(&table) <= version.atoms_most;
+    if fits || random.once_in(8) {
+        return turned_to(version, &table);
+    }
+    table
+}
+
 pub fn table(random: &mut Random) -> Vec<u8> {
+    let tree = any_pattern(random);
     match random.below(20) {
-        0..=4 => table_of(&pattern(random)),
+        0..=4 => generated_table(random, &tree),
         5..=14 => {
-            let mut table = table_of(&pattern(random));
+            let mut table = generated_table(random, &tree);
             damage(random, &mut table);
             table
         }
@@ -184,11 +280,10 @@ pub fn table(random: &mut Random) -> Vec<u8> {
             }
             table
         }
-        18 => [
-            b"MPT\x01\x00".to_vec(),
-            random_bytes(random, b"\x00\x01\x02\x03"),
-        ]
-        .concat(),
+        18 => {
+            let opening = &header(any_version(random), 0, 0)[..5];
+            [opening, &random_bytes(random, b"\x00\x01\x02\x03")].concat()
+        }
         _ => random_bytes(random, b""),
     }
 }

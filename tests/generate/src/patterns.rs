@@ -1,14 +1,16 @@
 //! Patterns, within the limits or not.
 
-use crate::Random;
+use crate::{Random, LIMITS, OLD_LIMITS};
 
 /// A pattern as the generator makes it; nothing keeps it within the limits.
+#[derive(Clone)]
 pub struct Atom {
     pub low: u32,
     pub high: Option<u32>,
     pub body: Body,
 }
 
+#[derive(Clone)]
 pub enum Body {
     Codes(u16),
     Literal(Vec<u8>),
@@ -107,6 +109,8 @@ pub fn nested(random: &mut Random) -> Vec<Atom> {
     inner
 }
 
+/// A pattern within the limits of either version, or near those of version 1.
+/// docs/GTM.md has counts of what is made of these.
 pub fn pattern(random: &mut Random) -> Vec<Atom> {
     if random.once_in(20) {
         return nested(random);
@@ -115,8 +119,34 @@ pub fn pattern(random: &mut Random) -> Vec<Atom> {
         0..=8 => random.between(1, 3),
         9..=15 => random.between(2, 6),
         16..=18 => random.between(4, 16),
-        _ => random.between(12, 64),
+        _ => random.between(12, OLD_LIMITS.atoms),
     };
     let depth = random.pick(&[0, 1, 2, 2, 3, 4, 8]);
     branch(random, atoms, depth)
+}
+
+/// Lets each atom of a branch be empty.
+fn let_be_empty(branch: &mut [Atom]) {
+    for atom in branch {
+        atom.low = 0;
+        if let Body::Group(branches) = &mut atom.body {
+            branches.iter_mut().for_each(|branch| let_be_empty(branch));
+        }
+    }
+}
+
+/// About 65 to 256 atoms, mostly such that short labels satisfy them too.
+pub fn large_pattern(random: &mut Random) -> Vec<Atom> {
+    let (least, most) = (OLD_LIMITS.atoms + 1, LIMITS.atoms);
+    let atoms = match random.below(4) {
+        0 => random.between(least, least + 16),
+        1 => random.between(most - 4, most),
+        _ => random.between(least, most),
+    };
+    let depth = random.pick(&[0, 0, 1, 2, 4, 8]);
+    let mut tree = branch(random, atoms, depth);
+    if !random.once_in(4) {
+        let_be_empty(&mut tree);
+    }
+    tree
 }

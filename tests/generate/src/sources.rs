@@ -1,7 +1,7 @@
 //! Sources: of a pattern, near a limit, damaged or of any bytes.
 
-use crate::patterns::{pattern, Atom, Body, LETTERS};
-use crate::Random;
+use crate::patterns::{large_pattern, pattern, Atom, Body, LETTERS};
+use crate::{Limits, Random, OLD_LIMITS};
 
 const ALPHABET: &[u8] = b"0123459..\"\"((,,))AaNnUuEQZ'@-";
 
@@ -157,10 +157,11 @@ fn near_limit(random: &mut Random) -> String {
     }
 }
 
-/// A count of such numbers, at times the 63rd to 66th, with as many zeros as a source has room for, damaged or cut off.
-/// It is no part of `source`: docs/GTM.md has counts of those.
-pub fn count_at_limit(random: &mut Random) -> Vec<u8> {
-    let atoms = random.pick(&[0, 0, 1, 2, 62, 63, 64, 65]);
+/// A count of such numbers, at times about the last atom that the limits allow, with as many zeros
+/// as a source has room for, damaged or cut off.
+pub fn count_at_limit(random: &mut Random, limits: Limits) -> Vec<u8> {
+    let most = limits.atoms;
+    let atoms = random.pick(&[0, 0, 1, 2, most - 2, most - 1, most, most + 1]);
     let mut source = b"1N".repeat(atoms);
     let mut start = source.len();
     source.extend(near_limit(random).bytes());
@@ -174,7 +175,7 @@ pub fn count_at_limit(random: &mut Random) -> Vec<u8> {
     let tails: [&[u8]; 8] = [b"N", b"N", b"N,", b"Q", b"\"a\"", b"(1N)", b"N5.3N", b""];
     source.extend(random.pick(&tails));
     if random.once_in(2) {
-        let room = 512 - source.len();
+        let room = limits.source - source.len();
         let zeros = [random.below(6), random.below(room), room];
         source.splice(start..start, b"0".repeat(random.pick(&zeros)));
     }
@@ -186,59 +187,65 @@ pub fn count_at_limit(random: &mut Random) -> Vec<u8> {
     source
 }
 
+/// Some atoms fewer than the limit to some more, a part of them in a group, and something after them.
+fn about_most_atoms(random: &mut Random, most: usize) -> Vec<u8> {
+    let grouped = random.below(30);
+    let plain = random.between(most - 3, most + 1) - grouped;
+    let tails: [&[u8]; 7] = [b"", b"5.3N", b".10000N", b"10000N", b"1Q", b",", b"2(1N)"];
+    let mut source = b"1N".repeat(plain);
+    source.extend(b"1(");
+    for at in 0..grouped.max(1) {
+        source.extend(if at == 0 || random.once_in(2) {
+            &b"1N"[..]
+        } else {
+            &b",1N"[..]
+        });
+    }
+    source.extend(b")");
+    source.extend(random.pick(&tails));
+    source
+}
+
+/// Groups 6 to 10 deep.
+fn about_most_depth(random: &mut Random) -> Vec<u8> {
+    let depth = random.between(6, 10);
+    let close = if random.once_in(4) { depth - 1 } else { depth };
+    let middle = random.pick(&[&b"1N"[..], b"1Q", b"5.3N", b"1N,2A"]);
+    let mut source = [b"1(".repeat(depth), middle.to_vec(), b")".repeat(close)].concat();
+    if random.once_in(2) {
+        source.extend(b"1(1(1N))");
+    }
+    source
+}
+
+/// About as many bytes as the limit, filled up with zeros, letters or a literal.
+fn about_most_bytes(random: &mut Random, most: usize) -> Vec<u8> {
+    let start = if random.once_in(4) {
+        fault_list(random)
+    } else {
+        b"2(1N,.A)".to_vec()
+    };
+    let fill = random.between(most - 2, most + 2) - (start.len() + 4).min(most - 2);
+    let end = match random.below(4) {
+        0 => [b"0".repeat(fill + 2), b"1N".to_vec()].concat(),
+        1 => [b"1.".to_vec(), b"N".repeat(fill + 2)].concat(),
+        2 => [b"1\"".to_vec(), b"x".repeat(fill + 1), b"\"".to_vec()].concat(),
+        _ => [
+            b"1\"".to_vec(),
+            b"\"\"".repeat(fill / 2 + 1),
+            b"\"".to_vec(),
+        ]
+        .concat(),
+    };
+    [start, end].concat()
+}
+
 /// A source at or just past one of the limits.
-pub fn at_limit(random: &mut Random) -> Vec<u8> {
+pub fn at_limit(random: &mut Random, limits: Limits) -> Vec<u8> {
     match random.below(5) {
-        // 62 to 66 atoms, some of them in groups, and something after them.
-        0 => {
-            let grouped = random.below(30);
-            let plain = random.between(61, 65) - grouped;
-            let tails: [&[u8]; 7] = [b"", b"5.3N", b".10000N", b"10000N", b"1Q", b",", b"2(1N)"];
-            let mut source = b"1N".repeat(plain);
-            source.extend(b"1(");
-            for at in 0..grouped.max(1) {
-                source.extend(if at == 0 || random.once_in(2) {
-                    &b"1N"[..]
-                } else {
-                    &b",1N"[..]
-                });
-            }
-            source.extend(b")");
-            source.extend(random.pick(&tails));
-            source
-        }
-        // Groups 6 to 10 deep.
-        1 => {
-            let depth = random.between(6, 10);
-            let close = if random.once_in(4) { depth - 1 } else { depth };
-            let middle = random.pick(&[&b"1N"[..], b"1Q", b"5.3N", b"1N,2A"]);
-            let mut source = [b"1(".repeat(depth), middle.to_vec(), b")".repeat(close)].concat();
-            if random.once_in(2) {
-                source.extend(b"1(1(1N))");
-            }
-            source
-        }
-        // 510 to 514 bytes, filled up with zeros, letters or a literal.
-        2 => {
-            let start = if random.once_in(4) {
-                fault_list(random)
-            } else {
-                b"2(1N,.A)".to_vec()
-            };
-            let fill = random.between(510, 514) - (start.len() + 4).min(510);
-            let end = match random.below(4) {
-                0 => [b"0".repeat(fill + 2), b"1N".to_vec()].concat(),
-                1 => [b"1.".to_vec(), b"N".repeat(fill + 2)].concat(),
-                2 => [b"1\"".to_vec(), b"x".repeat(fill + 1), b"\"".to_vec()].concat(),
-                _ => [
-                    b"1\"".to_vec(),
-                    b"\"\"".repeat(fill / 2 + 1),
-                    b"\"".to_vec(),
-                ]
-                .concat(),
-            };
-            [start, end].concat()
-        }
+        0 => about_most_atoms(random, limits.atoms),
+        1 => about_most_depth(random),
+        2 => about_most_bytes(random, limits.source),
         // Numbers near 9,999 or of many digits.
         3 => {
             let mut text = || near_limit(random);
@@ -248,6 +255,24 @@ pub fn at_limit(random: &mut Random) -> Vec<u8> {
     }
 }
 
+/// A source of 65 to 256 atoms or about the limits, at times damaged.
+pub fn large_source(random: &mut Random, limits: Limits) -> Vec<u8> {
+    let mut source = match random.below(4) {
+        0..=1 => {
+            let tree = large_pattern(random);
+            print(random, &tree)
+        }
+        2 => about_most_atoms(random, limits.atoms),
+        _ => about_most_bytes(random, limits.source),
+    };
+    if random.once_in(4) {
+        mutate(random, &mut source, ALPHABET);
+    }
+    source
+}
+
+/// A source of a pattern, damaged, of any bytes, or about the limits of version 1.
+/// docs/GTM.md has counts of these.
 pub fn source(random: &mut Random) -> Vec<u8> {
     match random.below(20) {
         0..=8 => {
@@ -262,6 +287,6 @@ pub fn source(random: &mut Random) -> Vec<u8> {
         }
         14..=15 => random_bytes(random, ALPHABET),
         16 => random_bytes(random, b""),
-        _ => at_limit(random),
+        _ => at_limit(random, OLD_LIMITS),
     }
 }

@@ -74,25 +74,70 @@ fn literal(len: usize) -> Vec<u8> {
     [b"1\"".to_vec(), vec![b'x'; len], b"\"".to_vec()].concat()
 }
 
+fn atoms(count: usize, end: &str) -> Vec<u8> {
+    ["1N".repeat(count), end.to_string()].concat().into_bytes()
+}
+
+/// A group of so many branches.
+fn group(branches: usize) -> Vec<u8> {
+    [
+        b".(".to_vec(),
+        vec![&b"1N"[..]; branches].join(&b','),
+        b")".to_vec(),
+    ]
+    .concat()
+}
+
+/// About 64, 80 and 256 atoms: their labels as long as scratch allows, and one atom more.
+fn many_atoms() -> Vec<Vec<u8>> {
+    let digits = |len| vec![b'1'; len];
+    let eighty = b"1U2N1\"-\".3A".repeat(20);
+    let mut lines = Vec::new();
+    for (count, len) in [(63, 21), (64, 21), (65, 21), (80, 18), (255, 10), (256, 10)] {
+        let optional = b".1N".repeat(count);
+        lines.extend([len, len + 1].map(|len| join(&optional, digits(len))));
+        lines.push(join(atoms(count, ""), digits(len)));
+        lines.push(join(atoms(count, "20000N"), b"x"));
+        lines.push(join(atoms(count, "5.10000N"), b"x"));
+        lines.push(join(atoms(count, "5.3N"), b"x"));
+    }
+    lines.extend([&b"A12-xyz"[..], b"A12-xyzB34-", b""].map(|label| join(&eighty, label)));
+    lines.extend([atoms(64, ","), atoms(257, ""), atoms(300, "")].map(|source| join(source, b"x")));
+    lines.push(join(b".N".repeat(64), digits(21)));
+    lines.push(join(b".N".repeat(256), digits(10)));
+    lines.extend([63, 64, 254, 255, 256].map(|branches| join(group(branches), b"123")));
+    lines
+}
+
+/// Sources of 511 to 513 bytes, which are within the limit, and of as many as a line has room for.
+fn long_sources() -> Vec<Vec<u8>> {
+    let mut lines = Vec::new();
+    for len in [511, 512, 513, 600, 1_022, 1_023, 1_024] {
+        let zeros = [vec![b'0'; len - 2], b"1N".to_vec()].concat();
+        let letters = [b"1".to_vec(), vec![b'N'; len - 1]].concat();
+        let refused = [b"1".to_vec(), vec![b'N'; len - 2], b"Q".to_vec()].concat();
+        for source in [literal(len - 3), zeros, letters, refused] {
+            lines.push(join(source, b""));
+        }
+    }
+    lines.push(join(literal(500), vec![b'x'; 255]));
+    lines.push(join(literal(20), vec![b'x'; 20]));
+    lines.push(join([&b"0".repeat(900)[..], b"10000N"].concat(), b"x"));
+    lines
+}
+
 /// Sources, labels and lines of the greatest length, and of one byte or atom more.
 fn at_limits() -> Vec<Vec<u8>> {
     let x = |len| vec![b'x'; len];
     let mut lines = vec![
-        join(b"1N".repeat(65), b"x"),
-        join([&b"1N".repeat(64)[..], b"20000N"].concat(), b"x"),
-        join([&b"1N".repeat(64)[..], b"5.10000N"].concat(), b"x"),
-        join(b"1N".repeat(64), [b'1'; 64]),
-        join(b".N".repeat(64), [b'1'; 21]),
         join(nested(9), b"1"),
         join(nested(8), b"1"),
-        join(b"1N".repeat(256), b"x"),
-        join(b"1N".repeat(257), b"x"),
-        join(literal(509), b"x"),
-        join(literal(510), b"x"),
         join(b".E.E.E", x(80)),
         join(b".(.(.(.E)))", b"ab".repeat(40)),
         join(b".(.(.N,.A),.E)", b"ab".repeat(50)),
     ];
+    lines.extend(many_atoms());
+    lines.extend(long_sources());
     lines.extend([255, 256, 1_021, 1_022].map(|len| join(b".E", x(len))));
     lines.extend([1_023, 1_024].map(|len| join(x(len), b"")));
     lines.extend([1_024, 1_025, 3_000, 70_000].map(x));

@@ -2,12 +2,18 @@
 
 use crate::join;
 use generate::labels::{cheap_pattern, flatten, most_trials, sample};
-use generate::patterns::pattern;
-use generate::sources::{count_at_limit, mutate, print, random_bytes, source};
-use generate::{Atom, Random};
+use generate::patterns::{large_pattern, pattern};
+use generate::sources::{count_at_limit, large_source, mutate, print, random_bytes, source};
+use generate::{Atom, Limits, Random, LIMITS};
 
 /// The most trials of a match, so that all lines take about a second.
 const DEAREST: u64 = 100_000;
+
+/// The limits as far as a line with a label has room.
+const IN_LINE: Limits = Limits {
+    source: 1_010,
+    ..LIMITS
+};
 
 fn label_near(random: &mut Random, tree: &[Atom]) -> Vec<u8> {
     let mut label = Vec::new();
@@ -27,6 +33,28 @@ fn matched(random: &mut Random) -> Vec<u8> {
     let tree = pattern(random);
     let label = label_near(random, &tree);
     join(print(random, &tree), &label)
+}
+
+/// A pattern of 65 to 256 atoms whose source has room in a line.
+fn large(random: &mut Random) -> Vec<u8> {
+    loop {
+        let tree = large_pattern(random);
+        let source = print(random, &tree);
+        if source.len() <= IN_LINE.source {
+            let mut label = label_near(random, &tree);
+            label.truncate(10);
+            return join(source, label);
+        }
+    }
+}
+
+fn count_in_line(random: &mut Random) -> Vec<u8> {
+    count_at_limit(random, IN_LINE)
+}
+
+fn large_in_line(random: &mut Random) -> Vec<u8> {
+    let source = large_source(random, IN_LINE);
+    source[..source.len().min(IN_LINE.source)].to_vec()
 }
 
 /// A source of this kind, mostly refused, and any label.
@@ -69,9 +97,11 @@ fn odd(random: &mut Random) -> Vec<u8> {
 
 pub fn line(random: &mut Random) -> Vec<u8> {
     match random.below(100) {
-        0..=54 => matched(random),
-        55..=76 => refused(random, source),
-        77..=79 => refused(random, count_at_limit),
+        0..=49 => matched(random),
+        50..=54 => large(random),
+        55..=72 => refused(random, source),
+        73..=75 => refused(random, large_in_line),
+        76..=79 => refused(random, count_in_line),
         80..=81 => at_scratch(random),
         82..=83 => long_label(random),
         84 => long_line(random),

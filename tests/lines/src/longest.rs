@@ -28,7 +28,7 @@ const PATTERNS: [(&str, usize, &str); 13] = [
 ];
 
 /// For so many atoms: with `1N` scratch ends it, with `.N` the one that is named.
-const ATOMS: [(usize, usize, usize, &str); 7] = [
+const ATOMS: [(usize, usize, usize, &str); 10] = [
     (1, 103, 86, BUDGET),
     (2, 89, 72, BUDGET),
     (4, 72, 60, BUDGET),
@@ -36,6 +36,9 @@ const ATOMS: [(usize, usize, usize, &str); 7] = [
     (16, 41, 41, SCRATCH),
     (32, 30, 30, SCRATCH),
     (64, 21, 21, SCRATCH),
+    (80, 18, 18, SCRATCH),
+    (128, 14, 14, SCRATCH),
+    (256, 10, 10, SCRATCH),
 ];
 
 /// Open groups on bytes that no branch takes.

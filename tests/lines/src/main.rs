@@ -45,7 +45,7 @@ fn main() -> std::io::Result<()> {
     let folder = std::env::args().nth(1).expect("a folder");
     let input = input();
     let answers = line::answers(&input);
-    let output = format!("MPT 1\n{}\n", answers.join("\n"));
+    let output = format!("{}\n{}\n", line::FIRST, answers.join("\n"));
     for (kind, count) in tally(&answers) {
         println!("{kind}: {count}");
     }

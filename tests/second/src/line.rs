@@ -2,6 +2,9 @@
 
 use crate::{compile, match_label};
 
+/// The first line of the output.
+pub const FIRST: &str = "MPT 2";
+
 const LINE_MOST: usize = 1_024;
 const SCRATCH: usize = 65_536;
 const BUDGET: u64 = 10_000_000;
