@@ -28,12 +28,12 @@ extern "C" {
 #endif
 
 enum mpt_refusal {
-    MPT_LONG = 1,      /* source over 512 bytes */
+    MPT_LONG = 1,      /* source over 2,048 bytes */
     MPT_FORM = 2,      /* not a pattern */
     MPT_CODE = 3,      /* a letter other than A C E L N P U as a code */
     MPT_NUMBER = 4,    /* a repeat number over 9,999 */
     MPT_RANGE = 5,     /* both repeat numbers fit and the second is less */
-    MPT_ATOMS = 6,     /* a 65th atom */
+    MPT_ATOMS = 6,     /* a 257th atom */
     MPT_DEPTH = 7,     /* a group inside 8 others */
     MPT_ROOM = 8,      /* the lent output is too short */
     MPT_ANSWER = 9,    /* the answer area is too short */
@@ -50,30 +50,32 @@ enum mpt_refusal {
 
 enum {
     MPT_ANSWER_SIZE = 32,   /* the answer area */
-    MPT_SOURCE_MAX = 512,   /* a source, also one written back */
-    MPT_TABLE_MAX = 1160,   /* a table: 8 + 64 * 10 + 512 */
-    MPT_PARTS_MAX = 128,    /* the parts of 64 atoms */
+    MPT_SOURCE_MAX = 2048,  /* a source, also one written back */
+    MPT_ATOMS_MAX = 256,    /* atoms of a pattern, groups counted */
+    MPT_TABLE_MAX = 4617,   /* a table: 9 + 256 * 10 + 2048 */
+    MPT_PARTS_MAX = 512,    /* the parts of 256 atoms */
     MPT_LABEL_MAX = 255,    /* a label */
     MPT_BATCH_MAX = 96,     /* labels in a batch */
     MPT_REGISTER_MIN = 1032 /* a register without tables */
 };
 
-/* Scratch for a table of A atoms (its byte 5) and a label of n bytes, n at most MPT_LABEL_MAX: a longer label is refused
- * before scratch is looked at. MPT_SCRATCH_MAX always suffices; it is 8,650,752 bytes, more than a usual stack. */
+/* Scratch for a table of A atoms (mpt_table_atoms) and a label of n bytes, n at most MPT_LABEL_MAX: a longer label is refused
+ * before scratch is looked at. MPT_SCRATCH_MAX always suffices; it is 33,816,576 bytes, more than a usual stack. */
 #define MPT_SCRATCH_SIZE(A, n) ((2 * (size_t)(A) + 4) * ((size_t)(n) + 1) * ((size_t)(n) + 1))
-#define MPT_SCRATCH_MAX MPT_SCRATCH_SIZE(64, 255)
+#define MPT_SCRATCH_MAX MPT_SCRATCH_SIZE(MPT_ATOMS_MAX, MPT_LABEL_MAX)
 
 /* A budget that is always enough for A atoms and n bytes, n at most MPT_LABEL_MAX: no match makes more trials. This macro and
  * MPT_SCRATCH_SIZE use their arguments more than once. */
 #define MPT_BUDGET_ENOUGH(A, n) \
     ((uint64_t)(A) * ((uint64_t)(n) + 1) * ((uint64_t)(n) + 1) * ((uint64_t)(n) + 2) * ((uint64_t)(n) + 3) / 6)
 
-/* A register that always has room for n tables, n at most 256, whatever their patterns. MPT_REGISTER_MAX, 297,992 bytes, is
+/* A register that always has room for n tables, n at most 256, whatever their patterns. MPT_REGISTER_MAX, 1,182,984 bytes, is
  * never full. */
 #define MPT_REGISTER_SIZE(n) (MPT_REGISTER_MIN + (size_t)(n) * MPT_TABLE_MAX)
 #define MPT_REGISTER_MAX MPT_REGISTER_SIZE(256)
 
-/* The answer's value is the length of the table: lend the other calls that length, not the buffer's. */
+/* Writes a table of version 2. The other calls take tables of version 1 too, good by 64 atoms and 512 bytes of source. The
+ * answer's value is the length of the table: lend the other calls that length, not the buffer's. */
 uint32_t mpt_compile(const uint8_t *source, size_t source_len, uint8_t *table, size_t table_len, uint8_t *answer,
                      size_t answer_len);
 
@@ -130,6 +132,12 @@ static inline uint64_t mpt_answer_value(const uint8_t *answer) { return mpt_answ
 
 /* The trials of a match; with MPT_BUDGET the budget. */
 static inline uint64_t mpt_answer_trials(const uint8_t *answer) { return mpt_answer_number(answer, 2); }
+
+/* The atoms of a table that compiling wrote or that a call took, groups counted. */
+static inline size_t mpt_table_atoms(const uint8_t *table)
+{
+    return table[3] == 1 ? table[5] : table[5] + (size_t)256 * table[6];
+}
 
 /* After yes, the stretch of top-level atom k, k from 0 on, is the label's bytes from begin up to, not including, end. */
 static inline size_t mpt_part_end(const uint8_t *parts, size_t k)

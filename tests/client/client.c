@@ -13,7 +13,7 @@
 
 enum { DIRT = 0xA5 };
 
-static uint8_t table[MPT_TABLE_MAX], source[MPT_SOURCE_MAX], scratch[MPT_SCRATCH_MAX], parts[MPT_PARTS_MAX];
+static uint8_t table[MPT_TABLE_MAX], source[MPT_SOURCE_MAX], scratch[MPT_SCRATCH_SIZE(4, 60)], parts[MPT_PARTS_MAX];
 static uint8_t verdicts[MPT_BATCH_MAX], all_parts[MPT_BATCH_MAX * MPT_PARTS_MAX], answer[MPT_ANSWER_SIZE];
 static uint8_t reg[MPT_REGISTER_SIZE(3)], reg_before[MPT_REGISTER_SIZE(3)];
 
@@ -165,17 +165,18 @@ static void reading(void)
                                        MPT_BUDGET_ENOUGH(256, 255)};
     expect(enough[0] == 1 && enough[1] == 1920, "small budgets");
     expect(enough[2] == UINT64_C(46351253504) && enough[3] == UINT64_C(185405014016), "the largest budgets");
-    expect(MPT_SCRATCH_MAX == 8650752, "the largest scratch");
-    expect(MPT_REGISTER_SIZE(0) == MPT_REGISTER_MIN && MPT_REGISTER_MAX == 297992, "sizes of registers");
+    expect(MPT_SCRATCH_MAX == 33816576, "the largest scratch");
+    expect(MPT_REGISTER_SIZE(0) == MPT_REGISTER_MIN && MPT_REGISTER_MAX == 1182984, "sizes of registers");
 }
 
 static void compiling(void)
 {
-    static const uint8_t two_digits[18] = {0x4D, 0x50, 0x54, 0x01, 0x00, 0x01, 0x00, 0x00, 0x01,
+    static const uint8_t two_digits[19] = {0x4D, 0x50, 0x54, 0x02, 0x00, 0x01, 0x00, 0x00, 0x00, 0x01,
                                            0x01, 0x02, 0x00, 0x02, 0x00, 0x10, 0x00, 0x00, 0x00};
     expect(compile("2N", 0, 0) == sizeof two_digits, "length of the table of 2N");
     expect(memcmp(table, two_digits, sizeof two_digits) == 0, "the table of 2N");
-    expect(compile("9999N", 0, 0) == 18, "length of the table of 9999N");
+    expect(mpt_table_atoms(table) == 1, "the atoms of 2N");
+    expect(compile("9999N", 0, 0) == 19, "length of the table of 9999N");
     compile("", MPT_FORM, 0);
     compile("2N,", MPT_FORM, 2);
     compile("1()", MPT_FORM, 2);
@@ -191,14 +192,17 @@ static void compiling(void)
     memset(text, 'N', sizeof text);
     text[MPT_SOURCE_MAX + 1] = 0;
     compile(text, MPT_LONG, MPT_SOURCE_MAX);
-    for (int at = 0; at < 130; at += 2)
+    for (int at = 0; at < 2 * MPT_ATOMS_MAX + 2; at += 2)
         memcpy(text + at, "1N", 3);
-    compile(text, MPT_ATOMS, 128);
-    memcpy(text + 128, "20000N", 7);
-    compile(text, MPT_ATOMS, 128);
+    compile(text, MPT_ATOMS, 2 * MPT_ATOMS_MAX);
+    memcpy(text + 2 * MPT_ATOMS_MAX, "20000N", 7);
+    compile(text, MPT_ATOMS, 2 * MPT_ATOMS_MAX);
+    text[2 * MPT_ATOMS_MAX] = 0;
+    compile(text, 0, 0);
+    expect(mpt_table_atoms(table) == MPT_ATOMS_MAX, "256 atoms");
 
     memset(table, DIRT, sizeof table);
-    expect(mpt_compile((const uint8_t *)"2N", 2, table, 17, answer, sizeof answer) == MPT_ROOM, "17 bytes of room");
+    expect(mpt_compile((const uint8_t *)"2N", 2, table, 18, answer, sizeof answer) == MPT_ROOM, "18 bytes of room");
     answered(2, 0, 0, "answer of no room");
     expect(all_are(table, sizeof table, DIRT), "table written without room");
 }
@@ -337,7 +341,7 @@ static void registers(void)
     store(255, "1U2N1\"-\"1.6N");
     store(0, "2N");
     size_t len = store(7, "1.6N1.2N");
-    expect(memcmp(reg + MPT_REGISTER_MIN + 18, table, len) == 0, "the second table of three");
+    expect(memcmp(reg + MPT_REGISTER_MIN + 19, table, len) == 0, "the second table of three");
     expect(match(len, "1234567", MPT_SCRATCH_SIZE(2, 7), 4, enough) == 0, "a match without the register");
     uint64_t trials = mpt_answer_trials(answer);
     expect(match_number(7, "1234567", MPT_SCRATCH_SIZE(2, 7), 4, enough) == 0, "a match by number");
@@ -388,29 +392,63 @@ static void refused_registers(void)
     on_register(mpt_register_init(reg, sizeof reg, answer, sizeof answer), 0, "a start over a bad register");
 }
 
-/* 64 atoms in 512 bytes, a label of 255: the header's sizes suffice; source, scratch or parts a byte less don't. */
+/* A version 1 table of 2N is matched, written back and kept beside the version 2 table of the same pattern. */
+static void version_1(void)
+{
+    static const uint8_t old[18] = {0x4D, 0x50, 0x54, 0x01, 0x00, 0x01, 0x00, 0x00, 0x01,
+                                    0x01, 0x02, 0x00, 0x02, 0x00, 0x10, 0x00, 0x00, 0x00};
+    starting_empty();
+    store(9, "2N");
+    on_register(mpt_register_store(reg, sizeof reg, 4, old, sizeof old, answer, sizeof answer), 0, "version 1 stored");
+    expect(fits_number(4, "42") && !fits_number(4, "4x") && fits_number(9, "42"), "both versions in a register");
+
+    memcpy(table, old, sizeof old);
+    expect(mpt_table_atoms(table) == 1, "the atoms of a version 1 table");
+    expect(match(sizeof old, "42", sizeof scratch, 2, UINT64_MAX) == 0 && mpt_answer_value(answer) == 1, "version 1 matched");
+    expect(mpt_write_back(table, sizeof old, source, sizeof source, answer, sizeof answer) == 0, "version 1 written back");
+    answered(0, 2, 0, "answer of version 1 written back");
+    expect(memcmp(source, "2N", 2) == 0, "the source of a version 1 table");
+    table[3] = 3;
+    expect(mpt_write_back(table, sizeof old, source, sizeof source, answer, sizeof answer) == MPT_TABLE, "version 3");
+}
+
+static uint8_t largest_scratch[MPT_SCRATCH_MAX];
+
+/* A label of 255 bytes under no budget. */
+static uint32_t match_largest(size_t table_len, size_t scratch_len, size_t parts_len)
+{
+    uint8_t label[MPT_LABEL_MAX];
+    memset(label, '1', sizeof label);
+    memset(parts, DIRT, sizeof parts);
+    return mpt_match(table, table_len, label, sizeof label, largest_scratch, scratch_len, parts, parts_len, 0, answer,
+                     sizeof answer);
+}
+
+/* 256 atoms in 2,048 bytes, a label of 255: the header's sizes suffice; source, scratch or parts a byte less don't. */
 static void largest(void)
 {
-    char text[MPT_SOURCE_MAX + 1], label[MPT_LABEL_MAX + 1];
+    char text[MPT_SOURCE_MAX + 1];
+    const int before = 2 * (MPT_ATOMS_MAX - 1);
     memset(text, 'x', sizeof text);
-    for (int at = 0; at < 126; at += 2)
+    for (int at = 0; at < before; at += 2)
         memcpy(text + at, "1N", 2);
-    memcpy(text + 126, "1\"", 2);
+    memcpy(text + before, "1\"", 2);
     memcpy(text + MPT_SOURCE_MAX - 1, "\"", 2);
     size_t len = compile(text, 0, 0);
-    expect(len == 8 + 64 * 10 + 383, "length of the table of 64 atoms");
-    expect(mpt_write_back(table, len, source, sizeof source - 1, answer, sizeof answer) == MPT_ROOM, "room for 511");
-    expect(mpt_write_back(table, len, source, sizeof source, answer, sizeof answer) == 0, "room for 512");
-    answered(0, sizeof source, 0, "answer of a source of 512 bytes");
-    expect(memcmp(source, text, sizeof source) == 0, "a source of 512 bytes");
+    expect(len == 9 + MPT_ATOMS_MAX * 10 + 1535, "length of the table of 256 atoms");
+    expect(mpt_write_back(table, len, source, sizeof source - 1, answer, sizeof answer) == MPT_ROOM, "room for 2,047");
+    expect(mpt_write_back(table, len, source, sizeof source, answer, sizeof answer) == 0, "room for 2,048");
+    answered(0, sizeof source, 0, "answer of a source of 2,048 bytes");
+    expect(memcmp(source, text, sizeof source) == 0, "a source of 2,048 bytes");
 
-    memset(label, '1', sizeof label);
-    label[MPT_LABEL_MAX] = 0;
-    expect(match(len, label, sizeof scratch - 1, sizeof parts, 0) == MPT_WORK, "scratch one short of the largest");
-    expect(match(len, label, sizeof scratch, sizeof parts - 1, 0) == MPT_PARTS, "parts one short of the largest");
-    expect(match(len, label, sizeof scratch, sizeof parts, 0) == MPT_BUDGET, "the largest scratch and parts");
+    const size_t work = sizeof largest_scratch;
+    memset(largest_scratch, DIRT, work);
+    expect(match_largest(len, work - 1, sizeof parts) == MPT_WORK, "scratch one short of the largest");
+    expect(match_largest(len, work, sizeof parts - 1) == MPT_PARTS, "parts one short of the largest");
+    expect(largest_scratch[0] == DIRT && largest_scratch[work - 1] == DIRT, "scratch written by a refusal");
+    expect(match_largest(len, work, sizeof parts) == MPT_BUDGET, "the largest scratch and parts");
     answered(0, 0, 0, "answer of no budget");
-    expect(all_are(scratch, sizeof scratch, 0) && all_are(parts, sizeof parts, DIRT), "bytes after no budget");
+    expect(all_are(largest_scratch, work, 0) && all_are(parts, sizeof parts, DIRT), "bytes after no budget");
 }
 
 static void writing_back(void)
@@ -445,15 +483,15 @@ static void short_answers(void)
     for (size_t len = 0; len < MPT_ANSWER_SIZE; len++) {
         memset(answer, DIRT, sizeof answer);
         expect(mpt_register_init(reg, sizeof reg, answer, len) == MPT_ANSWER, "a short answer area");
-        expect(mpt_register_store(reg, sizeof reg, 0, table, 18, answer, len) == MPT_ANSWER, "a short answer area");
+        expect(mpt_register_store(reg, sizeof reg, 0, table, 19, answer, len) == MPT_ANSWER, "a short answer area");
         expect(mpt_register_remove(reg, sizeof reg, 0, answer, len) == MPT_ANSWER, "a short answer area");
         expect(mpt_register_match(reg, sizeof reg, 0, NULL, 0, scratch, 6, parts, 2, 0, answer, len) == MPT_ANSWER,
                "a short answer area");
-        expect(mpt_compile((const uint8_t *)"2N", 2, table, 18, answer, len) == MPT_ANSWER, "a short answer area");
-        expect(mpt_write_back(table, 18, source, 2, answer, len) == MPT_ANSWER, "a short answer area");
-        expect(mpt_match(table, 18, NULL, 0, scratch, 6, parts, 2, 0, answer, len) == MPT_ANSWER,
+        expect(mpt_compile((const uint8_t *)"2N", 2, table, 19, answer, len) == MPT_ANSWER, "a short answer area");
+        expect(mpt_write_back(table, 19, source, 2, answer, len) == MPT_ANSWER, "a short answer area");
+        expect(mpt_match(table, 19, NULL, 0, scratch, 6, parts, 2, 0, answer, len) == MPT_ANSWER,
                "a short answer area");
-        expect(mpt_match_batch(table, 18, NULL, 0, NULL, 0, scratch, 6, verdicts, 1, parts, 2, 0, answer, len) == MPT_ANSWER,
+        expect(mpt_match_batch(table, 19, NULL, 0, NULL, 0, scratch, 6, verdicts, 1, parts, 2, 0, answer, len) == MPT_ANSWER,
                "a short answer area");
         expect(all_are(answer, sizeof answer, DIRT), "a short answer area written");
         expect(all_are(table, sizeof table, DIRT), "a table written by refusal 9");
@@ -469,7 +507,7 @@ static void long_answers(void)
     for (size_t len = MPT_ANSWER_SIZE; len <= sizeof area; len++) {
         memset(area, DIRT, sizeof area);
         expect(mpt_compile((const uint8_t *)"2N", 2, table, sizeof table, area, len) == 0, "a long answer area");
-        expect(mpt_answer_value(area) == 18 && all_are(area + 16, 16, 0), "the table length in a long answer area");
+        expect(mpt_answer_value(area) == 19 && all_are(area + 16, 16, 0), "the table length in a long answer area");
         expect(all_are(area + MPT_ANSWER_SIZE, sizeof area - MPT_ANSWER_SIZE, DIRT), "bytes after the answer");
     }
 }
@@ -513,6 +551,7 @@ int main(void)
     refused_batches();
     registers();
     refused_registers();
+    version_1();
     largest();
     writing_back();
     short_answers();
