@@ -140,30 +140,44 @@ struct Atom {
     rest: Relation,
 }
 
+/// The stretches that satisfy the body of atom `r` once; later atoms are settled.
+fn body_of(
+    records: &[Record],
+    r: usize,
+    pool: &[u8],
+    label: &[u8],
+    atoms: &[Option<Atom>],
+) -> Relation {
+    let places = label.len() + 1;
+    let record = records[r];
+    let mut body = Relation::none(places);
+    match record.kind {
+        1 => (0..label.len())
+            .filter(|&i| in_codes(record.a, label[i]))
+            .for_each(|i| body.add(i, i + 1)),
+        2 => {
+            let value = &pool[usize::from(record.a)..][..usize::from(record.b)];
+            let here = |i: &usize| label[*i..].starts_with(value);
+            (0..places)
+                .filter(here)
+                .for_each(|i| body.add(i, i + value.len()));
+        }
+        _ => {
+            for start in branches(records, r) {
+                body = body.or(&atoms[start].as_ref().unwrap().rest);
+            }
+        }
+    }
+    body
+}
+
 /// The relations of every atom of a good table.
 fn relations(records: &[Record], pool: &[u8], label: &[u8]) -> Vec<Atom> {
     let places = label.len() + 1;
     let mut atoms: Vec<Option<Atom>> = records.iter().map(|_| None).collect();
     for r in (0..records.len()).rev() {
         let record = records[r];
-        let mut body = Relation::none(places);
-        match record.kind {
-            1 => (0..label.len())
-                .filter(|&i| in_codes(record.a, label[i]))
-                .for_each(|i| body.add(i, i + 1)),
-            2 => {
-                let value = &pool[usize::from(record.a)..][..usize::from(record.b)];
-                let here = |i: &usize| label[*i..].starts_with(value);
-                (0..places)
-                    .filter(here)
-                    .for_each(|i| body.add(i, i + value.len()));
-            }
-            _ => {
-                for start in branches(records, r) {
-                    body = body.or(&atoms[start].as_ref().unwrap().rest);
-                }
-            }
-        }
+        let body = body_of(records, r, pool, label, &atoms);
         let at_most_once = body.or(&Relation::empty_stretches(places));
         // Beyond the low number, n more bodies reach whatever any number of them reaches.
         let more = if record.high == OPEN {
@@ -184,56 +198,73 @@ fn relations(records: &[Record], pool: &[u8], label: &[u8]) -> Vec<Atom> {
     atoms.into_iter().flatten().collect()
 }
 
+/// The trials so far, and how many there may be.
+struct Trials {
+    count: u64,
+    budget: u64,
+}
+
+impl Trials {
+    /// Tries ends m from j down to i until one holds; whether one does, or None past the budget.
+    fn try_ends(&mut self, i: usize, j: usize, holds: impl Fn(usize) -> bool) -> Option<bool> {
+        for m in (i..=j).rev() {
+            self.count += 1;
+            if self.count > self.budget {
+                return None;
+            }
+            if holds(m) {
+                return Some(true);
+            }
+        }
+        Some(false)
+    }
+
+    /// The repeats of a body: for each k to `most` the stretches that are made of k.
+    fn repeats(&mut self, body: &Relation, most: usize) -> Option<()> {
+        let w = body.0.len();
+        // made[i * w + j]: the stretch i to j is made of k - 1 bodies.
+        let mut made = vec![false; w * w];
+        (0..w).for_each(|i| made[i * w + i] = true);
+        for _k in 1..=most {
+            let mut next = vec![false; w * w];
+            for i in 0..w {
+                for j in i..w {
+                    let holds = |m: usize| body.has(i, m) && made[m * w + j];
+                    next[i * w + j] = self.try_ends(i, j, holds)?;
+                }
+            }
+            made = next;
+        }
+        Some(())
+    }
+
+    /// An atom and its followers, for each stretch.
+    fn followers(&mut self, whole: &Relation, rest: &Relation) -> Option<()> {
+        let w = whole.0.len();
+        for i in 0..w {
+            for j in i..w {
+                self.try_ends(i, j, |m| whole.has(i, m) && rest.has(m, j))?;
+            }
+        }
+        Some(())
+    }
+}
+
 /// The count of trials as the paper defines it, or None once it exceeds the budget.
 fn count_trials(records: &[Record], atoms: &[Atom], n: usize, budget: u64) -> Option<u64> {
-    let w = n + 1;
-    let mut trials = 0;
+    let mut trials = Trials { count: 0, budget };
     for (r, record) in records.iter().enumerate() {
         let most = if record.high == OPEN {
             n
         } else {
             n.min(usize::from(record.high))
         };
-        // made[i * w + j]: the stretch i to j is made of k - 1 bodies.
-        let mut made = vec![false; w * w];
-        (0..=n).for_each(|i| made[i * w + i] = true);
-        for _k in 1..=most {
-            let mut next = vec![false; w * w];
-            for i in 0..=n {
-                for j in i..=n {
-                    for m in (i..=j).rev() {
-                        trials += 1;
-                        if trials > budget {
-                            return None;
-                        }
-                        if atoms[r].body.has(i, m) && made[m * w + j] {
-                            next[i * w + j] = true;
-                            break;
-                        }
-                    }
-                }
-            }
-            made = next;
-        }
-        if record.last == 1 {
-            continue;
-        }
-        let followers = &atoms[after(records, r)].rest;
-        for i in 0..=n {
-            for j in i..=n {
-                for m in (i..=j).rev() {
-                    trials += 1;
-                    if trials > budget {
-                        return None;
-                    }
-                    if atoms[r].whole.has(i, m) && followers.has(m, j) {
-                        break;
-                    }
-                }
-            }
+        trials.repeats(&atoms[r].body, most)?;
+        if record.last == 0 {
+            trials.followers(&atoms[r].whole, &atoms[after(records, r)].rest)?;
         }
     }
-    Some(trials)
+    Some(trials.count)
 }
 
 /// The indices of the top-level atoms.
@@ -283,27 +314,33 @@ pub fn match_label(
     if label.len() > LABEL_MOST {
         return Matched::refused(LABEL);
     }
-    let n = label.len();
     let (records, pool) = decode(table).unwrap();
-    let clears = (2 * records.len() + 4) * (n + 1) * (n + 1);
+    let places = label.len() + 1;
+    let clears = (2 * records.len() + 4) * places * places;
     if scratch_len < clears {
         return Matched::refused(WORK);
     }
-    let tops = top_level(&records);
-    if parts_len < 2 * tops.len() {
+    if parts_len < 2 * top_level(&records).len() {
         return Matched::refused(PARTS);
     }
     let atoms = relations(&records, pool, label);
-    let Some(trials) = count_trials(&records, &atoms, n, budget) else {
+    Matched {
+        clears,
+        ..verdict(&records, &atoms, label.len(), budget)
+    }
+}
+
+/// The verdict with its parts, or BUDGET; the scratch aside.
+fn verdict(records: &[Record], atoms: &[Atom], n: usize, budget: u64) -> Matched {
+    let Some(trials) = count_trials(records, atoms, n, budget) else {
         return Matched {
             trials: budget,
-            clears,
             ..Matched::refused(BUDGET)
         };
     };
     let verdict = atoms[0].rest.has(0, n);
     let parts = verdict.then(|| {
-        let ends = longest_first(&tops, &atoms, n);
+        let ends = longest_first(&top_level(records), atoms, n);
         ends.iter()
             .flat_map(|&end| (end as u16).to_le_bytes())
             .collect()
@@ -314,6 +351,6 @@ pub fn match_label(
         verdict,
         trials,
         parts,
-        clears,
+        clears: 0,
     }
 }
