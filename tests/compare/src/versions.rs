@@ -175,7 +175,8 @@ fn many_atoms() -> Vec<Call> {
     calls
 }
 
-/// Sources of each length about the limits: letters, zeros, a literal, quotes, and no pattern.
+/// Sources of each length about the limits: letters, zeros, a literal, quotes, no pattern, and
+/// groups one in the other.
 fn source_limits() -> Vec<Call> {
     let mut calls = Vec::new();
     for most in VERSIONS.map(|version| version.source_most) {
@@ -194,6 +195,7 @@ fn source_limits() -> Vec<Call> {
                 fill(b"1", b"N", b"Q"),
                 fill(b"1", b"N", b"1"),
                 fill(b",", b"N", b""),
+                fill(b"", b"1(", b""),
             ] {
                 calls.push(compiled(source, VERSION_2.table_most()));
             }
