@@ -4,7 +4,7 @@
 use crate::call::{Call, Case};
 use crate::expected::expected;
 use crate::fixed::changed_tables;
-use crate::tables::{table_of_len, turned_to, work, ONE_ATOM, PARTS_MOST};
+use crate::tables::{table_of_len, turned_to, work, ONE_ATOM, PARTS_MOST, RECORD};
 use second::{Register, Version, REGISTER_LEAST, VERSION_1, VERSION_2};
 
 /// The bytes behind the tables.
@@ -201,7 +201,7 @@ fn tables() -> Vec<Call> {
 
 /// Tables of both versions, from the shortest to the longest that one literal makes.
 fn tables_to_fit() -> [Vec<u8>; 7] {
-    let longest = |version: Version| version.header_len() + 10 + version.source_most - 3;
+    let longest = |version: Version| version.header_len() + RECORD + version.source_most - 3;
     [
         table_of_len(VERSION_1, 18),
         table_of_len(VERSION_2, 19),

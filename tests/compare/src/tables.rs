@@ -40,7 +40,7 @@ fn put_records(branch: &[Atom], records: &mut Vec<u8>, pool: &mut Vec<u8>) {
                 branches
                     .iter()
                     .for_each(|branch| put_records(branch, records, pool));
-                let next = (records.len() / 10) as u16;
+                let next = (records.len() / RECORD) as u16;
                 records[start + 8..start + 10].copy_from_slice(&next.to_le_bytes());
             }
         }
@@ -85,12 +85,11 @@ pub fn turned_to(version: Version, table: &[u8]) -> Vec<u8> {
         return table.to_vec();
     };
     let (own_header, rest) = table.split_at(own.header_len());
-    let pool_len = [
-        own_header[own.header_len() - 2],
-        own_header[own.header_len() - 1],
-    ];
-    let pool_len = usize::from(u16::from_le_bytes(pool_len));
-    [header(version, atom_count(table), pool_len), rest.to_vec()].concat()
+    let mut turned = header(version, atom_count(table), 0);
+    turned.truncate(version.header_len() - 2);
+    turned.extend(&own_header[own.header_len() - 2..]);
+    turned.extend(rest);
+    turned
 }
 
 /// A table of `len` bytes: one literal of x.
