@@ -200,10 +200,11 @@ fn tables() -> Vec<Call> {
 }
 
 /// Tables of both versions, from the shortest to the longest that one literal makes.
-fn tables_to_fit() -> [Vec<u8>; 7] {
+fn tables_to_fit() -> [Vec<u8>; 8] {
     let longest = |version: Version| version.header_len() + RECORD + version.source_most - 3;
     [
         table_of_len(VERSION_1, 18),
+        table_of_len(VERSION_1, 19),
         table_of_len(VERSION_2, 19),
         table_of_len(VERSION_1, 40),
         table_of_len(VERSION_2, 40),
