@@ -2,11 +2,11 @@
 use mathlib.Core.Path.{_≡_, refl, sym, ap, ap₂, _∙_, subst}
 use mathlib.Core.Bool.{cond}
 use mathlib.Core.List.{[]}
-use Prim.Native.Nat.{ℕ, _<_, _≤_}
+use Prim.Native.Nat.{ℕ, zero, suc, _*_, _<_, _≤_}
 use native.Mathlib.Omega.{arith}
 use lib.ListN.{length}
 use borrow.Author.Tests.{le-leb, lt-leb}
-use Rattle.pattern.specs.Numbers.{source-limit, LONG, FORM}
+use Rattle.pattern.specs.Numbers.{source-limit, atom-limit, record-size, LONG, FORM}
 use Rattle.pattern.specs.Bytes.{Bytes}
 use Rattle.pattern.specs.Syntax.{pattern, Syntax, size}
 use Rattle.pattern.specs.Parser.{top, start}
@@ -18,9 +18,9 @@ use Rattle.compiler.specs.declared.reader.ReaderState.{ReaderState}
 use Rattle.compiler.specs.declared.reader.Parsed.{Parsed}
 use Rattle.compiler.specs.declared.reader.Parsed.the-variants as parsed
 use Rattle.scanner.specs.Scans.{scanned}
-use Rattle.compiler.specs.Readers.{Refused, PatternIs, ReadPatternPost}
+use Rattle.compiler.specs.Readers.{BuffersFit, Moved, Refused, PatternIs, ReadPatternPost}
 use Rattle.table.specs.declared.write.TableWritten.{TableWritten}
-use Rattle.table.specs.Write.{records-room, table-of, table-output, WriteTablePost}
+use Rattle.table.specs.Write.{table-of, table-output, WriteTablePost}
 use Rattle.table.proofs.Writing.{table-is}
 use Rattle.compiler.proofs.Descent.{whole-form, whole-accepted}
 use Rattle.compiler.proofs.Leaves.{state}
@@ -43,6 +43,14 @@ compile-long s table h = compile-by s table (refused LONG source-limit) (ap (λ 
 abbrev pub from-start : ReaderState
 from-start = state (record { at = 0 }) 0 0
 
+-- the records of what was read fit
+pub records-there : {s recs text : Bytes} {st u : ReaderState} → BuffersFit s recs text → Moved s st u → record-size * u .atoms ≤ length recs
+records-there {s} {recs} {u = u} fit m = go (u .atoms) (m .atoms) (omega (arith, m .sparse, m .within))
+  where
+    go : (n : ℕ) → n ≤ atom-limit → n ≤ length s → record-size * n ≤ length recs
+    go zero h l = omega arith
+    go (suc n) h l = omega (arith, fit .recs-fit n (omega arith) (omega arith))
+
 -- the reader's answer, and the buffers before and after
 module _ (s table : Bytes) (short : length s ≤ source-limit) (recs recs′ text text′ : Bytes) where
   pub compile-fault : (a : Parsed) (f p : ℕ) → a ≡ parsed.Fault f p → ReadPatternPost s from-start 0 recs recs′ text text′ a → compile-output (refusal f p) table ≡ compileOf s table
@@ -56,7 +64,7 @@ module _ (s table : Bytes) (short : length s ≤ source-limit) (recs recs′ tex
     unfolding depth compiled
     compile-form w = compile-by s table (refused FORM (u .at .at)) (short-outcome s short ∙ h .scan (top []) refl ∙ whole-form s (u .at .at) (u .atoms) (h .tree) (h .body-ends) (h .over) w)
 
-    module _ (fits : records-room ≤ length recs) (room : source-limit ≤ length text) where
+    module _ (fit : BuffersFit s recs text) where
       pub compile-table : length s ≤ u .at .at → {x : TableWritten} {table′ : Bytes} → WriteTablePost (u .atoms) (u .pool) recs′ text′ table x table′ → (y : TableWritten) → x ≡ y → table-output (u .at .at) y table′ ≡ compileOf s table
       unfolding depth compiled
       compile-table g {table′ = table′} post y e =
@@ -67,6 +75,6 @@ module _ (s table : Bytes) (short : length s ≤ source-limit) (recs recs′ tex
           let n : u .atoms ≡ size t = omega (arith, w .atoms) in
           let l : u .pool ≡ length (pool t) = omega (arith, w .pooled) in
           let b : table-of (u .atoms) (u .pool) recs′ text′ ≡ encode t =
-          (λ j. table-of (n j) (l j) (w .recs-are j) (w .text-is j)) ∙ table-is recs text t (omega (arith, n, m .atoms)) (omega (arith, l, m .pool, m .within)) in
+          (λ j. table-of (n j) (l j) (w .recs-are j) (w .text-is j)) ∙ table-is recs text t (omega (arith, n, records-there fit m)) (omega (arith, l, m .pool, m .within, fit .text-fits)) in
           let k : scan start 0 0 s ≡ accepted t = h .scan (top []) refl ∙ ap (λ j. scanned s (after-pattern (top []) t) j (u .atoms)) a ∙ whole-accepted s (u .atoms) t in
           ap (λ x. table-output (u .at .at) x table′) (sym e) ∙ post .puts (u .at .at) ∙ ap₂ (λ p q. put p q table) a b ∙ compile-by s table (accepted t) (short-outcome s short ∙ k)

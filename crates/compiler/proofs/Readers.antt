@@ -76,7 +76,7 @@ module _ (s : Bytes) (st : ReaderState) (d : ℕ) (recs text : Bytes) where
           low = l;
           high = m;
           body = x .body;
-          moved = record { on = omega (arith, c .onward .on, x .on); within = x .within; atoms = omega (arith, c .room, x .atoms); pool = x .fits };
+          moved = record { on = omega (arith, c .onward .on, x .on); within = x .within; atoms = omega (arith, c .room, x .atoms); sparse = omega (arith, ready .sparse, c .onward .on, x .atoms, x .on); pool = x .fits };
           wrote = wrote-leaf (ends-at s (u .at .at)) l m (x .body) rep (st .atoms) (st .pool) (u .atoms) (u .pool) recs recs′ text text′
               (x .alone) (x .single) (c .rep-is) (x .atoms) (x .pooled) (x .recs-are) (w (pool (x .body)) (x .text-is));
           scan = λ k z. c .scan k ∙ y k ∙ x .scan l m k (suc (st .atoms)) ∙ rw (x .atoms, add-one);
@@ -117,7 +117,7 @@ module _ (s : Bytes) (st : ReaderState) (d : ℕ) (recs text : Bytes) where
         opened k z = c .scan k ∙ group-enter s (at .at) (suc (st .atoms)) k (c .state) (c .begun) (opening-is .within) (opening-is .kind) (rw z shallow) ∙ rw (opening-is .past, add-one)
 
         pub group-ready : ReadPre s (state later (st .atoms + 1) (st .pool)) (d + 1)
-        group-ready = let o = opening-is in record { within = omega (arith, o .past, o .within); atoms = omega (arith, c .room); pool = omega (arith, ready .pool, c .onward .on, o .past); shallow = omega arith }
+        group-ready = let o = opening-is in record { within = omega (arith, o .past, o .within); atoms = omega (arith, c .room); sparse = omega (arith, ready .sparse, c .onward .on, o .past); pool = omega (arith, ready .pool, c .onward .on, o .past); shallow = omega arith }
 
         pub atom-group-fault : (g : Grouped) (f q : ℕ) (recs′ text′ : Bytes) → g ≡ grouped.Fault f q
             → ReadGroupPost s (state later (st .atoms + 1) (st .pool)) (d + 1) recs recs′ text text′ g → ReadAtomPost s st d recs recs′ text text′ (parsed.Fault f q)
@@ -136,7 +136,7 @@ module _ (s : Bytes) (st : ReaderState) (d : ℕ) (recs text : Bytes) where
               low = low (c .state);
               high = high (c .state);
               body = group (v .tree);
-              moved = record { on = omega (arith, m .on, c .onward .on, o .past); within = m .within; atoms = m .atoms; pool = m .pool };
+              moved = record { on = omega (arith, m .on, c .onward .on, o .past); within = m .within; atoms = m .atoms; sparse = m .sparse; pool = m .pool };
               wrote = wrote-group (ends-at s (u .at .at)) (low (c .state)) (high (c .state)) (v .tree) rep b (st .atoms) (st .pool) (u .atoms) (u .pool) recs recs₁ recs₂ text text′ (c .rep-is) (v .count) (v .wrote) (rw g at w);
               scan = λ k z. opened k z ∙ v .scan k (low (c .state)) (high (c .state)) [] (omega arith);
               body-ends = tt;
@@ -186,7 +186,7 @@ module _ (s : Bytes) (st : ReaderState) (d : ℕ) (recs recs₁ text text₁ : B
         let l = a .moved in
         record {
           tree = then b (h .tree);
-          moved = record { on = omega (arith, m .on, l .on); within = m .within; atoms = m .atoms; pool = m .pool };
+          moved = record { on = omega (arith, m .on, l .on); within = m .within; atoms = m .atoms; sparse = m .sparse; pool = m .pool };
           wrote = wrote-then b (h .tree) (st .atoms) (st .pool) (u .atoms) (u .pool) (v .atoms) (v .pool) recs recs₁ recs₂ text text₁ text₂ (rw (sym g ∙ e) at (a .wrote)) (h .wrote);
           scan = λ k o. a .scan k o ∙ atom-next s (u .at .at) (u .atoms) k (a .low) (a .high) (a .body) y w z ∙ h .scan (next k b) (depth-next k b ∙ o);
           body-ends = h .body-ends;
@@ -227,7 +227,7 @@ module _ (s : Bytes) (d : ℕ) (st now : ReaderState) (recs recs₁ text text₁
     read-pattern-more z x y =
         let m = a .moved in
         record {
-          gone = gone-more s d st now recs recs₁ text text₁ recs₂ text₂ u (g .gone) (record { within = m .within; atoms = m .atoms; pool = m .pool; shallow = g .gone .ready .shallow }) (omega (arith, m .on)) x y;
+          gone = gone-more s d st now recs recs₁ text text₁ recs₂ text₂ u (g .gone) (record { within = m .within; atoms = m .atoms; sparse = m .sparse; pool = m .pool; shallow = g .gone .ready .shallow }) (omega (arith, m .on)) x y;
           rest = λ r t b h. g .rest r t b (pattern-more s now d recs₁ recs₂ text₁ text₂ u a f e r t b z h);
         }
 
@@ -253,7 +253,7 @@ module _ (s : Bytes) (st : ReaderState) (d : ℕ) (recs recs₁ text text₁ : B
         let m = p .moved in
         record {
           tree = only (p .tree);
-          moved = record { on = omega (arith, m .on, o .past); within = omega (arith, o .past, o .within); atoms = m .atoms; pool = omega (arith, m .pool, o .past) };
+          moved = record { on = omega (arith, m .on, o .past); within = omega (arith, o .past, o .within); atoms = m .atoms; sparse = omega (arith, m .sparse, o .past); pool = omega (arith, m .pool, o .past) };
           wrote = wrote-only (st .atoms) (st .pool) (u .atoms) (u .pool) recs recs₁ text text₁ (p .tree) (p .wrote);
           count = refl;
           scan = λ k l v others z. p .scan (within k l v others []) z ∙ group-closes s (u .at .at) (u .atoms) (p .tree) k l v others (o .within) (o .value) ∙ rw (o .past);
@@ -284,7 +284,7 @@ module _ (s : Bytes) (st : ReaderState) (d : ℕ) (recs recs₁ text text₁ : B
           let n = x .moved in
           record {
             tree = or (p .tree) (x .tree);
-            moved = record { on = omega (arith, m .on, n .on, o .past); within = n .within; atoms = n .atoms; pool = n .pool };
+            moved = record { on = omega (arith, m .on, n .on, o .past); within = n .within; atoms = n .atoms; sparse = n .sparse; pool = n .pool };
             wrote = wrote-or (p .tree) (x .tree) (st .atoms) (st .pool) (u .atoms) (u .pool) (w .atoms) (w .pool) recs recs₁ recs₂ text text₁ text₂ (p .wrote) (x .wrote);
             count = omega (arith, x .count);
             scan = λ k l v others z. parted k l v others z ∙ x .scan k l v (p .tree ∷ others) z;
@@ -337,7 +337,7 @@ module _ (s : Bytes) (d : ℕ) (st now : ReaderState) (recs recs₁ text text₁
           let w = p .wrote in
           let o = comma-is s now d recs₁ recs₂ text₁ text₂ u p r h past e in
           record {
-            gone = gone-more s d st now recs recs₁ text text₁ recs₂ text₂ (state past (u .atoms) (u .pool)) (g .gone) (record { within = omega (arith, o .past, o .within); atoms = m .atoms; pool = omega (arith, m .pool, o .past); shallow = g .gone .ready .shallow }) (omega (arith, m .on, o .past)) x y;
+            gone = gone-more s d st now recs recs₁ text text₁ recs₂ text₂ (state past (u .atoms) (u .pool)) (g .gone) (record { within = omega (arith, o .past, o .within); atoms = m .atoms; sparse = omega (arith, m .sparse, o .past); pool = omega (arith, m .pool, o .past); shallow = g .gone .ready .shallow }) (omega (arith, m .on, o .past)) x y;
             few = omega (arith, g .few, w .atoms, some-pattern (p .tree));
             rest = on-with;
           }

@@ -2,9 +2,9 @@
 use mathlib.Core.Path.{_≡_}
 use mathlib.Core.List.{List, [], _∷_}
 use mathlib.Core.Option.{Option}
-use Prim.Native.Nat.{ℕ, suc, _+_, _<_, _≤_}
+use Prim.Native.Nat.{ℕ, suc, _+_, _*_, _<_, _≤_}
 use lib.ListN.{length}
-use Rattle.pattern.specs.Numbers.{source-limit, atom-limit, depth-limit}
+use Rattle.pattern.specs.Numbers.{source-limit, atom-limit, depth-limit, record-size}
 use Rattle.pattern.specs.Bytes.{Bytes}
 use Rattle.pattern.specs.Syntax.{Sort, pattern, body, branches, Syntax, last, then, repeat, codes, literal, group, size}
 use Rattle.pattern.specs.Grammar.{letter, quote, body-start}
@@ -21,20 +21,21 @@ use Rattle.compiler.specs.declared.reader.Grouped.the-variants as groupe
 use Rattle.scanner.specs.Places.{ends-at, ClassNot}
 use Rattle.scanner.specs.Scans.{scanned}
 use Rattle.pattern.specs.Stores.{store-at}
-use Rattle.table.specs.Write.{rec-of, records-room, put-records}
+use Rattle.table.specs.Write.{rec-of, put-records}
 use Rattle.scanner.specs.Bodies.{Inside, after-codes, in-literal, Refuses}
 
 -- where a reader may start, in d groups
 pub record ReadPre (s : Bytes) (st : ReaderState) (d : ℕ) : Type 0 where
   pub within : st .at .at ≤ length s
   pub atoms : st .atoms ≤ atom-limit
+  pub sparse : st .atoms ≤ st .at .at
   pub pool : st .pool ≤ st .at .at
   pub shallow : d ≤ depth-limit
 
--- room for the records of all atoms and for the text of the whole source
+-- room for the record of each atom that the source can have, and for the text of the whole source
 pub record BuffersFit (s recs text : Bytes) : Type 0 where
   pub source : length s ≤ source-limit
-  pub recs-fit : records-room ≤ length recs
+  pub recs-fit : (n : ℕ) → n < atom-limit → n < length s → record-size * n + record-size ≤ length recs
   pub text-fits : length s ≤ length text
 
 -- how a reader has moved
@@ -42,6 +43,7 @@ pub record Moved (s : Bytes) (st u : ReaderState) : Type 0 where
   pub on : st .at .at < u .at .at
   pub within : u .at .at ≤ length s
   pub atoms : u .atoms ≤ atom-limit
+  pub sparse : u .atoms ≤ u .at .at
   pub pool : u .pool ≤ u .at .at
 
 -- what it has written: the records and the text of a tree
@@ -87,7 +89,7 @@ pub record ReadLeafPre (s : Bytes) (i n p : ℕ) (recs : Bytes) : Type 0 where
   pub atoms : n < atom-limit
   pub pool : p ≤ i
   pub source : length s ≤ source-limit
-  pub recs-fit : records-room ≤ length recs
+  pub room : record-size * n + record-size ≤ length recs
 
 abbrev pub ReadCodesPost : Bytes → (i n p : ℕ) → Repeat → (recs recs′ : Bytes) → Parsed → Type 0
 ReadCodesPost s i n p rep recs recs′ r = ReadLeafPost s (after-codes 0) (λ v. v ≡ []) i n p rep recs recs′ r

@@ -103,7 +103,7 @@ read-atom-read-codes-requires t c κs =
     let after-b = c .before .before in
     let after-class = after-b .before .before in
     let there = after-class .before in
-    let k = read-atom-counted t there in let r = read-atom-ready t there in let m = read-atom-room t there in let y = class-letter _ _ _ _ _ (after-b .b .given .1) (after-class .class .ensures) in (letter-before _ _ _ _ y, record { within = omega (arith, y .kind .within, y .kind .past); atoms = k .room; pool = omega (arith, r .pool, k .onward .on, y .kind .past); source = m .source; recs-fit = m .recs-fit })
+    let k = read-atom-counted t there in let r = read-atom-ready t there in let m = read-atom-room t there in let y = class-letter _ _ _ _ _ (after-b .b .given .1) (after-class .class .ensures) in (letter-before _ _ _ _ y, record { within = omega (arith, y .kind .within, y .kind .past); atoms = k .room; pool = omega (arith, r .pool, k .onward .on, y .kind .past); source = m .source; room = m .recs-fit _ (k .room) (omega (arith, r .sparse, k .onward .on, y .kind .within)) })
 
 read-atom-enum-known-after : (t : ℕ) → read-atom-lts.Need-enum-known-after (read-atom-claims t) (read-atom-at t) read-atom.Post
 read-atom-enum-known-after t c = search needs
@@ -113,7 +113,7 @@ read-atom-read-literal-requires t c κs =
     let after-after = c .before .before .before in
     let after-class = after-after .before .before in
     let there = after-class .before in
-    let k = read-atom-counted t there in let r = read-atom-ready t there in let m = read-atom-room t there in let y = quote-is _ _ _ _ (after-after .after .given .1) (after-class .class .ensures) in (record { within = omega (arith, y .within, y .past); atoms = k .room; pool = omega (arith, r .pool, k .onward .on, y .past); source = m .source; recs-fit = m .recs-fit }, m .text-fits)
+    let k = read-atom-counted t there in let r = read-atom-ready t there in let m = read-atom-room t there in let y = quote-is _ _ _ _ (after-after .after .given .1) (after-class .class .ensures) in (record { within = omega (arith, y .within, y .past); atoms = k .room; pool = omega (arith, r .pool, k .onward .on, y .past); source = m .source; room = m .recs-fit _ (k .room) (omega (arith, r .sparse, k .onward .on, y .within)) }, m .text-fits)
 
 read-atom-enum-known-after-2 : (t : ℕ) → read-atom-lts.Need-enum-known-after-2 (read-atom-claims t) (read-atom-at t) read-atom.Post
 read-atom-enum-known-after-2 t c = search needs
@@ -154,7 +154,7 @@ read-atom-put-record-requires : (t : ℕ) → read-atom-lts.Need-put-record-requ
 read-atom-put-record-requires t c κs =
     let after-read-group = c .before .before .before .before .before .before .before .before .before .before .before in
     let there = after-read-group .before .before .before .before .before .before .before .before in
-    let k = read-atom-counted t there in let r = read-atom-ready t there in let m = read-atom-room t there in omega (arith, k .room, m .recs-fit, after-read-group .read-group .kept .1 .1 .1 .0)
+    let k = read-atom-counted t there in let r = read-atom-ready t there in let m = read-atom-room t there in omega (arith, m .recs-fit _ (k .room) (omega (arith, r .sparse, k .onward .on, k .onward .within)), after-read-group .read-group .kept .1 .1 .1 .0)
 
 read-atom-enum-known-no : (t : ℕ) → read-atom-lts.Need-enum-known-no (read-atom-claims t) (read-atom-at t) read-atom.Post
 read-atom-enum-known-no t c = search needs
@@ -239,7 +239,7 @@ read-group-loop-holds t c = read-group-start _ _ _ _ _ (c .before .before .befor
 read-group-read-pattern-requires : (t : ℕ) → read-group-lts.Need-read-pattern-requires (read-group-claims t) (read-group-at t) read-group.Post read-group-Inv-loop read-group-μ-loop
 read-group-read-pattern-requires t c κs =
     let start = c .before .before .before .before .before .before in
-    let g = c .before .before .loop .inv in let o = g .gone in let v = start .pre .1 .1 in (omega (arith, o .on, start .pre .0), (o .ready, record { source = v .source; recs-fit = omega (arith, v .recs-fit, o .recs-size); text-fits = omega (arith, v .text-fits, o .text-size) }))
+    let g = c .before .before .loop .inv in let o = g .gone in let v = start .pre .1 .1 in (omega (arith, o .on, start .pre .0), (o .ready, record { source = v .source; recs-fit = λ n h l. omega (arith, v .recs-fit n h l, o .recs-size); text-fits = omega (arith, v .text-fits, o .text-size) }))
 
 read-group-enum-known-next : (t : ℕ) → read-group-lts.Need-enum-known-next (read-group-claims t) (read-group-at t) read-group.Post read-group-Inv-loop read-group-μ-loop
 read-group-enum-known-next t c = search needs
@@ -349,7 +349,7 @@ read-pattern-loop-holds t c = read-pattern-start _ _ _ _ _ (c .before .before .b
 read-pattern-read-atom-requires : (t : ℕ) → read-pattern-lts.Need-read-atom-requires (read-pattern-claims t) (read-pattern-at t) read-pattern.Post read-pattern-Inv-loop read-pattern-μ-loop
 read-pattern-read-atom-requires t c κs =
     let start = c .before .before .before .before .before .before in
-    let g = c .before .before .loop .inv in let v = start .pre .1 .1 in (omega (arith, g .gone .on, start .pre .0), (g .gone .ready, record { source = v .source; recs-fit = omega (arith, v .recs-fit, g .gone .recs-size); text-fits = omega (arith, v .text-fits, g .gone .text-size) }))
+    let g = c .before .before .loop .inv in let v = start .pre .1 .1 in (omega (arith, g .gone .on, start .pre .0), (g .gone .ready, record { source = v .source; recs-fit = λ n h l. omega (arith, v .recs-fit n h l, g .gone .recs-size); text-fits = omega (arith, v .text-fits, g .gone .text-size) }))
 
 read-pattern-enum-known-next : (t : ℕ) → read-pattern-lts.Need-enum-known-next (read-pattern-claims t) (read-pattern-at t) read-pattern.Post read-pattern-Inv-loop read-pattern-μ-loop
 read-pattern-enum-known-next t c = search needs
