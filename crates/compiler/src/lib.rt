@@ -13,14 +13,10 @@ use pattern::limits;
 use pattern::refusal;
 use scanner::cursor::Cursor;
 use table::write::RECORDS_ROOM;
+use table::write::SHORT_RECORDS;
+use table::write::SHORT_SOURCE;
 use table::write::TableWritten;
 use table::write::write_table;
-
-// A source this short has fewer bytes than would take long to zero: its buffers are smaller.
-const SHORT_SOURCE: usize = 64;
-
-// Each of its bytes an atom.
-const SHORT_RECORDS: usize = 10 * SHORT_SOURCE;
 
 // The length of the table, or a refusal and its position.
 pub enum Compiled {

@@ -2,16 +2,16 @@
 use mathlib.Core.Path.{_≡_, ap}
 use mathlib.Core.Bool.{Bool, true, false}
 use mathlib.Core.List.{[], _∷_}
-use mathlib.Core.Option.{some}
-use Prim.Native.Nat.{ℕ, _*_, _≤_, _<_}
+use mathlib.Core.Option.{Option, some}
+use Prim.Native.Nat.{ℕ, _+_, _*_, _≤_, _<_}
 use native.Mathlib.Omega.{arith}
 use lib.ListN.{length, drop, length-append}
-use Rattle.pattern.specs.Numbers.{source-limit, parts-room, quote-byte, closing-byte, comma-byte}
-use Rattle.pattern.specs.Versions.{Version, v1, v2, newest, table-room}
+use Rattle.pattern.specs.Numbers.{source-limit, parts-room, record-size, point-byte, quote-byte, closing-byte, comma-byte}
+use Rattle.pattern.specs.Versions.{Version, v1, v2, newest, header-size, table-room}
 use Rattle.pattern.specs.Bytes.{Bytes, overwrite}
 use Rattle.pattern.specs.Syntax.{Sort, pattern, Syntax, last, then, repeat, codes, literal, group, only, or, size, top-size}
 use Rattle.pattern.specs.Meaning.{Cut}
-use Rattle.pattern.specs.Grammar.{Quoted, start, byte, quote, Derives}
+use Rattle.pattern.specs.Grammar.{Number, one, more, Count, exact, from, range, Quoted, start, byte, quote, Derives}
 use Rattle.pattern.specs.Scan.{Outcome, refused, accepted, outcome}
 use Rattle.pattern.specs.Print.{print}
 use Rattle.pattern.specs.Table.{pool, encode-in, encode}
@@ -21,22 +21,31 @@ use Rattle.pattern.proofs.RoundTrip.{some-atom, encode-length, accepted
 use Rattle.pattern.proofs.Accepted.{accepted-exactly}
 use Rattle.pattern.proofs.Calls.{print-accepted, compile-accepted, compile-zero}
 
--- a source is longer than the literals' values in it
+-- a source is longer than the literals' values in it, by a byte for each atom
 quoted-pool : {v s : Bytes} → Quoted v s → length v ≤ length s
 quoted-pool start = omega arith
 quoted-pool (byte {v} {s} q c e) = omega (arith, quoted-pool q, length-append v (c ∷ []), length-append s (c ∷ []))
 quoted-pool (quote {v} {s} q) = omega (arith, quoted-pool q, length-append v (quote-byte ∷ []), length-append s (quote-byte ∷ quote-byte ∷ []))
 
-derived-pool : {o : Sort} (x : Syntax o) (s : Bytes) → Derives x s → length (pool x) ≤ length s
-unfolding Derives Cut pool
-derived-pool (last a) s h = derived-pool a s h
-derived-pool (then a p) s (u, v, e, x, y) = omega (arith, ap length e, length-append u v, derived-pool a u x, derived-pool p v y, length-append (pool a) (pool p))
-derived-pool (repeat low high b) s (u, v, e, x, y) = omega (arith, ap length e, length-append u v, derived-pool b v y)
-derived-pool (codes set) s h = omega arith
-derived-pool (literal value) s (q, e, r) = omega (arith, ap length e, length-append q (quote-byte ∷ []), quoted-pool r)
-derived-pool (group bs) s (w, e, h) = omega (arith, ap length e, length-append w (closing-byte ∷ []), derived-pool bs w h)
-derived-pool (only p) s h = derived-pool p s h
-derived-pool (or p bs) s (u, w, e, x, y) = omega (arith, ap length e, length-append u (comma-byte ∷ w), derived-pool p u x, derived-pool bs w y, length-append (pool p) (pool bs))
+number-some : {n : ℕ} {s : Bytes} → Number n s → 0 < length s
+number-some (one c e) = omega arith
+number-some (more {s = s} q c e) = omega (arith, length-append s (c ∷ []))
+
+count-some : {low : ℕ} {high : Option ℕ} {s : Bytes} → Count low high s → 0 < length s
+count-some (exact n) = number-some n
+count-some (from {s = s} l) = omega (arith, length-append s (point-byte ∷ []))
+count-some (range {s = s} {w} l n) = omega (arith, length-append s (point-byte ∷ w))
+
+derived-size : {o : Sort} (x : Syntax o) (s : Bytes) → Derives x s → size x + length (pool x) ≤ length s
+unfolding Derives Cut size pool
+derived-size (last a) s h = derived-size a s h
+derived-size (then a p) s (u, v, e, x, y) = omega (arith, ap length e, length-append u v, derived-size a u x, derived-size p v y, length-append (pool a) (pool p))
+derived-size (repeat low high b) s (u, v, e, x, y) = omega (arith, ap length e, length-append u v, count-some x, derived-size b v y)
+derived-size (codes set) s h = omega arith
+derived-size (literal value) s (q, e, r) = omega (arith, ap length e, length-append q (quote-byte ∷ []), quoted-pool r)
+derived-size (group bs) s (w, e, h) = omega (arith, ap length e, length-append w (closing-byte ∷ []), derived-size bs w h)
+derived-size (only p) s h = derived-size p s h
+derived-size (or p bs) s (u, w, e, x, y) = omega (arith, ap length e, length-append u (comma-byte ∷ w), derived-size p u x, derived-size bs w y, length-append (pool p) (pool bs))
 
 pub top-le : (p : Syntax pattern) → top-size p ≤ size p
 unfolding top-size size
@@ -45,8 +54,8 @@ top-le (then a p) = omega (arith, some-atom a, top-le p)
 
 -- the table of a source, in each version
 table-fits : (v : Version) (source : Bytes) (t : Syntax pattern) (table : Bytes) → Compiles v source t table → length table ≤ table-room
-table-fits v1 source t table c = omega (arith, c .few, c .short, derived-pool t source (c .derives), encode-length v1 t, ap length (c .whole))
-table-fits v2 source t table c = omega (arith, c .few, c .short, derived-pool t source (c .derives), encode-length v2 t, ap length (c .whole))
+table-fits v1 source t table c = omega (arith, c .few, c .short, derived-size t source (c .derives), encode-length v1 t, ap length (c .whole))
+table-fits v2 source t table c = omega (arith, c .few, c .short, derived-size t source (c .derives), encode-length v2 t, ap length (c .whole))
 
 pub good-fits : (table : Bytes) (t : Syntax pattern) → decode table ≡ some t → length table ≤ table-room
 good-fits table t good = let (v, source, c) = good-exactly table t .0 good in table-fits v source t table c
@@ -55,6 +64,10 @@ good-fits table t good = let (v, source, c) = good-exactly table t .0 good in ta
 module _ (source : Bytes) (t : Syntax pattern) (good : outcome source ≡ accepted t) where
   pub encode-fits : length (encode t) ≤ table-room
   encode-fits = table-fits newest source t (encode t) (accepted-compiles source t good)
+
+  -- by the length of the source
+  pub encode-short : length (encode t) ≤ header-size newest + record-size * length source
+  encode-short = let (n, s, l) = accepted-exactly source t .0 good in omega (arith, derived-size t source s, encode-length newest t)
 
   pub parts-fit : 2 * top-size t ≤ parts-room
   parts-fit = let (n, s, l) = accepted-exactly source t .0 good in omega (arith, l .atoms, top-le t)

@@ -7,6 +7,7 @@ ghost use Rattle.table.specs.declared.Tested.the-variants.{Good};
 ghost use Rattle.table.specs.Tested.{tested};
 ghost use Rattle.replies.specs.Sizes.{tab-byte, reply-room};
 ghost use Rattle.replies.specs.Reply.{index-of, label-reply, source-reply, reply, answer-to};
+ghost use Rattle.replies.specs.Rooms.{TableFits};
 ghost use Rattle.replies.specs.Stores.{Replied};
 use crate::sizes::BUDGET;
 use crate::sizes::LINE_LIMIT;
@@ -19,6 +20,8 @@ use pattern::refusal;
 use stores::put_byte;
 use table::Sizes;
 use table::Tested;
+use table::write::SHORT_SOURCE;
+use table::write::SHORT_TABLE;
 use table::write::TABLE_ROOM;
 
 // Where the first tab stands, the length if there is none.
@@ -69,18 +72,37 @@ fn put_label(table: &[u8], label: &[u8], scratch: &mut [u8], out: &mut [u8], at:
     }
 }
 
-// A source and a label.
-fn put_cut(source: &[u8], label: &[u8], scratch: &mut [u8], out: &mut [u8], at: usize) -> usize
-    requires { ⌜ at + reply-room ≤ length (now out) ⌝ }
+// A source and a label, by a table that is lent.
+fn put_source(
+    source: &[u8],
+    label: &[u8],
+    table: &mut [u8],
+    scratch: &mut [u8],
+    out: &mut [u8],
+    at: usize,
+) -> usize
+    requires { ⌜ TableFits (now source) (now table) ⌝ ∗ ⌜ at + reply-room ≤ length (now out) ⌝ }
     ensures { λ r. ⌜ Replied reply-room (source-reply (now (source .entry)) (now (label .entry)) (now (scratch .entry))) (now (out .entry)) at (now (scratch .exit)) (now (out .exit)) r ⌝ }
 {
-    let mut table = [0u8; TABLE_ROOM];
-    match compiler::compile(source, &mut table) {
+    match compiler::compile(source, table) {
         Compiled::Table(n) => put_label(&table[..n], label, scratch, out, at),
         Compiled::Refused(number, position) => {
             text::put_refused(number as u64, position as u64, out, at)
         }
     }
+}
+
+// A source and a label.
+fn put_cut(source: &[u8], label: &[u8], scratch: &mut [u8], out: &mut [u8], at: usize) -> usize
+    requires { ⌜ at + reply-room ≤ length (now out) ⌝ }
+    ensures { λ r. ⌜ Replied reply-room (source-reply (now (source .entry)) (now (label .entry)) (now (scratch .entry))) (now (out .entry)) at (now (scratch .exit)) (now (out .exit)) r ⌝ }
+{
+    if source.len() <= SHORT_SOURCE {
+        let mut table = [0u8; SHORT_TABLE];
+        return put_source(source, label, &mut table, scratch, out, at);
+    }
+    let mut table = [0u8; TABLE_ROOM];
+    put_source(source, label, &mut table, scratch, out, at)
 }
 
 fn put_reply(line: &[u8], scratch: &mut [u8], out: &mut [u8], at: usize) -> usize
