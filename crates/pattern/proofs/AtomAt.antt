@@ -217,7 +217,7 @@ range-exactly s p =
       λ (k, h, n, m, l, x, y, z). let g : FitsAndFalls (longest-count empty (drop p s)) = (n, m, sym (longest-one (drop p s) (second n m) l), x, y, z) in j (k, h, falls-begins (drop p s) g, g),
     )
 
--- ATOMS applies just where an atom begins after 64 others or more
+-- ATOMS applies just where an atom begins after 256 others or more
 pub atoms-exactly : (s : Bytes) (p : ℕ) → Applies (rows-at s p) ATOMS ↔ AtomsAt s p
 unfolding AtomsAt
 atoms-exactly s p =

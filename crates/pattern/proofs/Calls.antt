@@ -12,7 +12,7 @@ use lib.ListN.{length}
 use lib.Seq.{take-append-seam, take-length}
 use borrow.Author.Tests.{le-leb, lt-leb, leb-true, leb-false, lt-ltb, le-ltb}
 use Rattle.pattern.specs.Numbers.{source-limit, atom-limit, label-limit, LONG, DEPTH, ROOM, TABLE, LABEL, WORK, PARTS, BUDGET}
-use Rattle.pattern.specs.Versions.{Version, newest}
+use Rattle.pattern.specs.Versions.{Version, written-version}
 use Rattle.pattern.specs.Bytes.{Bytes, overwrite, zeroed}
 use Rattle.pattern.specs.Syntax.{Sort, pattern, Syntax, last, then, repeat, codes, literal, group, only, or, size, top-size}
 use Rattle.pattern.specs.Meaning.{Satisfies}
@@ -23,7 +23,7 @@ use Rattle.pattern.specs.Scan.{refuse, Outcome, refused, accepted, outco
 use Rattle.pattern.specs.Within.{Ordered, InLimits, Limited}
 use Rattle.pattern.specs.Faults.{rows-at, Applies, Least}
 use Rattle.pattern.specs.Print.{print}
-use Rattle.pattern.specs.Table.{encode-in, encode}
+use Rattle.pattern.specs.Table.{encode}
 use Rattle.pattern.specs.Decode.{version-of, decode, Compiles}
 use Rattle.pattern.specs.Answers.{Answer, refusal, result, put-if, put, compiled, compileOf, written-back, writeOf, MatchOutput, scratch-needed, part-bytes, lent-fault, Ending, untried, exhausted, decided, ended, ending, match-ending, matchOf, result-bytes, MatchNumber, Untouched, shown}
 use Rattle.pattern.proofs.Tests.{le-or-lt, not-less, if-true, if-false}
@@ -64,10 +64,10 @@ module _ (table : Bytes) (t : Syntax pattern) (good : decode table ≡ some t) w
 
   -- the table that its tree compiles to is good too, with the same tree
   pub renewed : decode (encode t) ≡ some t
-  renewed = good-exactly (encode t) t .1 (newest, print t, accepted-compiles (print t) t print-accepted)
+  renewed = good-exactly (encode t) t .1 (written-version, print t, accepted-compiles (print t) t print-accepted)
 
   -- and is the table itself, if that is of the version that is written
-  pub encode-same : version-of table ≡ newest → encode t ≡ table
+  pub encode-same : version-of table ≡ written-version → encode t ≡ table
   encode-same e = rw e at (print-compiles .whole)
 
   -- no source that compiles to the table is shorter than its printed one
@@ -103,7 +103,7 @@ unfolding written-back put
 write-printed none source e = absurd (omega arith)
 write-printed (some t) source e = (t, refl, put-written _ 0 (print t) source e)
 
--- demand 2, as 02 amends it: the source that is written back compiles to the newest version's table of the same pattern
+-- demand 2, as 02 amends it: the source that is written back compiles to the version 2 table of the same pattern
 pub write-compile : (table source room : Bytes) (t : Syntax pattern) → decode table ≡ some t → writeOf table source .answer .number ≡ 0 → length (encode t) ≤ length room
     → compileOf (result-bytes (writeOf table source)) room ≡ record { answer = result (length (encode t)) 0; bytes = overwrite (encode t) room }
 unfolding writeOf compileOf compiled
@@ -115,7 +115,7 @@ write-compile table source room t d e h =
     ∙ put-fits _ (encode t) room h
 
 -- which is the table it was written from, if that is of this version
-pub write-compile-same : (table source room : Bytes) → version-of table ≡ newest → writeOf table source .answer .number ≡ 0 → length table ≤ length room
+pub write-compile-same : (table source room : Bytes) → version-of table ≡ written-version → writeOf table source .answer .number ≡ 0 → length table ≤ length room
     → compileOf (result-bytes (writeOf table source)) room ≡ record { answer = result (length table) 0; bytes = overwrite table room }
 unfolding writeOf
 write-compile-same table source room v e h =
@@ -247,7 +247,7 @@ module _ (table label scratch parts : Bytes) (t : Syntax pattern) (good : decode
   pub budgets-agree : (b c : ℕ) → trials label t ≤ b → trials label t ≤ c → matchOf table label scratch parts b ≡ matchOf table label scratch parts c
   budgets-agree b c h k = within-budget b h ∙ sym (within-budget c k)
 
--- a good table is matched as the newest version's table of the same pattern
+-- a good table is matched as the version 2 table of the same pattern
 pub match-renewed : (table label scratch parts : Bytes) (budget : ℕ) (t : Syntax pattern) → decode table ≡ some t
     → matchOf table label scratch parts budget ≡ matchOf (encode t) label scratch parts budget
 unfolding matchOf
@@ -439,8 +439,9 @@ module _ (table label scratch parts : Bytes) (t : Syntax pattern) (good : decode
 pub match-no : (table label scratch parts : Bytes) (budget : ℕ) → matchOf table label scratch parts budget .answer .value ≡ 0 → matchOf table label scratch parts budget .parts ≡ parts
 match-no table label scratch parts budget z = ⊎-elim (λ (n, v). absurd (omega arith)) (λ (v, p). p) (match-leaves table label scratch parts budget .yes-or-kept)
 
--- the trials of a pattern within the limits fit 64 bits
-pub trials-fit : (label : Bytes) (t : Syntax pattern) → length label ≤ label-limit → Limited t → trials label t < 2 ^ 64
+-- the trials of a pattern within the limits keep to the bound, which fits 64 bits
+pub trials-fit : (label : Bytes) (t : Syntax pattern) → length label ≤ label-limit → Limited t
+    → (trials label t ≤ trial-bound (size t) (length label)) × (trial-bound (size t) (length label) < 2 ^ 64)
 unfolding trial-bound
 trials-fit label t l g =
     let n : ℕ = length label in
@@ -448,4 +449,4 @@ trials-fit label t l g =
     let b : n + 2 ≤ label-limit + 2 = omega arith in
     let c : n + 3 ≤ label-limit + 3 = omega arith in
     let o : size t * (n + 1) * (n + 1) * (n + 2) * (n + 3) ≤ atom-limit * (label-limit + 1) * (label-limit + 1) * (label-limit + 2) * (label-limit + 3) = mul-le-mul (mul-le-mul (mul-le-mul (mul-le-mul (g .atoms) a) a) b) c in
-    omega (arith, bound label t, o)
+    (bound label t, omega (arith, o))

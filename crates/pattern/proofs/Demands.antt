@@ -8,7 +8,7 @@ use native.Mathlib.Omega.{arith}
 use lib.ListN.{length}
 use lib.Seq.{take-length}
 use Rattle.pattern.specs.Numbers.{source-limit, LONG, FORM, CODE, NUMBER, RANGE, ATOMS, DEPTH, ROOM, TABLE, BUDGET}
-use Rattle.pattern.specs.Versions.{Version, newest}
+use Rattle.pattern.specs.Versions.{Version, v2}
 use Rattle.pattern.specs.Bytes.{Bytes, overwrite, zeroed}
 use Rattle.pattern.specs.Syntax.{pattern, Syntax, size, top-size}
 use Rattle.pattern.specs.Parts.{Partition, IsVerdict}
@@ -28,8 +28,8 @@ use Rattle.pattern.proofs.Least.{refused-exactly}
 use Rattle.pattern.proofs.FormAt.{stops}
 use Rattle.pattern.proofs.ByteAt.{code-exactly, number-exactly, depth-exactly}
 use Rattle.pattern.proofs.AtomAt.{range-exactly, atoms-exactly}
-use Rattle.pattern.proofs.RoundTrip.{version-encode, good-exactly}
-use Rattle.pattern.proofs.Calls.{put-fits, put-short, renewed, write-compile, write-compile-same, budgets-agree, within-reports, beyond-reports, verdict-exactly, count-bounded, compile-untouched, write-untouched, match-untouched, match-zeroed, scratch-ignored, compile-accepted, compile-zero, compile-number, write-number, match-number, match-verdict, match-parts}
+use Rattle.pattern.proofs.RoundTrip.{accepted-compiles, good-exactly}
+use Rattle.pattern.proofs.Calls.{put-fits, put-short, print-accepted, write-compile, write-compile-same, budgets-agree, within-reports, beyond-reports, verdict-exactly, count-bounded, compile-untouched, write-untouched, match-untouched, match-zeroed, scratch-ignored, compile-accepted, compile-zero, compile-number, write-number, match-number, match-verdict, match-parts}
 
 -- ---- demand 1: any bytes, a verdict or a numbered refusal
 
@@ -80,16 +80,16 @@ pub record Demand2 : Type 0 where
   pub names-depth : (source : Bytes) (p : ℕ) → Applies (rows-at source p) DEPTH ↔ DepthAt source p
   pub names-room : (source table : Bytes) (t : Syntax pattern) → length source ≤ source-limit → Derives t source → Limited t → length table < length (encode t)
       → compileOf source table .answer ≡ refusal ROOM (length source)
-  -- a table is good if some source compiles to it by the limits of a version: "Version 1 tables are still taken, good by the old limits"
+  -- a table is good exactly if some source compiles to it by the limits of a version: "Version 1 tables are still taken, good by the old limits"
   pub tables-exactly : (table : Bytes) (t : Syntax pattern) → (decode table ≡ some t) ↔ ((v : Version) × (source : Bytes) × Compiles v source t table)
   -- "A table written back as source compiles to that same table"; "amending demand 2", a version 1 table gives "the version 2 table of the same pattern"
   pub writes-back : (table source : Bytes) (t : Syntax pattern) → decode table ≡ some t → length (print t) ≤ length source
       → writeOf table source ≡ record { answer = result (length (print t)) 0; bytes = overwrite (print t) source }
-  pub written-compiles : (table source room : Bytes) → version-of table ≡ newest → writeOf table source .answer .number ≡ 0 → length table ≤ length room
+  pub written-compiles : (table source room : Bytes) → version-of table ≡ v2 → writeOf table source .answer .number ≡ 0 → length table ≤ length room
       → compileOf (result-bytes (writeOf table source)) room ≡ record { answer = result (length table) 0; bytes = overwrite table room }
   pub written-renews : (table source room : Bytes) (t : Syntax pattern) → decode table ≡ some t → writeOf table source .answer .number ≡ 0 → length (encode t) ≤ length room
       → compileOf (result-bytes (writeOf table source)) room ≡ record { answer = result (length (encode t)) 0; bytes = overwrite (encode t) room }
-  pub same-pattern : (table : Bytes) (t : Syntax pattern) → decode table ≡ some t → (decode (encode t) ≡ some t) × (version-of (encode t) ≡ newest)
+  pub same-pattern : (table : Bytes) (t : Syntax pattern) → decode table ≡ some t → Compiles v2 (print t) t (encode t)
   -- "The verdict is yes exactly when the standard's partition of the label exists"
   pub yes-exactly : (table label scratch parts : Bytes) (t : Syntax pattern) → decode table ≡ some t → lent-fault t label scratch parts ≡ none → (budget : ℕ) → trials label t ≤ budget
       → (matchOf table label scratch parts budget .answer .value ≡ 1) ↔ ((ends : List ℕ) × Partition label t 0 ends)
@@ -143,7 +143,7 @@ demand-2 = record {
   writes-back = written-whole;
   written-compiles = write-compile-same;
   written-renews = write-compile;
-  same-pattern = λ table t d. (renewed table t d, version-encode newest t);
+  same-pattern = λ table t d. accepted-compiles (print t) t (print-accepted table t d);
   yes-exactly = partition-exists;
   longest-first = match-parts;
 }

@@ -22,7 +22,7 @@ use Rattle.pattern.proofs.Computed.{computed}
 abbrev e-pattern : Syntax pattern
 e-pattern = last (repeat 0 none (codes 4))
 
--- its tables: "Tables keep their bytes and version" still holds of version 1, which the compiler no longer writes
+-- its tables, of version 1 and of version 2
 abbrev e-record : Bytes
 e-record = 1 ∷ 1 ∷ 0 ∷ 0 ∷ 255 ∷ 255 ∷ 4 ∷ 0 ∷ 0 ∷ 0 ∷ []
 

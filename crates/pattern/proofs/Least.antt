@@ -108,7 +108,7 @@ least-one s (accepted t) f p h (x, y, z) = absurd (h p f x)
 pub scan-refused : (s : Bytes) (f p : ℕ) → (scan start 0 0 s ≡ refused f p) ↔ Least s (refused f p)
 scan-refused s f p = (λ e. rw e at (least s), least-one s (scan start 0 0 s) f p (least s))
 
--- refused exactly: LONG at 512 where the source is longer, else the least position with a fault and the lowest number there
+-- refused exactly: LONG at the source limit where the source is longer, else the least position with a fault and the lowest number there
 pub refused-exactly : (s : Bytes) (f p : ℕ)
     → (outcome s ≡ refused f p) ↔ (((source-limit < length s) × (f ≡ LONG) × (p ≡ source-limit)) ⊎ ((length s ≤ source-limit) × Least s (refused f p)))
 unfolding outcome

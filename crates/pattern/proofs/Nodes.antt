@@ -120,6 +120,6 @@ module _ (s : Bytes) (l : Layout) where
       (hold-append (nodes q) (nodes bs) i (subst (Hold (nodes q)) z (held-from q e i p b)) (subst (Hold (nodes bs)) w (held-from bs e _ _ c)))
 
 -- records: node k of a tree has its record at index k of the tree's table, and its own nodes from place k on
-pub held : (v : Version) (t : Syntax pattern) → size t ≤ format v .most-atoms → (k : ℕ) → k < size t → Held (encode-in v t) (layout (encode-in v t)) (nodes t) 0 k
+pub held : (v : Version) (t : Syntax pattern) → size t ≤ format v .atoms → (k : ℕ) → k < size t → Held (encode-in v t) (layout (encode-in v t)) (nodes t) 0 k
 unfolding outside
 held v t few k h = held-from (encode-in v t) (layout (encode-in v t)) t 1 0 0 (encode-placed v t few) k (omega (arith, nodes-size t))

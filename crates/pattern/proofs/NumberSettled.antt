@@ -106,18 +106,18 @@ module _ (w w′ : Bytes) (p : ℕ) where
     kept a-group d f = (λ e. e, λ e. e)
     kept nothing d f = (λ e. e, λ e. e)
 
-    kept-in : (a : Phase) (k : Stack) (x : CharClass) → char-class c ≡ x → scan-at i n c (u ++ w) a k x ≡ refused NUMBER p → SameFault (begins a x) (depth k)
+    is-table-in : (a : Phase) (k : Stack) (x : CharClass) → char-class c ≡ x → scan-at i n c (u ++ w) a k x ≡ refused NUMBER p → SameFault (begins a x) (depth k)
     unfolding begins begun fault scan step move longest-count
-    kept-in a k (body-start b) e h = kept (begins a (body-start b)) (depth k) (λ f. rw (e, longest-count) (rw (e, longest-count) at f))
-    kept-in a k (branch-end b) e h = kept (begins a (branch-end b)) (depth k) (λ f. rw (e, longest-count) (rw (e, longest-count) at f))
-    kept-in (counting empty) k (count-char m) e h = kept an-atom (depth k) (run-settled (c ∷ u) empty k i n l (ap (scan-at i n c (u ++ w) (counting empty) k) e ∙ h))
-    kept-in (counting (first v)) k (count-char digit) e h = (λ e. e, λ e. e)
-    kept-in (counting (first v)) k (count-char point) e h = (λ e. e, λ e. e)
-    kept-in (counting (pointed v)) k (count-char m) e h = (λ e. e, λ e. e)
-    kept-in (counting (second v z)) k (count-char digit) e h = (λ e. e, λ e. e)
-    kept-in (counting (second v z)) k (count-char point) e h = (λ e. e, λ e. e)
-    kept-in (inside v z value) k (count-char m) e h = (λ e. e, λ e. e)
-    kept-in (after v z b) k (count-char m) e h =
+    is-table-in a k (body-start b) e h = kept (begins a (body-start b)) (depth k) (λ f. rw (e, longest-count) (rw (e, longest-count) at f))
+    is-table-in a k (branch-end b) e h = kept (begins a (branch-end b)) (depth k) (λ f. rw (e, longest-count) (rw (e, longest-count) at f))
+    is-table-in (counting empty) k (count-char m) e h = kept an-atom (depth k) (run-settled (c ∷ u) empty k i n l (ap (scan-at i n c (u ++ w) (counting empty) k) e ∙ h))
+    is-table-in (counting (first v)) k (count-char digit) e h = (λ e. e, λ e. e)
+    is-table-in (counting (first v)) k (count-char point) e h = (λ e. e, λ e. e)
+    is-table-in (counting (pointed v)) k (count-char m) e h = (λ e. e, λ e. e)
+    is-table-in (counting (second v z)) k (count-char digit) e h = (λ e. e, λ e. e)
+    is-table-in (counting (second v z)) k (count-char point) e h = (λ e. e, λ e. e)
+    is-table-in (inside v z value) k (count-char m) e h = (λ e. e, λ e. e)
+    is-table-in (after v z b) k (count-char m) e h =
         let t : Stack = next k (repeat v z b) in
         kept an-atom (depth k) (run-settled (c ∷ u) empty t i n l (ap (scan-at i n c (u ++ w) (counting empty) t) e ∙ h))
 
@@ -127,7 +127,7 @@ module _ (w w′ : Bytes) (p : ℕ) where
   settled [] q i n l h = absurd (omega (arith, scan-from w q i n p h))
   settled (c ∷ u) q i n l h =
       let (q′, e, y) = here-or-later q i n c (u ++ w) p h in
-      let (a, b) = kept-in i n c u l (q .0) (q .1) (char-class c) refl h in
+      let (a, b) = is-table-in i n c u l (q .0) (q .1) (char-class c) refl h in
       rw (e, scan) (⊎-elim (λ (f, z). rw (a f) cc) (λ (f, g). rw (b f) (settled u q′ (suc i) _ (omega arith) g)) y)
 
 -- where NUMBER stands in u, it stands so whatever follows u

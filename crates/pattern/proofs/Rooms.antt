@@ -1,22 +1,23 @@
--- Sizes that always suffice: for a table, for its parts, and for a source that is written back. Assumes nothing.
+-- Sizes that always suffice: for a table, for its parts, for scratch, and for a source that is written back. Assumes nothing.
 use mathlib.Core.Path.{_≡_, ap}
 use mathlib.Core.Bool.{Bool, true, false}
 use mathlib.Core.List.{[], _∷_}
 use mathlib.Core.Option.{Option, some}
 use Prim.Native.Nat.{ℕ, _+_, _*_, _≤_, _<_}
+use native.Mathlib.Nat.{mul-le-mul}
 use native.Mathlib.Omega.{arith}
 use lib.ListN.{length, drop, length-append}
-use Rattle.pattern.specs.Numbers.{source-limit, parts-room, record-size, point-byte, quote-byte, closing-byte, comma-byte}
-use Rattle.pattern.specs.Versions.{Version, v1, v2, newest, header-size, table-room}
+use Rattle.pattern.specs.Numbers.{source-limit, atom-limit, label-limit, parts-room, record-size, point-byte, quote-byte, closing-byte, comma-byte}
+use Rattle.pattern.specs.Versions.{Version, v1, v2, written-version, header-size, table-room}
 use Rattle.pattern.specs.Bytes.{Bytes, overwrite}
 use Rattle.pattern.specs.Syntax.{Sort, pattern, Syntax, last, then, repeat, codes, literal, group, only, or, size, top-size}
 use Rattle.pattern.specs.Meaning.{Cut}
 use Rattle.pattern.specs.Grammar.{Number, one, more, Count, exact, from, range, Quoted, start, byte, quote, Derives}
 use Rattle.pattern.specs.Scan.{Outcome, refused, accepted, outcome}
 use Rattle.pattern.specs.Print.{print}
-use Rattle.pattern.specs.Table.{pool, encode-in, encode}
+use Rattle.pattern.specs.Table.{pool, encode}
 use Rattle.pattern.specs.Decode.{decode, Compiles}
-use Rattle.pattern.specs.Answers.{result, put-if, put, compiled, compileOf}
+use Rattle.pattern.specs.Answers.{result, put-if, put, compiled, compileOf, scratch-needed}
 use Rattle.pattern.proofs.RoundTrip.{some-atom, encode-length, accepted-compiles, good-exactly}
 use Rattle.pattern.proofs.Accepted.{accepted-exactly}
 use Rattle.pattern.proofs.Calls.{print-accepted, compile-accepted, compile-zero}
@@ -63,11 +64,11 @@ good-fits table t good = let (v, source, c) = good-exactly table t .0 good in ta
 -- an accepted source's table and parts
 module _ (source : Bytes) (t : Syntax pattern) (good : outcome source ≡ accepted t) where
   pub encode-fits : length (encode t) ≤ table-room
-  encode-fits = table-fits newest source t (encode t) (accepted-compiles source t good)
+  encode-fits = table-fits written-version source t (encode t) (accepted-compiles source t good)
 
   -- by the length of the source
-  pub encode-short : length (encode t) ≤ header-size newest + record-size * length source
-  encode-short = let (n, s, l) = accepted-exactly source t .0 good in omega (arith, derived-size t source s, encode-length newest t)
+  pub encode-short : length (encode t) ≤ header-size written-version + record-size * length source
+  encode-short = let (n, s, l) = accepted-exactly source t .0 good in omega (arith, derived-size t source s, encode-length written-version t)
 
   pub parts-fit : 2 * top-size t ≤ parts-room
   parts-fit = let (n, s, l) = accepted-exactly source t .0 good in omega (arith, l .atoms, top-le t)
@@ -77,6 +78,13 @@ module _ (source : Bytes) (t : Syntax pattern) (good : outcome source ≡ accept
   table-has-room lent r =
       let (n, s, l) = accepted-exactly source t .0 good in
       compile-accepted source lent t n s l (omega (arith, encode-fits))
+
+-- the scratch bytes of every match: "(2A+4) x (n+1) x (n+1)" with 256 atoms and 255 bytes
+pub scratch-fits : (t : Syntax pattern) (n : ℕ) → size t ≤ atom-limit → n ≤ label-limit → scratch-needed t n ≤ 33_816_576
+scratch-fits t n few short =
+    let a : 2 * size t + 4 ≤ 2 * atom-limit + 4 = omega arith in
+    let b : n + 1 ≤ label-limit + 1 = omega arith in
+    mul-le-mul (mul-le-mul a b) b
 
 -- the source of a good table
 pub source-fits : (table : Bytes) (t : Syntax pattern) → decode table ≡ some t → length (print t) ≤ source-limit
@@ -98,7 +106,7 @@ compile-fits s l = go (outcome s)
     go (accepted t) = put-within _ (length s) (encode t) l
 
 encode-some : (t : Syntax pattern) → 0 < length (encode t)
-encode-some t = omega (arith, encode-length newest t)
+encode-some t = omega (arith, encode-length written-version t)
 
 -- no table has length 0
 pub compile-some : (s l : Bytes) → compileOf s l .answer .number ≡ 0 → 0 < compileOf s l .answer .value

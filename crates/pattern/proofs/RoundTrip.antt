@@ -10,14 +10,14 @@ use borrow.Author.Tests.{eq-eqb, ne-eqb}
 use lib.ListN.{length, take, drop}
 use lib.Seq.{take-append-seam}
 use Rattle.pattern.specs.Numbers.{source-limit, atom-limit, record-size, open-high}
-use Rattle.pattern.specs.Versions.{Version, v1, v2, newest, format, header-size}
-use Rattle.pattern.specs.Bytes.{Bytes, equal, little, value}
+use Rattle.pattern.specs.Versions.{Version, v1, v2, written-version, format, header-size}
+use Rattle.pattern.specs.Bytes.{Bytes, little, number-in}
 use Rattle.pattern.specs.Syntax.{Sort, pattern, atom, body, branches, Syntax, last, then, repeat, codes, literal, group, only, or, size}
 use Rattle.pattern.specs.Scan.{Outcome, refused, accepted, outcome}
 use Rattle.pattern.specs.Within.{Small, InLimits}
 use Rattle.pattern.specs.Print.{print}
 use Rattle.pattern.specs.Table.{pool, branch-count, high-field, kind-field, a-field, b-field, Rec, rec, records, record-bytes, header, encode-in, encode}
-use Rattle.pattern.specs.Decode.{version-of, Layout, layout, high-of, record-at, pattern-at, atom-at, body-at, branches-at, tree-of, kept-in, compiled-to, decode, Compiles}
+use Rattle.pattern.specs.Decode.{version-of, Layout, layout, high-of, record-at, pattern-at, atom-at, body-at, branches-at, tree-of, is-table-in, compiled-to, decode, Compiles}
 use Rattle.pattern.proofs.Tests.{Decides, leb-decides, both, if-true, if-false}
 use Rattle.pattern.proofs.Agree.{equal-decides}
 use Rattle.pattern.proofs.Accepted.{accepted-exactly}
@@ -133,20 +133,20 @@ placed-there : (v : Version) (t : Syntax pattern) → let s : Bytes = encode-in 
     → drop (layout s .records + record-size * 0) s ≡ record-bytes (records 1 t 0 0) (pool t) → Placed s (layout s) 1 t 0 0
 placed-there v t n e = record { left = pool t; over = []; recs = e; text = next-there (encode-in v t) _ _ (records 1 t 0 0) (pool t) n e ∙ sym (append-nil (pool t)) }
 
-pub encode-placed : (v : Version) (t : Syntax pattern) → size t ≤ format v .most-atoms → Placed (encode-in v t) (layout (encode-in v t)) 1 t 0 0
-unfolding version-of encode-in header little value
+pub encode-placed : (v : Version) (t : Syntax pattern) → size t ≤ format v .atoms → Placed (encode-in v t) (layout (encode-in v t)) 1 t 0 0
+unfolding version-of encode-in header little number-in
 encode-placed v1 t few = placed-there v1 t (omega (arith, few, count-records 1 t 0 0)) refl
 encode-placed v2 t few = placed-there v2 t (omega (arith, few, count-records 1 t 0 0)) refl
 
 -- a good tree is what its table is read as
-pub tree-encode : (v : Version) (t : Syntax pattern) → InLimits 0 t → size t ≤ format v .most-atoms → tree-of (encode-in v t) ≡ t
+pub tree-encode : (v : Version) (t : Syntax pattern) → InLimits 0 t → size t ≤ format v .atoms → tree-of (encode-in v t) ≡ t
 unfolding tree-of Reads
 tree-encode v t g few = reads (encode-in v t) (layout (encode-in v t)) 0 t 1 g (length (encode-in v t)) 0 0 (omega (arith, encode-length v t)) (encode-placed v t few)
 
 -- ---- which sources compile to a table
 
 -- no version takes more than the compiler
-pub limits-grow : (v : Version) → (format v .longest-source ≤ source-limit) × (format v .most-atoms ≤ atom-limit)
+pub limits-grow : (v : Version) → (format v .source ≤ source-limit) × (format v .atoms ≤ atom-limit)
 limits-grow v1 = (omega arith, omega arith)
 limits-grow v2 = (omega arith, omega arith)
 
@@ -162,28 +162,28 @@ module _ {v : Version} {source : Bytes} {t : Syntax pattern} {s : Bytes} (c : Co
   compiles-version = ap version-of (sym (c .whole)) ∙ version-encode v t
 
 -- in the version that is written every accepted source compiles
-pub accepted-compiles : (source : Bytes) (t : Syntax pattern) → outcome source ≡ accepted t → Compiles newest source t (encode t)
+pub accepted-compiles : (source : Bytes) (t : Syntax pattern) → outcome source ≡ accepted t → Compiles written-version source t (encode t)
 accepted-compiles source t e =
     let (n, h, g) = accepted-exactly source t .0 e in
     record { derives = h; within = g .tree; short = n; few = g .atoms; whole = refl }
 
 module _ (v : Version) (s : Bytes) where
-  -- what `kept-in` tests
-  abbrev Kept : Syntax pattern → Type 0
-  Kept t = (length (print t) ≤ format v .longest-source) × ((size t ≤ format v .most-atoms) × (encode-in v t ≡ s))
+  -- what `is-table-in` tests
+  abbrev TableIn : Syntax pattern → Type 0
+  TableIn t = (length (print t) ≤ format v .source) × ((size t ≤ format v .atoms) × (encode-in v t ≡ s))
 
-  kept-decides : (t : Syntax pattern) → Decides (kept-in v t s) (Kept t)
-  unfolding kept-in
-  kept-decides t = both (leb-decides (length (print t)) (format v .longest-source)) (both (leb-decides (size t) (format v .most-atoms)) (equal-decides (encode-in v t) s))
+  table-in-decides : (t : Syntax pattern) → Decides (is-table-in v t s) (TableIn t)
+  unfolding is-table-in
+  table-in-decides t = both (leb-decides (length (print t)) (format v .source)) (both (leb-decides (size t) (format v .atoms)) (equal-decides (encode-in v t) s))
 
-  compiled-is : (o : Outcome) (t : Syntax pattern) → (compiled-to v s o ≡ some t) ↔ ((o ≡ accepted t) × Kept t)
+  compiled-is : (o : Outcome) (t : Syntax pattern) → (compiled-to v s o ≡ some t) ↔ ((o ≡ accepted t) × TableIn t)
   unfolding compiled-to
   compiled-is (refused f p) t = (λ e. absurd (Option·none-ne-some t e), λ (e, m). absurd (let z : _≡_ {A = ℕ} 0 1 = cc in omega arith))
-  compiled-is (accepted u) t = go (kept-in v u s) (kept-decides u)
+  compiled-is (accepted u) t = go (is-table-in v u s) (table-in-decides u)
     where
-      go : (b : Bool) → Decides b (Kept u) → (_≡_ {A = Option (Syntax pattern)} (elim b [ true ↦ some u | false ↦ none ]) (some t)) ↔ ((accepted u ≡ accepted t) × Kept t)
-      go true d = (λ e. let x : u ≡ t = cc in (ap accepted x, subst Kept x (d .sound tt)), λ (e, m). let x : u ≡ t = cc in ap some x)
-      go false d = (λ e. absurd (Option·none-ne-some t e), λ (e, m). let x : u ≡ t = cc in absurd (d .complete (subst Kept (sym x) m)))
+      go : (b : Bool) → Decides b (TableIn u) → (_≡_ {A = Option (Syntax pattern)} (elim b [ true ↦ some u | false ↦ none ]) (some t)) ↔ ((accepted u ≡ accepted t) × TableIn t)
+      go true d = (λ e. let x : u ≡ t = cc in (ap accepted x, subst TableIn x (d .sound tt)), λ (e, m). let x : u ≡ t = cc in ap some x)
+      go false d = (λ e. absurd (Option·none-ne-some t e), λ (e, m). let x : u ≡ t = cc in absurd (d .complete (subst TableIn (sym x) m)))
 
 -- good exactly: bytes are decoded to a tree just when by the limits of a version some source with this tree compiles to them
 pub good-exactly : (s : Bytes) (t : Syntax pattern) → (decode s ≡ some t) ↔ ((v : Version) × (source : Bytes) × Compiles v source t s)

@@ -4,7 +4,7 @@ use mathlib.Core.List.{List, [], _∷_, _++_, map}
 use Prim.Native.Nat.{ℕ, zero, suc}
 use lib.ListN.{take, replicate}
 use Rattle.pattern.specs.Numbers.{LONG, FORM, CODE, NUMBER, RANGE, ATOMS, DEPTH, ROOM, TABLE}
-use Rattle.pattern.specs.Bytes.{Bytes, bytes}
+use Rattle.pattern.specs.Bytes.{Bytes, le16, bytes}
 use Rattle.pattern.specs.Answers.{Answer, refusal, Output, compileOf, writeOf}
 use Rattle.pattern.proofs.Computed.{computed}
 
@@ -95,17 +95,17 @@ rewrite s =
     let w : Output = writeOf (take (c .answer .value) (c .bytes)) (replicate 128 7) in
     take (w .answer .value) (w .bytes)
 
--- the header of version 2 for n atoms and m bytes of pool, both below 256
+-- the header of version 2 for n atoms, fewer than 256, and m bytes of pool
 abbrev pub header-2 : (n m : ℕ) → Bytes → Bytes
-header-2 n m s = 0x4D ∷ 0x50 ∷ 0x54 ∷ 0x02 ∷ 0x00 ∷ n ∷ 0x00 ∷ m ∷ 0x00 ∷ s
+header-2 n m s = 0x4D ∷ 0x50 ∷ 0x54 ∷ 0x02 ∷ 0x00 ∷ n ∷ 0x00 ∷ le16 m s
 
--- the record of 2N
-abbrev pub Body-2N : Bytes
-Body-2N = 0x01 ∷ 0x01 ∷ 0x02 ∷ 0x00 ∷ 0x02 ∷ 0x00 ∷ 0x10 ∷ 0x00 ∷ 0x00 ∷ 0x00 ∷ []
+-- what follows the header: the record of 2N
+abbrev pub Payload-2N : Bytes
+Payload-2N = 0x01 ∷ 0x01 ∷ 0x02 ∷ 0x00 ∷ 0x02 ∷ 0x00 ∷ 0x10 ∷ 0x00 ∷ 0x00 ∷ 0x00 ∷ []
 
 -- records and pool of .300(1"a""b",12.AN).5""
-abbrev pub Body-group : Bytes
-Body-group =
+abbrev pub Payload-group : Bytes
+Payload-group =
     3 ∷ 0 ∷ 0 ∷ 0 ∷ 44 ∷ 1 ∷ 2 ∷ 0 ∷ 3 ∷ 0
     ∷ 2 ∷ 1 ∷ 1 ∷ 0 ∷ 1 ∷ 0 ∷ 0 ∷ 0 ∷ 3 ∷ 0
     ∷ 1 ∷ 1 ∷ 12 ∷ 0 ∷ 255 ∷ 255 ∷ 17 ∷ 0 ∷ 0 ∷ 0
@@ -113,8 +113,8 @@ Body-group =
     ∷ 97 ∷ 34 ∷ 98 ∷ []
 
 -- records and pool of 1"x"1(1N,1(2A))1"yz": groups that are not first, one of them in the other, and two values in the pool
-abbrev pub Body-nested : Bytes
-Body-nested =
+abbrev pub Payload-nested : Bytes
+Payload-nested =
     2 ∷ 0 ∷ 1 ∷ 0 ∷ 1 ∷ 0 ∷ 0 ∷ 0 ∷ 1 ∷ 0
     ∷ 3 ∷ 0 ∷ 1 ∷ 0 ∷ 1 ∷ 0 ∷ 2 ∷ 0 ∷ 5 ∷ 0
     ∷ 1 ∷ 1 ∷ 1 ∷ 0 ∷ 1 ∷ 0 ∷ 16 ∷ 0 ∷ 0 ∷ 0
@@ -124,12 +124,12 @@ Body-nested =
     ∷ 120 ∷ 121 ∷ 122 ∷ []
 
 -- tables in lent bytes that are longer, ROOM in shorter ones, TABLE and ROOM of a write-back
-pub tables-hold : (compileOf (bytes "2N") (replicate 20 7) .bytes ≡ header-2 1 0 Body-2N ++ 7 ∷ [])
-    × (compileOf (bytes ".300(1\"a\"\"b\",12.AN).5\"\"") (replicate 53 7) .bytes ≡ header-2 4 3 Body-group ++ 7 ∷ [])
-    × (compileOf (bytes "1\"x\"1(1N,1(2A))1\"yz\"") (replicate 73 7) .bytes ≡ header-2 6 3 Body-nested ++ 7 ∷ [])
+pub tables-hold : (compileOf (bytes "2N") (replicate 20 7) .bytes ≡ header-2 1 0 Payload-2N ++ 7 ∷ [])
+    × (compileOf (bytes ".300(1\"a\"\"b\",12.AN).5\"\"") (replicate 53 7) .bytes ≡ header-2 4 3 Payload-group ++ 7 ∷ [])
+    × (compileOf (bytes "1\"x\"1(1N,1(2A))1\"yz\"") (replicate 73 7) .bytes ≡ header-2 6 3 Payload-nested ++ 7 ∷ [])
     × (compileOf (bytes "2N") (replicate 18 7) ≡ record { answer = refusal ROOM 2; bytes = replicate 18 7 })
-    × (writeOf (header-2 1 0 Body-2N ++ 0 ∷ []) (7 ∷ []) ≡ record { answer = refusal TABLE 0; bytes = 7 ∷ [] })
-    × (writeOf (header-2 1 0 Body-2N) (7 ∷ []) ≡ record { answer = refusal ROOM 0; bytes = 7 ∷ [] })
+    × (writeOf (header-2 1 0 Payload-2N ++ 0 ∷ []) (7 ∷ []) ≡ record { answer = refusal TABLE 0; bytes = 7 ∷ [] })
+    × (writeOf (header-2 1 0 Payload-2N) (7 ∷ []) ≡ record { answer = refusal ROOM 0; bytes = 7 ∷ [] })
 unfolding computed
 tables-hold = (refl, refl, refl, refl, refl, refl)
 

@@ -31,9 +31,9 @@ little zero x = []
 little (suc c) x = x % 256 ∷ little c (x / 256)
 
 -- the number that bytes are, the lowest first
-unfoldable pub value : Bytes → ℕ
-value [] = 0
-value (b ∷ s) = b + 256 * value s
+unfoldable pub number-in : Bytes → ℕ
+number-in [] = 0
+number-in (b ∷ s) = b + 256 * number-in s
 
 -- the numbers that bytes hold, two bytes each, the lower first
 unfoldable pub numbers-in : Bytes → List ℕ

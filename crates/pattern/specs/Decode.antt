@@ -7,7 +7,7 @@ use lib.Dec.{leb, eqb}
 use lib.ListN.{length, getD, take, drop}
 use Rattle.pattern.specs.Numbers.{codes-kind, literal-kind, version-place, atoms-place, record-size, open-high}
 use Rattle.pattern.specs.Versions.{Version, v1, v2, format, header-size}
-use Rattle.pattern.specs.Bytes.{Bytes, equal, value}
+use Rattle.pattern.specs.Bytes.{Bytes, equal, number-in}
 use Rattle.pattern.specs.Syntax.{pattern, atom, body, branches, Syntax, last, then, repeat, codes, literal, group, only, or, size}
 use Rattle.pattern.specs.Grammar.{Derives}
 use Rattle.pattern.specs.Scan.{Outcome, refused, accepted, outcome}
@@ -30,18 +30,15 @@ version-of s = elim (eqb (field s version-place) 1) [ true ↦ v1 | false ↦ v2
 
 -- the atom count in the header of a version
 abbrev pub count-in : Version → Bytes → ℕ
-count-in v s = value (take (format v .count-size) (drop atoms-place s))
+count-in v s = number-in (take (format v .width) (drop atoms-place s))
 
 -- how a table is laid out: where its records begin, and where its pool
 pub record Layout : Type 0 where
   pub records : ℕ
   pub pool : ℕ
 
-abbrev pub layout-in : Version → Bytes → Layout
-layout-in v s = record { records = header-size v; pool = header-size v + record-size * count-in v s }
-
 abbrev pub layout : Bytes → Layout
-layout s = layout-in (version-of s) s
+layout s = let v : Version = version-of s in record { records = header-size v; pool = header-size v + record-size * count-in v s }
 
 -- the high number that a record's field stands for
 unfoldable pub high-of : ℕ → Option ℕ
@@ -82,13 +79,13 @@ unfoldable pub tree-of : Bytes → Syntax pattern
 tree-of s = pattern-at s (layout s) (length s) 0
 
 -- the shortest source of a tree keeps the limits of a version, and its table there is these very bytes
-unfoldable pub kept-in : Version → Syntax pattern → Bytes → Bool
-kept-in v t s = leb (length (print t)) (format v .longest-source) && (leb (size t) (format v .most-atoms) && equal (encode-in v t) s)
+unfoldable pub is-table-in : Version → Syntax pattern → Bytes → Bool
+is-table-in v t s = leb (length (print t)) (format v .source) && (leb (size t) (format v .atoms) && equal (encode-in v t) s)
 
 -- the tree of an accepted source, if these bytes are its table
 unfoldable pub compiled-to : Version → Bytes → Outcome → Option (Syntax pattern)
 compiled-to v s (refused f p) = none
-compiled-to v s (accepted t) = elim (kept-in v t s) [ true ↦ some t | false ↦ none ]
+compiled-to v s (accepted t) = elim (is-table-in v t s) [ true ↦ some t | false ↦ none ]
 
 -- "A table is good exactly when some accepted source compiles to it", in the version that it names: the shortest source of its tree does
 unfoldable pub decode : Bytes → Option (Syntax pattern)
@@ -100,6 +97,6 @@ decode s = compiled-to (version-of s) s (outcome (print (tree-of s)))
 pub record Compiles (v : Version) (source : Bytes) (t : Syntax pattern) (table : Bytes) : Type 0 where
   pub derives : Derives t source
   pub within : InLimits 0 t
-  pub short : length source ≤ format v .longest-source
-  pub few : size t ≤ format v .most-atoms
+  pub short : length source ≤ format v .source
+  pub few : size t ≤ format v .atoms
   pub whole : encode-in v t ≡ table

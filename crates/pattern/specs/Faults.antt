@@ -85,7 +85,7 @@ unfoldable pub AtomBegins : Bytes → Type 0
 AtomBegins [] = ⊥
 AtomBegins (c ∷ s) = (m : CountChar) × (char-class c ≡ count-char m)
 
--- ATOMS, "a 65th atom begins", at "its first byte": all that is before an atom stands before it, with 64 atoms in it or more
+-- ATOMS, by "Atom limit 256", at "its first byte": all that is before an atom stands before it, with 256 atoms in it or more
 unfoldable pub AtomsAt : Bytes → ℕ → Type 0
 AtomsAt s p = (k : Stack) × StackSoFar k (take p s) × (atom-limit ≤ stack-size k) × AtomBegins (drop p s)
 

@@ -83,7 +83,7 @@ refuse [] = none
 refuse (t ∷ ts) = elim (t .0) [ true ↦ some (t .1) | false ↦ refuse ts ]
 
 -- rows 5 and 6 of the refusal table for an atom that begins after n others with this count: "both numbers fit and the second is less",
--- and "a 65th atom begins"
+-- and an atom begins after 256 others, by "Atom limit 256"
 unfoldable pub atom-rows : ℕ → CountState → List (Bool × ℕ)
 atom-rows n r =
     (leb (low r) number-limit && not (large (high r)) && falls (low r) (high r), RANGE)

@@ -4,7 +4,7 @@ use mathlib.Core.Option.{Option, none, some}
 use Prim.Native.Nat.{ℕ, suc, _+_}
 use lib.ListN.{length}
 use Rattle.pattern.specs.Numbers.{mark, codes-kind, literal-kind, group-kind, open-high}
-use Rattle.pattern.specs.Versions.{Version, newest, format}
+use Rattle.pattern.specs.Versions.{Version, written-version, format}
 use Rattle.pattern.specs.Bytes.{Bytes, le16, little}
 use Rattle.pattern.specs.Syntax.{Sort, pattern, branches, body, Syntax, last, then, repeat, codes, literal, group, only, or, size}
 
@@ -77,7 +77,7 @@ record-bytes (r ∷ rs) s = r .kind ∷ r .ends ∷ le16 (r .low) (le16 (r .high
 
 -- the header of n atoms and m bytes of pool, before others
 unfoldable pub header : Version → (n m : ℕ) → Bytes → Bytes
-header v n m s = mark ++ le16 (format v .version-number) (little (format v .count-size) n ++ le16 m s)
+header v n m s = mark ++ le16 (format v .version) (little (format v .width) n ++ le16 m s)
 
 -- "a table" of a version: header, records, pool
 unfoldable pub encode-in : Version → Syntax pattern → Bytes
@@ -85,4 +85,4 @@ encode-in v t = header v (size t) (length (pool t)) (record-bytes (records 1 t 0
 
 -- the table that a tree compiles to
 abbrev pub encode : Syntax pattern → Bytes
-encode t = encode-in newest t
+encode t = encode-in written-version t

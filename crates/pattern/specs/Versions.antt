@@ -7,28 +7,28 @@ pub data Version : Type 0 where
   v1 v2 : Version
 
 -- "The compiler writes version 2 only"
-abbrev pub newest : Version
-newest = v2
+abbrev pub written-version : Version
+written-version = v2
 
--- the number in the header, the bytes of the header that hold the atom count, and the limits: the most atoms, and the longest shortest source
+-- the number in the header, the bytes of the header that hold the atom count, and the limits: the most atoms, and the longest source
 pub record Format : Type 0 where
-  pub version-number : ℕ
-  pub count-size : ℕ
-  pub most-atoms : ℕ
-  pub longest-source : ℕ
+  pub version : ℕ
+  pub width : ℕ
+  pub atoms : ℕ
+  pub source : ℕ
 
 -- "Byte 5 is the atom count", "good by the old limits"; "version 2: atom count in bytes 5-6"
 abbrev pub format : Version → Format
-format v1 = record { version-number = 1; count-size = 1; most-atoms = 64; longest-source = 512 }
-format v2 = record { version-number = 2; count-size = 2; most-atoms = atom-limit; longest-source = source-limit }
+format v1 = record { version = 1; width = 1; atoms = 64; source = 512 }
+format v2 = record { version = 2; width = 2; atoms = atom-limit; source = source-limit }
 
--- where the pool length stands after the atom count, and where the records begin: "The table header becomes 9 bytes"
+-- the pool length stands after the atom count, "bytes 6-7" and "in 7-8", and then the records begin: "The table header becomes 9 bytes"
 abbrev pub length-place : Version → ℕ
-length-place v = atoms-place + format v .count-size
+length-place v = atoms-place + format v .width
 
 abbrev pub header-size : Version → ℕ
 header-size v = length-place v + 2
 
 -- a size that suffices for every table
 abbrev pub table-room : ℕ
-table-room = header-size newest + record-size * atom-limit + source-limit
+table-room = header-size written-version + record-size * atom-limit + source-limit

@@ -1,10 +1,12 @@
--- A layout byte by byte. Assumes nothing.
+-- A layout byte by byte, and tables of both versions. Assumes nothing.
 use mathlib.Core.Path.{_≡_, refl}
+use mathlib.Core.Bool.{true}
 use mathlib.Core.List.{[], _∷_, _++_}
 use lib.ListN.{take, drop, set, replicate}
-use Rattle.register.specs.Maps.{empty, tables}
+use Rattle.pattern.specs.Bytes.{Bytes, little}
+use Rattle.pattern.proofs.Computed.{computed}
+use Rattle.register.specs.Maps.{empty, tables, is-table}
 use Rattle.register.specs.Layout.{slot, directory, section, laid-out}
-use Rattle.pattern.specs.Bytes.{little}
 
 -- 300 bytes under number 2 and three under number 255: the mark, version and zeros, the slots of 0 to 2, and the last slot with what follows
 pub layout-holds :
@@ -12,3 +14,11 @@ pub layout-holds :
     × (drop 1028 (laid-out (set (set empty 2 (replicate 300 9)) 255 (7 ∷ 8 ∷ 7 ∷ []))) ≡ 3 ∷ 0 ∷ 0 ∷ 0 ∷ replicate 300 9 ++ 7 ∷ 8 ∷ 7 ∷ [])
 unfolding empty tables slot directory section laid-out little
 layout-holds = (refl, refl)
+
+-- "The register keeps either version": the tables of 2N
+abbrev record-2N : Bytes
+record-2N = 1 ∷ 1 ∷ 2 ∷ 0 ∷ 2 ∷ 0 ∷ 16 ∷ 0 ∷ 0 ∷ 0 ∷ []
+
+pub either-kept : (is-table (77 ∷ 80 ∷ 84 ∷ 1 ∷ 0 ∷ 1 ∷ 0 ∷ 0 ∷ record-2N) ≡ true) × (is-table (77 ∷ 80 ∷ 84 ∷ 2 ∷ 0 ∷ 1 ∷ 0 ∷ 0 ∷ 0 ∷ record-2N) ≡ true)
+unfolding computed is-table
+either-kept = (refl, refl)

@@ -1,15 +1,14 @@
 -- The tables of a section passed one after the other. Assumes nothing.
 use mathlib.Core.Path.{_≡_, refl, sym, ap, _∙_}
 use mathlib.Core.Bool.{true, false}
-use mathlib.Core.List.{[], _∷_}
 use mathlib.Core.Option.{Option, none, some}
-use Prim.Native.Nat.{ℕ, zero, suc, _+_, _*_, _-_, _≤_, _<_}
+use Prim.Native.Nat.{ℕ, suc, _+_, _*_, _-_, _≤_, _<_}
 use native.Mathlib.Omega.{arith}
 use borrow.Author.Tests.{le-leb, lt-leb, ne-eqb}
 use lib.ListN.{length, take, drop, length-append, length-drop}
 use lib.Seq.{length-take-le, drop-drop}
-use Rattle.pattern.specs.Bytes.{Bytes, little, value}
-use Rattle.stores.proofs.Little.{Octets, octets-drop, octets-take, little-value}
+use Rattle.pattern.specs.Bytes.{Bytes, little, number-in}
+use Rattle.stores.proofs.Little.{Octets, octets-drop, octets-take, little-number}
 use Rattle.register.specs.declared.locate.TablesEnd.the-variants as ending
 use Rattle.register.specs.Maps.{numbers, Map, tables, is-table}
 use Rattle.register.specs.Layout.{slot-size, slot, directory-size, allowed}
@@ -23,7 +22,7 @@ unfolding slot
 slot-told slots bytes f h k =
     let v : Bytes = take slot-size slots in
     let n : length v ≡ slot-size = length-take-le slot-size slots h in
-    sym (little-value v (octets-take slot-size slots f)) ∙ ap (λ x. little x (value v)) n ∙ ap (little slot-size) (sym (length-take-le (value v) bytes k))
+    sym (little-number v (octets-take slot-size slots f)) ∙ ap (λ x. little x (number-in v)) n ∙ ap (little slot-size) (sym (length-take-le (number-in v) bytes k))
 
 tables-end-cons : (at : ℕ) (t : Bytes) (o : Option Map) → tables-end at (cons-if true t o) ≡ tables-end (at + length t) o
 unfolding tables-end cons-if tables

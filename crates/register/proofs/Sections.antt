@@ -9,10 +9,10 @@ use borrow.Author.Tests.{le-leb}
 use lib.Dec.{leb, leb→le}
 use lib.ListN.{length, take, drop, length-append, length-drop}
 use lib.Seq.{length-take-le, take-add, take-at, drop-at}
-use Rattle.pattern.specs.Bytes.{Bytes, equal, value}
+use Rattle.pattern.specs.Bytes.{Bytes, equal, number-in}
 use Rattle.pattern.proofs.Agree.{equal-decides}
 use Rattle.pattern.proofs.Tests.{true-T, and-both, passed}
-use Rattle.stores.proofs.Little.{length-little, value-little}
+use Rattle.stores.proofs.Little.{length-little, number-little}
 use Rattle.register.specs.Maps.{Map, tables, total}
 use Rattle.register.specs.Layout.{slot-size, slot, directory, allowed}
 use Rattle.register.specs.Sections.{first-size, first-table, intact, cons-if, held}
@@ -110,7 +110,7 @@ module _ (t : Bytes) (m : Map) (x y : Bytes) (f : allowed t ≡ true) where
 
   sized : first-size d ≡ length t
   unfolding slot
-  sized = ap value takes ∙ value-little (length t) (omega (arith, allowed-short t f))
+  sized = ap number-in takes ∙ number-little (length t) (omega (arith, allowed-short t f))
 
   here : first-table d s ≡ t
   here = ap (λ (n : ℕ). take n s) sized ∙ take-at t (tables m ++ y) (length t) refl

@@ -6,7 +6,7 @@ use mathlib.Core.Option.{Option, none, some}
 use Prim.Native.Nat.{ℕ, zero, suc, _+_, _*_, _-_}
 use lib.Dec.{eqb}
 use lib.ListN.{length, take, drop}
-use Rattle.pattern.specs.Bytes.{Bytes, equal, le16, little, value, overwrite}
+use Rattle.pattern.specs.Bytes.{Bytes, equal, le16, little, number-in, overwrite}
 use Rattle.register.specs.Maps.{numbers, Map, table-of, tables, is-table}
 
 -- "mark MPR and version 1", and zeros up to 8 bytes
@@ -49,7 +49,7 @@ capacity lent = length lent - overhead
 unfoldable pub cut : (c : ℕ) → (slots bytes : Bytes) → Map
 cut zero slots bytes = []
 cut (suc c) slots bytes =
-    let n : ℕ = value (take slot-size slots) in
+    let n : ℕ = number-in (take slot-size slots) in
     take n bytes ∷ cut c (drop slot-size slots) (drop n bytes)
 
 -- no table, or a good one

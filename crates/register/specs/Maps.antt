@@ -34,7 +34,7 @@ tables (t ∷ m) = t ++ tables m
 abbrev pub total : Map → ℕ
 total m = length (tables m)
 
--- the bytes are a good table
+-- the bytes are a good table: "The register keeps either version"
 unfoldable pub is-table : Bytes → Bool
 is-table t = elim (decode t) [ none ↦ false | some _ ↦ true ]
 

@@ -6,7 +6,7 @@ use mathlib.Core.Option.{Option, none, some}
 use Prim.Native.Nat.{ℕ, zero, suc, _+_, _-_, _≤_, _<_}
 use lib.Dec.{leb}
 use lib.ListN.{length, take, drop, set}
-use Rattle.pattern.specs.Bytes.{Bytes, equal, value, overwrite}
+use Rattle.pattern.specs.Bytes.{Bytes, equal, number-in, overwrite}
 use Rattle.register.specs.declared.locate.Location.{Location}
 use Rattle.register.specs.declared.locate.TablesEnd.{TablesEnd}
 use Rattle.register.specs.declared.locate.TablesEnd.the-variants as ending
@@ -17,7 +17,7 @@ use Rattle.register.specs.Layout.{preamble, preamble-size, slot-size, sl
 
 -- the length in the first of these slots, and the table that it cuts from bytes
 abbrev pub first-size : (slots : Bytes) → ℕ
-first-size slots = value (take slot-size slots)
+first-size slots = number-in (take slot-size slots)
 
 abbrev pub first-table : (slots bytes : Bytes) → Bytes
 first-table slots bytes = take (first-size slots) bytes

@@ -5,7 +5,7 @@ use native.Mathlib.Omega.{arith}
 use lib.ListN.{length, take, replicate, length-replicate}
 use borrow.Author.Tests.{ne-eqb}
 use Rattle.pattern.specs.Numbers.{record-size}
-use Rattle.pattern.specs.Versions.{newest, header-size, table-room}
+use Rattle.pattern.specs.Versions.{written-version, header-size, table-room}
 use Rattle.pattern.specs.Bytes.{Bytes}
 use Rattle.pattern.specs.Scan.{Outcome, refused, accepted, outcome}
 use Rattle.pattern.specs.Table.{encode}
@@ -25,7 +25,7 @@ use Rattle.compiler.specs.Compiling.{answer-of}
 pub all-fit : (source lent : Bytes) → table-room ≤ length lent → TableFits source lent
 all-fit source lent h = record { fits = λ t e. omega (arith, encode-fits source t e) }
 
-pub short-fits : (source lent : Bytes) → header-size newest + record-size * length source ≤ length lent → TableFits source lent
+pub short-fits : (source lent : Bytes) → header-size written-version + record-size * length source ≤ length lent → TableFits source lent
 short-fits source lent h = record { fits = λ t e. omega (arith, encode-short source t e) }
 
 -- where the table fits, the reply doesn't depend on what is lent

@@ -5,7 +5,7 @@ use Prim.Native.Nat.{ℕ, zero, suc, _+_, _*_, _-_, _/_, _%_, _<_, _≤_}
 use native.Mathlib.Omega.{arith}
 use lib.ListN.{length, getD, take, drop, set}
 use lib.Seq.{getD-drop}
-use Rattle.pattern.specs.Bytes.{Bytes, le16, little, value}
+use Rattle.pattern.specs.Bytes.{Bytes, le16, little, number-in}
 use Rattle.pattern.specs.Stores.{store-at}
 use Rattle.pattern.proofs.Stores.{store-at-none, store-at-first}
 use Rattle.pattern.specs.Decode.{field}
@@ -31,9 +31,9 @@ length-little zero x = refl
 length-little (suc c) x = ap suc (length-little c (x / 256))
 
 -- a number below 2^32 is read as it was written
-pub value-little : (x : ℕ) → x < 4294967296 → value (little 4 x) ≡ x
-unfolding little value
-value-little x h = omega arith
+pub number-little : (x : ℕ) → x < 4294967296 → number-in (little 4 x) ≡ x
+unfolding little number-in
+number-little x h = omega arith
 
 -- every byte is below 256
 abbrev pub Octets : Bytes → Type 0
@@ -49,50 +49,50 @@ octets-take (suc n) (b ∷ s) f zero = f 0
 octets-take (suc n) (b ∷ s) f (suc k) = octets-take n s (λ j. f (suc j)) k
 
 -- bytes are what their number is written as
-pub little-value : (s : Bytes) → Octets s → little (length s) (value s) ≡ s
-unfolding little value
-little-value [] f = refl
-little-value (b ∷ s) f =
-    let low : (b + 256 * value s) % 256 ≡ b = omega (arith, f 0) in
-    let high : (b + 256 * value s) / 256 ≡ value s = omega (arith, f 0) in
-    rw (low, high, little-value s (λ k. f (suc k)))
+pub little-number : (s : Bytes) → Octets s → little (length s) (number-in s) ≡ s
+unfolding little number-in
+little-number [] f = refl
+little-number (b ∷ s) f =
+    let low : (b + 256 * number-in s) % 256 ≡ b = omega (arith, f 0) in
+    let high : (b + 256 * number-in s) / 256 ≡ number-in s = omega (arith, f 0) in
+    rw (low, high, little-number s (λ k. f (suc k)))
 
 -- ---- one byte, and two
 
-one : (s : Bytes) → value (take 1 s) ≡ getD s 0 0
-unfolding value
+one : (s : Bytes) → number-in (take 1 s) ≡ getD s 0 0
+unfolding number-in
 one [] = refl
 one (a ∷ s) = omega arith
 
-pub value-byte : (s : Bytes) (i : ℕ) → value (take 1 (drop i s)) ≡ getD s i 0
-value-byte s i =
+pub number-byte : (s : Bytes) (i : ℕ) → number-in (take 1 (drop i s)) ≡ getD s i 0
+number-byte s i =
     let e : i + 0 ≡ i = omega arith in
     one (drop i s) ∙ getD-drop i s 0 0 ∙ ap (λ k. getD s k 0) e
 
-two : (s : Bytes) → value (take 2 s) ≡ getD s 0 0 + 256 * getD s 1 0
-unfolding value
+two : (s : Bytes) → number-in (take 2 s) ≡ getD s 0 0 + 256 * getD s 1 0
+unfolding number-in
 two [] = refl
 two (a ∷ []) = omega arith
 two (a ∷ b ∷ s) = omega arith
 
-pub value-field : (s : Bytes) (i : ℕ) → value (take 2 (drop i s)) ≡ field s i
-value-field s i =
+pub number-field : (s : Bytes) (i : ℕ) → number-in (take 2 (drop i s)) ≡ field s i
+number-field s i =
     let e : i + 0 ≡ i = omega arith in
     let first : getD (drop i s) 0 0 ≡ getD s i 0 = getD-drop i s 0 0 ∙ ap (λ k. getD s k 0) e in
     omega (arith, two (drop i s), first, getD-drop i s 1 0)
 
 -- ---- four bytes as two times two
 
-four : (s : Bytes) → value (take 4 s) ≡ getD s 0 0 + 256 * getD s 1 0 + 65536 * (getD s 2 0 + 256 * getD s 3 0)
-unfolding value
+four : (s : Bytes) → number-in (take 4 s) ≡ getD s 0 0 + 256 * getD s 1 0 + 65536 * (getD s 2 0 + 256 * getD s 3 0)
+unfolding number-in
 four [] = refl
 four (a ∷ []) = omega arith
 four (a ∷ b ∷ []) = omega arith
 four (a ∷ b ∷ c ∷ []) = omega arith
 four (a ∷ b ∷ c ∷ d ∷ s) = omega arith
 
-pub value-halves : (s : Bytes) (i : ℕ) → value (take 4 (drop i s)) ≡ field s i + 65536 * field s (i + 2)
-value-halves s i =
+pub number-halves : (s : Bytes) (i : ℕ) → number-in (take 4 (drop i s)) ≡ field s i + 65536 * field s (i + 2)
+number-halves s i =
     let e : i + 0 ≡ i = omega arith in
     let f : i + 2 + 1 ≡ i + 3 = omega arith in
     let first : getD (drop i s) 0 0 ≡ getD s i 0 = getD-drop i s 0 0 ∙ ap (λ k. getD s k 0) e in

@@ -4,7 +4,7 @@ ghost use mathlib.Core.List.{[], _∷_};
 ghost use Prim.Native.Nat.{_+_, _≤_, _<_};
 ghost use lib.ListN.{length, take, drop};
 ghost use lib.Seq.{slice};
-ghost use Rattle.pattern.specs.Bytes.{equal, le16, little, value, zeroed};
+ghost use Rattle.pattern.specs.Bytes.{equal, le16, little, number-in, zeroed};
 ghost use Rattle.pattern.specs.Decode.{field};
 ghost use Rattle.pattern.specs.Stores.{Puts};
 
@@ -38,7 +38,7 @@ pub fn read16(from: &[u8], at: usize) -> u16
 // The 32 bits at a place, the lowest byte first.
 pub fn read32(from: &[u8], at: usize) -> u32
     requires { ⌜ at + 4 ≤ length (now from) ⌝ }
-    ensures { λ r. ⌜ r ≡ value (take 4 (drop at (now (from .entry)))) ⌝ }
+    ensures { λ r. ⌜ r ≡ number-in (take 4 (drop at (now (from .entry)))) ⌝ }
 {
     read16(from, at) as u32 + 65536 * read16(from, at + 2) as u32
 }

@@ -5,10 +5,9 @@ use mathlib.Core.Option.{Option, none, some}
 use Prim.Native.Nat.{ℕ, _+_, _*_, _-_, _<_, _≤_}
 use native.Mathlib.Omega.{arith}
 use lib.Dec.{leb, eqb}
-use lib.ListN.{length, getD, take, drop, length-drop}
+use lib.ListN.{length, take, drop, length-drop}
 use lib.Seq.{take-length}
 use borrow.Author.Tests.{le-leb, lt-leb, eq-eqb, ne-eqb}
-use Rattle.pattern.specs.Numbers.{record-size}
 use Rattle.pattern.specs.Versions.{length-place}
 use Rattle.pattern.specs.Bytes.{Bytes}
 use Rattle.pattern.specs.Syntax.{pattern, Syntax, size, top-size}
@@ -16,6 +15,7 @@ use Rattle.pattern.specs.Table.{pool}
 use Rattle.pattern.specs.Print.{print}
 use Rattle.pattern.specs.Decode.{version-of, decode}
 use Rattle.pattern.proofs.RoundTrip.{limits-grow}
+use Rattle.stores.proofs.Little.{Octets}
 use Rattle.table.specs.Headers.{pick, header-of, headed, read-header}
 use Rattle.table.specs.Checked.{bind, only-if, read-pattern, read-table, walk}
 use Rattle.table.specs.Walk.{place, walked-by, WalkPre, PatternPost}
@@ -53,23 +53,23 @@ start = place 0 0 0
 
 -- bytes whose header was read
 pub record HeadRead (s : Bytes) (h : Header) : Type 0 where
-  pub bytes : (k : ℕ) → getD s k 0 < 256
+  pub bytes : Octets s
   pub head : head.Is h ≡ read-header s
 
 -- what follows the header, as a slice
-abbrev payload : Bytes → Header → Bytes
-payload s h = take (length s - h .records) (drop (h .records) s)
+abbrev payload-slice : Bytes → Header → Bytes
+payload-slice s h = take (length s - h .records) (drop (h .records) s)
 
-payload-is : (s : Bytes) (h : Header) → payload s h ≡ drop (h .records) s
+payload-is : (s : Bytes) (h : Header) → payload-slice s h ≡ drop (h .records) s
 payload-is s h = ap (λ n. take n (drop (h .records) s)) (sym (length-drop (h .records) s)) ∙ take-length (drop (h .records) s)
 
 -- and whose records were walked
 pub record BodyRead (s : Bytes) (h : Header) (x : Walked) : Type 0 where
   pub read-head : HeadRead s h
-  pub few : h .atoms ≤ h .format .most
-  pub walks : PatternPost (payload s h) (h .atoms) start 0 x
+  pub few : h .atoms ≤ h .format .atoms
+  pub walks : PatternPost (payload-slice s h) (h .atoms) start 0 x
 
-module _ (s : Bytes) (bytes : (k : ℕ) → getD s k 0 < 256) where
+module _ (s : Bytes) (bytes : Octets s) where
   -- a table that is not read is not good
   unread : read-table s ≡ none → verdict.Bad ≡ tested (decode s)
   unfolding walk tested
@@ -83,26 +83,26 @@ module _ {s : Bytes} {h : Header} (r : HeadRead s h) where
   headed-so : (headed s ≡ true) × (h ≡ header-of s)
   headed-so = head-is s h (r .head)
 
-  pub bad-atoms : h .format .most < h .atoms → verdict.Bad ≡ tested (decode s)
+  pub bad-atoms : h .format .atoms < h .atoms → verdict.Bad ≡ tested (decode s)
   unfolding read-table
   bad-atoms n =
       let (t, q) = headed-so in
-      unread s (r .bytes) (kept _ _ t ∙ dropped _ _ (lt-leb (header-of s .atoms) (header-of s .format .most) (subst (λ (h : Header). h .format .most < h .atoms) q n)))
+      unread s (r .bytes) (kept _ _ t ∙ dropped _ _ (lt-leb (header-of s .atoms) (header-of s .format .atoms) (subst (λ (h : Header). h .format .atoms < h .atoms) q n)))
 
   -- the header lies within the bytes
   pub records-there : h .records ≤ length s
   records-there = let (t, q) = headed-so in rw q (opens s t .long)
 
-  module _ (n : h .atoms ≤ h .format .most) where
-    pub ready-start : WalkPre (payload s h) (h .atoms) start 0
+  module _ (n : h .atoms ≤ h .format .atoms) where
+    pub ready-start : WalkPre (payload-slice s h) (h .atoms) start 0
     ready-start =
         let (t, q) = headed-so in
         let o = opens s t in
-        let few : header-of s .atoms ≤ header-of s .format .most = subst (λ (h : Header). h .atoms ≤ h .format .most) q n in
+        let few : header-of s .atoms ≤ header-of s .format .atoms = subst (λ (h : Header). h .atoms ≤ h .format .atoms) q n in
         let most = limits-grow (version-of s) .1 in
         let place : ℕ = length-place (version-of s) in
         let long = length-drop (header-of s .records) s in
-        subst (λ (h : Header). WalkPre (payload s h) (h .atoms) start 0) (sym q)
+        subst (λ (h : Header). WalkPre (payload-slice s h) (h .atoms) start 0) (sym q)
         (subst (λ (b : Bytes). WalkPre b (header-of s .atoms) start 0) (sym (payload-is s (header-of s)))
         (record {
           few = omega (arith, few, most);
@@ -122,8 +122,8 @@ module _ {s : Bytes} {h : Header} (r : HeadRead s h) where
     unfolding read-table
     reading =
         let (t, q) = headed-so in
-        let m : header-of s .atoms ≤ header-of s .format .most = subst (λ (h : Header). h .atoms ≤ h .format .most) q n in
-        kept _ _ t ∙ kept _ _ (le-leb (header-of s .atoms) (header-of s .format .most) m) ∙ ap ended (sym q)
+        let m : header-of s .atoms ≤ header-of s .format .atoms = subst (λ (h : Header). h .atoms ≤ h .format .atoms) q n in
+        kept _ _ t ∙ kept _ _ (le-leb (header-of s .atoms) (header-of s .format .atoms) m) ∙ ap ended (sym q)
 
 module _ {s : Bytes} {h : Header} {x : Walked} (r : BodyRead s h x) where
   unread-body : ended (r .read-head) (r .few) h ≡ none → verdict.Bad ≡ tested (decode s)
@@ -158,23 +158,23 @@ module _ {s : Bytes} {h : Header} {x : Walked} (r : BodyRead s h x) where
 
       module _ (p : to .pool ≡ h .length) where
         whole : (t : Syntax pattern) → read-pattern (drop (h .records) s) (h .atoms) (3 * h .atoms + 2) 0 0 0 ≡ some t → to .atom ≡ size t → to .pool ≡ length (pool t)
-            → decode s ≡ only-if (leb (length (print t)) (h .format .longest)) (some t)
+            → decode s ≡ only-if (leb (length (print t)) (h .format .source)) (some t)
         unfolding walk
         whole t v u1 u2 =
             let q = reading (r .read-head) (r .few) ∙ going-on _ _ v ∙ kept _ _ (eq-eqb (size t) (h .atoms) (sym u1 ∙ all)) ∙ kept _ _ (eq-eqb (length (pool t)) (h .length) (sym u2 ∙ p)) in
             sym (walk-is-decode s (r .read-head .bytes)) ∙ going-on _ _ q
-            ∙ ap (λ (h : Header). only-if (leb (length (print t)) (h .format .longest)) (some t)) (sym (headed-so (r .read-head) .1))
+            ∙ ap (λ (h : Header). only-if (leb (length (print t)) (h .format .source)) (some t)) (sym (headed-so (r .read-head) .1))
 
-        pub bad-length : (h .format .longest) < to .source → verdict.Bad ≡ tested (decode s)
+        pub bad-length : (h .format .source) < to .source → verdict.Bad ≡ tested (decode s)
         unfolding tested
         bad-length m =
             let (t, v, u1, u2, u3, z) = gone in
-            sym (ap tested (whole t v u1 u2 ∙ dropped _ _ (lt-leb (length (print t)) (h .format .longest) (omega (arith, u3, m)))))
+            sym (ap tested (whole t v u1 u2 ∙ dropped _ _ (lt-leb (length (print t)) (h .format .source) (omega (arith, u3, m)))))
 
-        pub good-table : to .source ≤ (h .format .longest) → verdict.Good (record { atoms = h .atoms; top = k; source = to .source }) ≡ tested (decode s)
+        pub good-table : to .source ≤ (h .format .source) → verdict.Good (record { atoms = h .atoms; top = k; source = to .source }) ≡ tested (decode s)
         unfolding tested
         good-table m =
             let (t, v, u1, u2, u3, z) = gone in
             let u = sym all ∙ u1 in
             (λ j. verdict.Good (record { atoms = u j; top = z j; source = u3 j }))
-            ∙ sym (ap tested (whole t v u1 u2 ∙ kept _ _ (le-leb (length (print t)) (h .format .longest) (omega (arith, u3, m)))))
+            ∙ sym (ap tested (whole t v u1 u2 ∙ kept _ _ (le-leb (length (print t)) (h .format .source) (omega (arith, u3, m)))))

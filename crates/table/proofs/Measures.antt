@@ -10,13 +10,13 @@ use lib.ListN.{length, getD, drop, length-append, drop-of-length-le}
 use lib.Seq.{drop-cons}
 use borrow.Author.Tests.{le-leb, lt-leb, eq-eqb, ne-eqb}
 use Rattle.pattern.specs.Numbers.{point-byte, quote-byte, open-high, version-place, atoms-place}
-use Rattle.pattern.specs.Versions.{Version, v1, v2, newest, header-size}
+use Rattle.pattern.specs.Versions.{Version, v1, v2, written-version, header-size}
 use Rattle.pattern.specs.Bytes.{Bytes, between}
 use Rattle.pattern.specs.Codes.{all-codes}
 use Rattle.pattern.specs.Print.{decimal, print-low, print-count, print-set, double}
 use Rattle.pattern.specs.Decode.{field, high-of, version-of, count-in}
 use Rattle.pattern.proofs.Tests.{and-both, all, all-at, if-true, if-false}
-use Rattle.stores.proofs.Little.{Octets, value-byte, value-field}
+use Rattle.stores.proofs.Little.{Octets, number-byte, number-field}
 use Rattle.table.specs.Headers.{pick, marked, format-of, header-by, header-of, headed, read-header}
 use Rattle.table.specs.Checked.{all-plain}
 use Rattle.table.specs.Leaves.{text-of}
@@ -104,16 +104,16 @@ module _ (v : Bytes) (i : ℕ) where
 
 -- ---- a header
 
--- no header is longer than that of the newest version
-pub header-least : (v : Version) → header-size v ≤ header-size newest
-header-least v1 = omega arith
-header-least v2 = omega arith
+-- no header is longer than that of the version that is written
+pub header-longest : (v : Version) → header-size v ≤ header-size written-version
+header-longest v1 = omega arith
+header-longest v2 = omega arith
 
 module _ (s : Bytes) where
   abbrev Heads : Bool → Bool → Bool → HeaderRead
   Heads a b c = pick ((a && b) && c) (head.Is (header-of s)) head.Bad
 
-  heads : (a b c : Bool) → leb (header-size newest) (length s) ≡ a → marked s ≡ b → eqb (length s) (header-of s .pool + header-of s .length) ≡ c → read-header s ≡ Heads a b c
+  heads : (a b c : Bool) → leb (header-size written-version) (length s) ≡ a → marked s ≡ b → eqb (length s) (header-of s .pool + header-of s .length) ≡ c → read-header s ≡ Heads a b c
   unfolding read-header headed
   heads a b c e f g = ap₂ (λ x y. Heads x y (eqb (length s) (header-of s .pool + header-of s .length))) e f ∙ ap (λ z. Heads a b z) g
 
@@ -126,36 +126,36 @@ module _ (s : Bytes) where
   unfolding version-of
   version-2 n = if-false _ _ _ (ne-eqb _ _ n)
 
-  pub header-1 : field s version-place ≡ 1 → (header-by s (getD s atoms-place 0) (format-of v1) ≡ header-of s) × (header-size (version-of s) ≡ 8)
-  header-1 e =
+  pub header-of-1 : field s version-place ≡ 1 → (header-by s (getD s atoms-place 0) (format-of v1) ≡ header-of s) × (header-size (version-of s) ≡ 8)
+  header-of-1 e =
       let v = version-1 e in
-      (ap (λ (n : ℕ). header-by s n (format-of v1)) (sym (value-byte s atoms-place)) ∙ ap (λ (w : Version). header-by s (count-in w s) (format-of w)) (sym v), ap header-size v)
+      (ap (λ (n : ℕ). header-by s n (format-of v1)) (sym (number-byte s atoms-place)) ∙ ap (λ (w : Version). header-by s (count-in w s) (format-of w)) (sym v), ap header-size v)
 
-  pub header-2 : (field s version-place ≡ 1 → ⊥) → (header-by s (field s atoms-place) (format-of v2) ≡ header-of s) × (header-size (version-of s) ≡ 9)
-  header-2 n =
+  pub header-of-2 : (field s version-place ≡ 1 → ⊥) → (header-by s (field s atoms-place) (format-of v2) ≡ header-of s) × (header-size (version-of s) ≡ 9)
+  header-of-2 n =
       let v = version-2 n in
-      (ap (λ (k : ℕ). header-by s k (format-of v2)) (sym (value-field s atoms-place)) ∙ ap (λ (w : Version). header-by s (count-in w s) (format-of w)) (sym v), ap header-size v)
+      (ap (λ (k : ℕ). header-by s k (format-of v2)) (sym (number-field s atoms-place)) ∙ ap (λ (w : Version). header-by s (count-in w s) (format-of w)) (sym v), ap header-size v)
 
   -- the numbers of a header are small
   pub header-small : Octets s → header-of s .pool + header-of s .length < 1000000
   header-small f = go (version-of s) refl
     where
       go : (v : Version) → version-of s ≡ v → header-of s .pool + header-of s .length < 1000000
-      go v1 e = rw e (omega (arith, value-byte s atoms-place, f 5, f 6, f 7))
-      go v2 e = rw e (omega (arith, value-field s atoms-place, f 5, f 6, f 7, f 8))
+      go v1 e = rw e (omega (arith, number-byte s atoms-place, f 5, f 6, f 7))
+      go v2 e = rw e (omega (arith, number-field s atoms-place, f 5, f 6, f 7, f 8))
 
-  pub head-short : length s < header-size newest → head.Bad ≡ read-header s
+  pub head-short : length s < header-size written-version → head.Bad ≡ read-header s
   unfolding pick
   head-short h = sym (heads false (marked s) _ (lt-leb _ _ h) refl refl)
 
-  pub head-off : header-size newest ≤ length s → marked s ≡ false → head.Bad ≡ read-header s
+  pub head-off : header-size written-version ≤ length s → marked s ≡ false → head.Bad ≡ read-header s
   unfolding pick
   head-off h e = sym (heads true false _ (le-leb _ _ h) e refl)
 
-  pub head-wrong : header-size newest ≤ length s → marked s ≡ true → (length s ≡ header-of s .pool + header-of s .length → ⊥) → head.Bad ≡ read-header s
+  pub head-wrong : header-size written-version ≤ length s → marked s ≡ true → (length s ≡ header-of s .pool + header-of s .length → ⊥) → head.Bad ≡ read-header s
   unfolding pick
   head-wrong h e n = sym (heads true true false (le-leb _ _ h) e (ne-eqb _ _ n))
 
-  pub head-right : header-size newest ≤ length s → marked s ≡ true → length s ≡ header-of s .pool + header-of s .length → head.Is (header-of s) ≡ read-header s
+  pub head-right : header-size written-version ≤ length s → marked s ≡ true → length s ≡ header-of s .pool + header-of s .length → head.Is (header-of s) ≡ read-header s
   unfolding pick
   head-right h e n = sym (heads true true true (le-leb _ _ h) e (eq-eqb _ _ n))

@@ -9,12 +9,13 @@ use Rattle.pattern.specs.Numbers.{record-size}
 use Rattle.pattern.specs.Bytes.{Bytes, le16}
 use Rattle.pattern.specs.Table.{record-bytes}
 use Rattle.pattern.specs.Decode.{field, rec-at}
+use Rattle.stores.proofs.Little.{Octets}
 
 module _ (s : Bytes) where
   pub step : (j k : ℕ) {ys : Bytes} → k ≡ suc j → j < length s → drop k s ≡ ys → drop j s ≡ getD s j 0 ∷ ys
   step j k n h e = drop-cons s j 0 h ∙ ap (λ y. getD s j 0 ∷ y) (ap (λ m. drop m s) (sym n) ∙ e)
 
-  module _ (bytes : (k : ℕ) → getD s k 0 < 256) where
+  module _ (bytes : Octets s) where
     halves : (x y : ℕ) → x < 256 → ((x + 256 * y) % 256 ≡ x) × ((x + 256 * y) / 256 ≡ y)
     halves x y h = (omega arith, omega arith)
 

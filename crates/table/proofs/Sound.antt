@@ -8,13 +8,14 @@ use Prim.Native.Nat.{ℕ, zero, suc, _+_, _*_, _<_, _≤_, pred}
 use native.Mathlib.Omega.{arith}
 use lib.Dec.{ltb}
 use borrow.Author.Tests.{eqb-true, leb-true, ltb-true}
-use lib.ListN.{length, getD, drop, length-append, length-take, length-drop, take-append-drop}
+use lib.ListN.{length, drop, length-append, length-take, length-drop, take-append-drop}
 use Rattle.pattern.specs.Numbers.{depth-limit, set-limit, record-size, group-kind}
 use Rattle.pattern.specs.Bytes.{Bytes}
 use Rattle.pattern.specs.Syntax.{pattern, atom, body, branches, Syntax, then, repeat, codes, literal, or, size}
 use Rattle.pattern.specs.Within.{Fits, InLimits}
 use Rattle.pattern.specs.Table.{pool, branch-count, kind-field, a-field, b-field, high-field, Rec, rec, records, record-bytes}
 use Rattle.pattern.specs.Decode.{high-of}
+use Rattle.stores.proofs.Little.{Octets}
 use Rattle.table.specs.Checked.{payload-record, all-plain, a-set, bind, only-if, pool-slice, leaf, closed-group, read-pattern, read-atom, read-branches}
 use Rattle.table.proofs.Standing.{Clean, Set, both-placed}
 use Rattle.table.proofs.Options.{nothing, inside, after-some, only-some, choose-some, and-true}
@@ -24,7 +25,7 @@ use Rattle.table.proofs.Clean.{high-back, ordered-fits}
 
 -- bytes that have room for the records
 pub record Laid (s : Bytes) (A : ℕ) : Type 0 where
-  pub bytes : (k : ℕ) → getD s k 0 < 256
+  pub bytes : Octets s
   pub records : record-size * A ≤ length s
 
 module _ (s : Bytes) (A : ℕ) (laid : Laid s A) where

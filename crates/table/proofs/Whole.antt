@@ -11,8 +11,8 @@ use borrow.Author.Tests.{eqb-true, leb-true, le-leb, lt-leb, eq-eqb}
 use lib.ListN.{length, getD, take, drop, length-drop, take-append-drop, drop-of-length-le}
 use lib.Seq.{getD-take, length-take-le, drop-drop}
 use Rattle.pattern.specs.Numbers.{version-place, atoms-place, record-size}
-use Rattle.pattern.specs.Versions.{Version, v1, v2, newest, format, length-place, header-size}
-use Rattle.pattern.specs.Bytes.{Bytes, equal, le16, little, value}
+use Rattle.pattern.specs.Versions.{Version, v1, v2, written-version, format, length-place, header-size}
+use Rattle.pattern.specs.Bytes.{Bytes, equal, le16, little, number-in}
 use Rattle.pattern.specs.Syntax.{pattern, Syntax, size}
 use Rattle.pattern.specs.Within.{InLimits}
 use Rattle.pattern.specs.Print.{print}
@@ -23,14 +23,14 @@ use Rattle.pattern.proofs.Agree.{equal-decides}
 use Rattle.pattern.proofs.Records.{length-record-bytes, count-records, next-there, after-there}
 use Rattle.pattern.proofs.RoundTrip.{some-pattern, encode-length, version-encode, good-exactly}
 use Rattle.pattern.proofs.Calls.{print-compiles}
-use Rattle.stores.proofs.Little.{Octets, octets-drop, octets-take, little-value}
-use Rattle.table.specs.Headers.{first-bytes, marked, format-of, header-by, header-of, headed}
-use Rattle.table.specs.Checked.{bind, only-if, read-pattern, read-table, walk}
+use Rattle.stores.proofs.Little.{Octets, octets-drop, octets-take, little-number}
+use Rattle.table.specs.Headers.{first-bytes, marked, format-of, header-by, header-of, headed-by, headed}
+use Rattle.table.specs.Checked.{bind, only-if, read-pattern, read-by, read-table, walk}
 use Rattle.table.specs.declared.header.Header.{Header}
 use Rattle.table.proofs.Standing.{Clean, Set}
 use Rattle.table.proofs.Options.{inside, after-some, only-some, kept, dropped, going-on, and-true, true-and}
 use Rattle.table.proofs.Places.{pair}
-use Rattle.table.proofs.Measures.{header-least}
+use Rattle.table.proofs.Measures.{header-longest}
 use Rattle.table.proofs.Clean.{clean-derives, derives-clean}
 use Rattle.table.proofs.Sound.{Laid, sound}
 use Rattle.table.proofs.Complete.{found}
@@ -42,7 +42,7 @@ first-version : (v : Version) (s : Bytes) → take atoms-place s ≡ first-bytes
 unfolding version-of
 first-version v s e = ap (λ (n : ℕ). elim (eqb n 1) [ true ↦ v1 | false ↦ v2 ]) (named v s e) ∙ elim v [ v1 ↦ refl | v2 ↦ refl ]
   where
-    named : (v : Version) (s : Bytes) → take atoms-place s ≡ first-bytes v → field s version-place ≡ format v .version-number
+    named : (v : Version) (s : Bytes) → take atoms-place s ≡ first-bytes v → field s version-place ≡ format v .version
     named v1 s e = omega (arith, getD-take 5 s 3 0 (omega arith), getD-take 5 s 4 0 (omega arith), ap (λ (x : Bytes). getD x 3 0) e, ap (λ (x : Bytes). getD x 4 0) e)
     named v2 s e = omega (arith, getD-take 5 s 3 0 (omega arith), getD-take 5 s 4 0 (omega arith), ap (λ (x : Bytes). getD x 3 0) e, ap (λ (x : Bytes). getD x 4 0) e)
 
@@ -54,9 +54,9 @@ pub record Opens (s : Bytes) : Type 0 where
 pub opens : (s : Bytes) → headed s ≡ true → Opens s
 unfolding headed marked
 opens s e =
-    let (x, c) = and-true (leb (header-size newest) (length s) && marked s) (eqb (length s) (header-of s .pool + header-of s .length)) e in
-    let (a, b) = and-true (leb (header-size newest) (length s)) (marked s) x in
-    record { long = omega (arith, leb-true (header-size newest) (length s) a, header-least (version-of s)); named = go (equal (take atoms-place s) (first-bytes v2)) refl b; whole = eqb-true _ _ c }
+    let (x, c) = and-true (leb (header-size written-version) (length s) && marked s) (eqb (length s) (header-of s .pool + header-of s .length)) e in
+    let (a, b) = and-true (leb (header-size written-version) (length s)) (marked s) x in
+    record { long = omega (arith, leb-true (header-size written-version) (length s) a, header-longest (version-of s)); named = go (equal (take atoms-place s) (first-bytes v2)) refl b; whole = eqb-true _ _ c }
   where
     by : (v : Version) → equal (take atoms-place s) (first-bytes v) ≡ true → take atoms-place s ≡ first-bytes (version-of s)
     by v f =
@@ -72,7 +72,7 @@ opens s e =
 pub record Whole (s : Bytes) (t : Syntax pattern) : Type 0 where
   pub same : encode-in (version-of s) t ≡ s
   pub within : InLimits 0 t
-  pub few : size t ≤ format (version-of s) .most-atoms
+  pub few : size t ≤ format (version-of s) .atoms
   pub clean : Clean t
 
 module _ (s : Bytes) (bytes : Octets s) where
@@ -80,10 +80,10 @@ module _ (s : Bytes) (bytes : Octets s) where
   open-table : (v : Version) → header-size v ≤ length s → take atoms-place s ≡ first-bytes v → s ≡ header v (count-in v s) (field s (length-place v)) (drop (header-size v) s)
   unfolding header
   open-table v long named =
-      let c : ℕ = format v .count-size in
+      let c : ℕ = format v .width in
       let rest : Bytes = drop atoms-place s in
       let n : length (take c rest) ≡ c = length-take-le c rest (omega (arith, long, length-drop atoms-place s)) in
-      let count : take c rest ≡ little c (count-in v s) = sym (little-value (take c rest) (octets-take c rest (octets-drop atoms-place s bytes))) ∙ ap (λ (k : ℕ). little k (value (take c rest))) n in
+      let count : take c rest ≡ little c (count-in v s) = sym (little-number (take c rest) (octets-take c rest (octets-drop atoms-place s bytes))) ∙ ap (λ (k : ℕ). little k (number-in (take c rest))) n in
       let after : drop c rest ≡ le16 (field s (length-place v)) (drop (header-size v) s) = drop-drop c atoms-place s ∙ pair s bytes (length-place v) (header-size v) refl long refl in
       sym (take-append-drop atoms-place s) ∙ ap₂ (λ (x y : Bytes). x ++ y) named (sym (take-append-drop c rest) ∙ ap₂ (λ (x y : Bytes). x ++ y) count after)
 
@@ -113,7 +113,7 @@ module _ (s : Bytes) (bytes : Octets s) where
       (record {
         same = sym (open-table v (o .long) (o .named) ∙ ap (header v A (header-of s .length)) all ∙ ap₂ (λ k l. header v k l (record-bytes (records 1 u 0 0) (pool u))) (sym c2) (sym m2));
         within = st .good;
-        few = omega (arith, c2, leb-true A (header-of s .format .most) n);
+        few = omega (arith, c2, leb-true A (header-of s .format .atoms) n);
         clean = st .clean;
       })
 
@@ -130,8 +130,8 @@ record HeaderThere (v : Version) (t : Syntax pattern) : Type 0 where
   marks : marked (encode-in v t) ≡ true
   after : drop (header-size v) (encode-in v t) ≡ payload t
 
-header-there : (v : Version) (t : Syntax pattern) → size t ≤ format v .most-atoms → HeaderThere v t
-unfolding encode-in header little value marked equal
+header-there : (v : Version) (t : Syntax pattern) → size t ≤ format v .atoms → HeaderThere v t
+unfolding encode-in header little number-in marked equal
 header-there v1 t few = record { atoms = omega arith; pooled = omega arith; marks = refl; after = refl }
 header-there v2 t few = record { atoms = omega arith; pooled = omega arith; marks = refl; after = refl }
 
@@ -146,16 +146,7 @@ set-payload t g c =
       pooled = omega (arith, length-record-bytes (records 1 t 0 0) (pool t), count-records 1 t 0 0);
     }
 
--- `read-table` by the version that is named
-abbrev read-as : Version → Bytes → Option (Syntax pattern)
-read-as v s =
-    let h : Header = header-by s (count-in v s) (format-of v) in
-    only-if (leb (header-size newest) (length s) && marked s && eqb (length s) (h .pool + h .length))
-    (only-if (leb (h .atoms) (h .format .most))
-    (bind (read-pattern (drop (h .records) s) (h .atoms) (3 * h .atoms + 2) 0 0 0) λ t.
-    only-if (eqb (size t) (h .atoms)) (only-if (eqb (length (pool t)) (h .length)) (some t))))
-
-read-encode : (v : Version) (t : Syntax pattern) → InLimits 0 t → size t ≤ format v .most-atoms → Clean t → read-table (encode-in v t) ≡ some t
+read-encode : (v : Version) (t : Syntax pattern) → InLimits 0 t → size t ≤ format v .atoms → Clean t → read-table (encode-in v t) ≡ some t
 unfolding read-table headed
 read-encode v t g few c =
     let s : Bytes = encode-in v t in
@@ -163,9 +154,9 @@ read-encode v t g few c =
     let a : count-in v s ≡ size t = h .atoms in
     let f : 3 * size t + 1 < 3 * size t + 2 = omega arith in
     let n = encode-length v t in
-    ap (λ (w : Version). read-as w s) (version-encode v t)
-    ∙ kept _ _ (true-and _ _ (true-and _ _ (le-leb (header-size newest) (length s) (omega (arith, n, some-pattern t))) (h .marks)) (eq-eqb (length s) _ (omega (arith, n, a, h .pooled))))
-    ∙ kept _ _ (le-leb (count-in v s) (format v .most-atoms) (omega (arith, a, few)))
+    ap (λ (w : Version). let h : Header = header-by s (count-in w s) (format-of w) in only-if (headed-by s h) (read-by s h)) (version-encode v t)
+    ∙ kept _ _ (true-and _ _ (true-and _ _ (le-leb (header-size written-version) (length s) (omega (arith, n, some-pattern t))) (h .marks)) (eq-eqb (length s) _ (omega (arith, n, a, h .pooled))))
+    ∙ kept _ _ (le-leb (count-in v s) (format v .atoms) (omega (arith, a, few)))
     ∙ going-on _ _ (ap₂ (λ (x : Bytes) (A : ℕ). read-pattern x A (3 * A + 2) 0 0 0) (h .after) a ∙ found (payload t) (size t) 1 t _ 0 0 0 (set-payload t g c) f)
     ∙ kept _ _ (eq-eqb _ _ (sym a))
     ∙ kept _ _ (eq-eqb _ _ (sym (h .pooled)))
@@ -174,13 +165,13 @@ read-encode v t g few c =
 
 module _ (s : Bytes) (bytes : Octets s) where
   -- what decodes is read, and its source keeps the limit
-  decoded : (u : Syntax pattern) → decode s ≡ some u → (read-table s ≡ some u) × (length (print u) ≤ format (version-of s) .longest-source)
+  decoded : (u : Syntax pattern) → decode s ≡ some u → (read-table s ≡ some u) × (length (print u) ≤ format (version-of s) .source)
   decoded u e =
       let p = print-compiles s u e in
       (ap read-table (sym (p .whole)) ∙ read-encode (version-of s) u (p .within) (p .few) (derives-clean u (print u) (p .derives)), p .short)
 
   -- what is read is the tree of the bytes, if its source is short enough
-  short-decodes : (t : Syntax pattern) → Whole s t → length (print t) ≤ format (version-of s) .longest-source → decode s ≡ some t
+  short-decodes : (t : Syntax pattern) → Whole s t → length (print t) ≤ format (version-of s) .source → decode s ≡ some t
   short-decodes t w n =
       good-exactly s t .1 (version-of s, print t, record { derives = clean-derives 0 t (w .within) (w .clean); within = w .within; short = n; few = w .few; whole = w .same })
 
@@ -188,13 +179,13 @@ module _ (s : Bytes) (bytes : Octets s) where
   nothing-decodes none e f = refl
   nothing-decodes (some u) e f = absurd (f u e)
 
-  agree : (o : Option (Syntax pattern)) → read-table s ≡ o → bind o (λ t. only-if (leb (length (print t)) (header-of s .format .longest)) (some t)) ≡ decode s
+  agree : (o : Option (Syntax pattern)) → read-table s ≡ o → bind o (λ t. only-if (leb (length (print t)) (header-of s .format .source)) (some t)) ≡ decode s
   unfolding bind
   agree none e =
       sym (nothing-decodes (decode s) refl (λ u d. Option·none-ne-some u (sym e ∙ decoded u d .0)))
   agree (some t) e =
       let w = read-whole s bytes t e in
-      let longest : ℕ = format (version-of s) .longest-source in
+      let longest : ℕ = format (version-of s) .source in
       ⊎-elim
       (λ n. kept _ _ (le-leb _ _ n) ∙ sym (short-decodes t w n))
       (λ n. dropped _ _ (lt-leb _ _ n) ∙ sym (nothing-decodes (decode s) refl (λ u d. let x : t ≡ u = inside (sym e ∙ decoded u d .0) in let k : length (print t) ≤ longest = rw x (decoded u d .1) in omega arith)))

@@ -6,7 +6,7 @@ use native.Mathlib.Omega.{arith}
 use lib.ListN.{length, take, length-append}
 use lib.Seq.{length-take-le}
 use Rattle.pattern.specs.Numbers.{atoms-place, record-size}
-use Rattle.pattern.specs.Versions.{newest, length-place, header-size}
+use Rattle.pattern.specs.Versions.{written-version, length-place, header-size}
 use Rattle.pattern.specs.Bytes.{Bytes, le16, little}
 use Rattle.pattern.specs.Stores.{store-at, Puts}
 use Rattle.pattern.specs.Syntax.{pattern, Syntax, size}
@@ -49,28 +49,28 @@ unfolding table-of encode-in
 table-is recs text t h k =
     let xs : List Rec = records 1 t 0 0 in
     let r = take-store-at recs (record-bytes xs []) (record-size * size t) (omega (arith, length-record-bytes xs [], count-records 1 t 0 0)) h in
-    ap (header newest (size t) (length (pool t))) (ap₂ (λ r v. r ++ v) r (take-store-at text (pool t) (length (pool t)) refl k) ∙ sym (record-bytes-over xs (pool t)))
+    ap (header written-version (size t) (length (pool t))) (ap₂ (λ r v. r ++ v) r (take-store-at text (pool t) (length (pool t)) refl k) ∙ sym (record-bytes-over xs (pool t)))
 
 module _ (position n m : ℕ) (recs text table : Bytes) (pre : WriteTablePre n m recs text) where
-  table-size : length (table-of n m recs text) ≡ header-size newest + record-size * n + m
+  table-size : length (table-of n m recs text) ≡ header-size written-version + record-size * n + m
   unfolding table-of header little
   table-size =
       omega (arith, length-append (take (record-size * n) recs) (take m text), length-take-le (record-size * n) recs (pre .recs-there), length-take-le m text (pre .text-there))
 
-  pub no-room : length table < header-size newest + record-size * n + m → table-output position Room table ≡ put position (table-of n m recs text) table
+  pub no-room : length table < header-size written-version + record-size * n + m → table-output position Room table ≡ put position (table-of n m recs text) table
   no-room h = sym (put-short position (table-of n m recs text) table (omega (arith, table-size)))
 
   -- the stores one after the other
-  pub writes-table : (mark t₁ t₂ t₃ t₄ t₅ : Bytes) → header-size newest + record-size * n + m ≤ length table → mark ≡ first-bytes newest → t₁ ≡ store-at table 0 (take atoms-place mark)
-      → t₂ ≡ store-at t₁ atoms-place (le16 n []) → t₃ ≡ store-at t₂ (length-place newest) (le16 m []) → t₄ ≡ store-at t₃ (header-size newest) (take (record-size * n) recs)
-      → t₅ ≡ store-at t₄ (header-size newest + record-size * n) (take m text)
-      → table-output position (Length (header-size newest + record-size * n + m)) t₅ ≡ put position (table-of n m recs text) table
+  pub writes-table : (mark t₁ t₂ t₃ t₄ t₅ : Bytes) → header-size written-version + record-size * n + m ≤ length table → mark ≡ first-bytes written-version → t₁ ≡ store-at table 0 (take atoms-place mark)
+      → t₂ ≡ store-at t₁ atoms-place (le16 n []) → t₃ ≡ store-at t₂ (length-place written-version) (le16 m []) → t₄ ≡ store-at t₃ (header-size written-version) (take (record-size * n) recs)
+      → t₅ ≡ store-at t₄ (header-size written-version + record-size * n) (take m text)
+      → table-output position (Length (header-size written-version + record-size * n + m)) t₅ ≡ put position (table-of n m recs text) table
   writes-table mark t₁ t₂ t₃ t₄ t₅ h e e₁ e₂ e₃ e₄ e₅ =
-      let size : ℕ = header-size newest in
+      let size : ℕ = header-size written-version in
       let r : Bytes = take (record-size * n) recs in
       let v : Bytes = take m text in
-      let a : Puts table 0 (first-bytes newest) t₁ atoms-place = record { bytes = e₁ ∙ rw e; next = refl } in
-      let b : Puts table 0 (first-bytes newest ++ le16 n []) t₂ (length-place newest) = puts-then a (record { bytes = e₂; next = refl }) in
+      let a : Puts table 0 (first-bytes written-version) t₁ atoms-place = record { bytes = e₁ ∙ rw e; next = refl } in
+      let b : Puts table 0 (first-bytes written-version ++ le16 n []) t₂ (length-place written-version) = puts-then a (record { bytes = e₂; next = refl }) in
       let c : Puts table 0 nine t₃ size = puts-then b (record { bytes = e₃; next = refl }) in
       let d : Puts table 0 (nine ++ r) t₄ (size + record-size * n) = puts-then c (record { bytes = e₄; next = ap (λ k. size + k) (sym (length-take-le (record-size * n) recs (pre .recs-there))) }) in
       let f : Puts table 0 ((nine ++ r) ++ v) t₅ (size + record-size * n + m) = puts-then d (record { bytes = e₅; next = ap (λ k. size + record-size * n + k) (sym (length-take-le m text (pre .text-there))) }) in
@@ -79,11 +79,11 @@ module _ (position n m : ℕ) (recs text table : Bytes) (pre : WriteTablePre n m
       ∙ sym (put-fits position (table-of n m recs text) table (omega arith))
     where
       nine : Bytes
-      nine = (first-bytes newest ++ le16 n []) ++ le16 m []
+      nine = (first-bytes written-version ++ le16 n []) ++ le16 m []
 
       -- the number of atoms has no third byte
       top : n / 256 % 256 ≡ n / 256
       top = omega (arith, pre .atoms)
 
       whole : nine ++ (take (record-size * n) recs ++ take m text) ≡ table-of n m recs text
-      whole = unfold table-of header little in ap (λ (b : ℕ). first-bytes newest ++ n % 256 ∷ b ∷ le16 m (take (record-size * n) recs ++ take m text)) (sym top)
+      whole = unfold table-of header little in ap (λ (b : ℕ). first-bytes written-version ++ n % 256 ∷ b ∷ le16 m (take (record-size * n) recs ++ take m text)) (sym top)

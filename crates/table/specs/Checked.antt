@@ -12,6 +12,7 @@ use Rattle.pattern.specs.Print.{print}
 use Rattle.pattern.specs.Table.{pool, Rec}
 use Rattle.pattern.specs.Decode.{rec-at, Layout, high-of}
 use Rattle.table.specs.Headers.{header-of, headed}
+use Rattle.table.specs.declared.header.Header.{Header}
 
 -- ---- tests one after the other
 
@@ -105,14 +106,16 @@ module _ (s : Bytes) (A : ℕ) where
         (bind (read-branches f (pred k) (i + size q) (p + length (pool q)) d) λ bs. some (or q bs)))
 
 -- the tree of a whole table: all its atoms and its whole pool
+abbrev pub read-by : Bytes → Header → Option (Syntax pattern)
+read-by s h =
+    let A : ℕ = h .atoms in
+    only-if (leb A (h .format .atoms))
+    (bind (read-pattern (drop (h .records) s) A (3 * A + 2) 0 0 0) λ t.
+    only-if (eqb (size t) A) (only-if (eqb (length (pool t)) (h .length)) (some t)))
+
 unfoldable pub read-table : Bytes → Option (Syntax pattern)
-read-table s =
-    let A : ℕ = header-of s .atoms in
-    only-if (headed s)
-    (only-if (leb A (header-of s .format .most))
-    (bind (read-pattern (drop (header-of s .records) s) A (3 * A + 2) 0 0 0) λ t.
-    only-if (eqb (size t) A) (only-if (eqb (length (pool t)) (header-of s .length)) (some t))))
+read-table s = only-if (headed s) (read-by s (header-of s))
 
 -- and its source is short enough
 unfoldable pub walk : Bytes → Option (Syntax pattern)
-walk s = bind (read-table s) λ t. only-if (leb (length (print t)) (header-of s .format .longest)) (some t)
+walk s = bind (read-table s) λ t. only-if (leb (length (print t)) (header-of s .format .source)) (some t)

@@ -4,7 +4,7 @@ use mathlib.Core.List.{List, [], _++_}
 use Prim.Native.Nat.{ℕ, _*_, _≤_}
 use lib.ListN.{length, take}
 use Rattle.pattern.specs.Numbers.{source-limit, atom-limit, record-size, ROOM}
-use Rattle.pattern.specs.Versions.{newest}
+use Rattle.pattern.specs.Versions.{written-version}
 use Rattle.pattern.specs.Bytes.{Bytes}
 use Rattle.pattern.specs.Table.{Rec, record-bytes, header}
 use Rattle.pattern.specs.Stores.{store-at}
@@ -34,7 +34,7 @@ pub record WriteTablePre (n m : ℕ) (recs text : Bytes) : Type 0 where
 
 -- the table of them
 unfoldable pub table-of : (n m : ℕ) → (recs text : Bytes) → Bytes
-table-of n m recs text = header newest n m (take (record-size * n) recs ++ take m text)
+table-of n m recs text = header written-version n m (take (record-size * n) recs ++ take m text)
 
 -- what was answered and written; too little room is ROOM at this position
 abbrev pub table-output : (position : ℕ) → TableWritten → Bytes → Output

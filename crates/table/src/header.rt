@@ -33,20 +33,20 @@ fn is_marked(table: &[u8]) -> bool
     requires { ⌜ atoms-place ≤ length (now table) ⌝ }
     ensures { λ r. ⌜ r ≡ marked (now (table .entry)) ⌝ }
 {
-    let newest = layout::first_bytes_2();
-    if equal(table, 0, &newest, 0, ATOMS_PLACE) {
+    let version_2 = layout::first_bytes_2();
+    if equal(table, 0, &version_2, 0, ATOMS_PLACE) {
         return true;
     }
-    let first = layout::first_bytes_1();
-    equal(table, 0, &first, 0, ATOMS_PLACE)
+    let version_1 = layout::first_bytes_1();
+    equal(table, 0, &version_1, 0, ATOMS_PLACE)
 }
 
 // What the header of a version says, by its atom count.
 fn header_by(table: &[u8], atoms: u16, format: Format) -> Header
-    requires { ⌜ (format .count ≤ 2) × (atoms-place + format .count + 2 ≤ length (now table)) ⌝ }
+    requires { ⌜ (format .width ≤ 2) × (atoms-place + format .width + 2 ≤ length (now table)) ⌝ }
     ensures { λ r. ⌜ r ≡ header-by (now (table .entry)) atoms format ⌝ }
 {
-    let place = ATOMS_PLACE + format.count;
+    let place = ATOMS_PLACE + format.width;
     let records = place + 2;
     Header {
         atoms: atoms as usize,

@@ -10,38 +10,38 @@ pub const VERSION_PLACE: usize = 3;
 pub const ATOMS_PLACE: usize = 5;
 
 // The header of the version that is written.
-const COUNT_SIZE: usize = 2;
+const COUNT_WIDTH: usize = 2;
 
-pub const LENGTH_PLACE: usize = ATOMS_PLACE + COUNT_SIZE;
+pub const LENGTH_PLACE: usize = ATOMS_PLACE + COUNT_WIDTH;
 
 pub const HEADER_SIZE: usize = LENGTH_PLACE + 2;
 
 pub const RECORD_SIZE: usize = 10;
 
 // The mark and the 16-bit version.
-const MARK_1: [u8; ATOMS_PLACE] = *b"MPT\x01\x00";
+const FIRST_BYTES_1: [u8; ATOMS_PLACE] = *b"MPT\x01\x00";
 
-const MARK_2: [u8; ATOMS_PLACE] = *b"MPT\x02\x00";
+const FIRST_BYTES_2: [u8; ATOMS_PLACE] = *b"MPT\x02\x00";
 
-// The bytes of the header that hold the atom count, and the limits: the most atoms, and the longest shortest source.
+// The bytes of the header that hold the atom count, and the limits: the most atoms, and the longest source.
 pub struct Format {
-    pub count: usize,
-    pub most: usize,
-    pub longest: usize,
+    pub width: usize,
+    pub atoms: usize,
+    pub source: usize,
 }
 
 // The first bytes of every table of version 1.
 pub fn first_bytes_1() -> [u8; ATOMS_PLACE]
     ensures { λ r. ⌜ r ≡ first-bytes v1 ⌝ }
 {
-    MARK_1
+    FIRST_BYTES_1
 }
 
 // The first bytes of every table of version 2.
 pub fn first_bytes_2() -> [u8; ATOMS_PLACE]
     ensures { λ r. ⌜ r ≡ first-bytes v2 ⌝ }
 {
-    MARK_2
+    FIRST_BYTES_2
 }
 
 // What version 1 has of its own.
@@ -49,9 +49,9 @@ pub fn format_1() -> Format
     ensures { λ r. ⌜ r ≡ format-of v1 ⌝ }
 {
     Format {
-        count: 1,
-        most: 64,
-        longest: 512,
+        width: 1,
+        atoms: 64,
+        source: 512,
     }
 }
 
@@ -60,8 +60,8 @@ pub fn format_2() -> Format
     ensures { λ r. ⌜ r ≡ format-of v2 ⌝ }
 {
     Format {
-        count: COUNT_SIZE,
-        most: limits::ATOM_LIMIT,
-        longest: limits::SOURCE_LIMIT,
+        width: COUNT_WIDTH,
+        atoms: limits::ATOM_LIMIT,
+        source: limits::SOURCE_LIMIT,
     }
 }

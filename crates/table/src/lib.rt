@@ -32,9 +32,8 @@ pub fn test(table: &[u8]) -> Tested
     match header::read_header(table) {
         HeaderRead::Is(h) => {
             let atoms = h.atoms;
-            let format = h.format;
-            let most = format.most;
-            let longest = format.longest;
+            let most = h.format.atoms;
+            let longest = h.format.source;
             if most < atoms {
                 return Tested::Bad;
             }

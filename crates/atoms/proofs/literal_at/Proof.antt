@@ -1,9 +1,11 @@
 -- `literal_at` meets its contract. Assumes nothing.
 use mathlib.Core.Path.{sym, ap, subst, _∙_}
+use Prim.Native.Nat.{_+_}
 use native.Mathlib.Omega.{arith}
 use borrow.Author.Needs.{needs}
 use Rattle.table.specs.declared.header.Header.{Header}
 use Rattle.table.specs.Fields.{RecordIn}
+use Rattle.atoms.specs.Records.{LiteralAt}
 use Rattle.atoms.proofs.Views.{record-in, record-from, literal-none, literal-there}
 use Rattle.atoms.proofs.literal_at.Statement.{statement}
 use Rattle.atoms.proofs.literal_at.Tie as tie
@@ -20,21 +22,14 @@ returns c =
     let l = after-header-at .before .before .pre in
     literal-none _ _ (l .atom) _ (c .before .before .record-at .ensures ∙ record-from _ _ (l .atom) (after-header-at .header-at .ensures)) _ (l .is) (c .if1 .taken)
 
-add-t8 : tie.Need-add-t8
-add-t8 c =
+-- where the value of one that is not empty lies
+there : (c : tie.After-struct-known3) → LiteralAt (c .before .before .before .before .before .before .before .args .table .now) (c .before .before .before .before .before .before .before .args .x) (c .before .before .before .before .before .header-at .result .pool + c .before .before .before .before .record-at .result .a) (c .before .before .before .before .record-at .result .b)
+there c =
     let after-record-at = c .before .before .before .before in
     let after-header-at = after-record-at .before in
     let l = after-header-at .before .before .pre in
-    let w = literal-there _ _ (l .atom) _ (after-record-at .record-at .ensures ∙ record-from _ _ (l .atom) (after-header-at .header-at .ensures)) _ (l .is) (c .before .before .if1 .left) in
-    omega (arith, w .within, ap (λ (h : Header). h .pool) (after-header-at .header-at .ensures))
-
-returns-2 : tie.Need-returns-2
-returns-2 c =
-    let after-record-at = c .before .before .before .before in
-    let after-header-at = after-record-at .before in
-    let l = after-header-at .before .before .pre in
-    let w = literal-there _ _ (l .atom) _ (after-record-at .record-at .ensures ∙ record-from _ _ (l .atom) (after-header-at .header-at .ensures)) _ (l .is) (c .before .before .if1 .left) in
-    rw (ap (λ (h : Header). h .pool) (after-header-at .header-at .ensures)) w
+    rw (ap (λ (h : Header). h .pool) (after-header-at .header-at .ensures))
+    (literal-there _ _ (l .atom) _ (after-record-at .record-at .ensures ∙ record-from _ _ (l .atom) (after-header-at .header-at .ensures)) _ (l .is) (c .before .before .if1 .left))
 
 pub literal-at-spec : {M : Type 1} → statement M
-literal-at-spec = tie.close (tie.spec header-at-requires record-at-requires (search needs) returns (search needs) add-t8 returns-2)
+literal-at-spec = tie.close (tie.spec header-at-requires record-at-requires (search needs) returns (search needs) (λ c. omega (arith, there c .within)) there)

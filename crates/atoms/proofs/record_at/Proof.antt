@@ -1,6 +1,5 @@
 -- `record_at` meets its contract. Assumes nothing.
-use mathlib.Core.Path.{sym, ap, subst, _∙_}
-use Prim.Native.Nat.{ℕ}
+use mathlib.Core.Path.{sym, subst, _∙_}
 use native.Mathlib.Omega.{arith}
 use Rattle.table.specs.declared.header.Header.{Header}
 use Rattle.table.specs.Fields.{RecordIn}

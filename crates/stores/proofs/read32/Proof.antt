@@ -1,6 +1,6 @@
 -- `read32` meets its contract. Assumes nothing.
 use native.Mathlib.Omega.{arith}
-use Rattle.stores.proofs.Little.{value-halves}
+use Rattle.stores.proofs.Little.{number-halves}
 use borrow.Author.Needs.{needs}
 use Rattle.stores.proofs.read32.Statement.{statement}
 use Rattle.stores.proofs.read32.Tie as tie
@@ -8,7 +8,7 @@ use Rattle.stores.proofs.read32.Tie as tie
 returns : tie.Need-returns
 returns c =
     let start = c .before .before .before in
-    omega (arith, value-halves (start .args .from .now) (start .args .at), c .read162 .ensures, c .before .read16 .ensures)
+    omega (arith, number-halves (start .args .from .now) (start .args .at), c .read162 .ensures, c .before .read16 .ensures)
 
 pub read32-spec : {M : Type 1} → statement M
 read32-spec =

@@ -9,14 +9,14 @@ use Rattle.table.proofs.test.Tie as tie
 head-read : (c : tie.After-known-told) → HeadRead (c .before .before .before .before .before .args .table .now) (c .before .h .given .0 .0)
 head-read c = record { bytes = λ k. c .before .before .before .before .shared-slice-known .given k .fits; head = sym (c .before .h .given .1) ∙ c .before .before .before .read-header .ensures }
 
-body-read : (c : tie.After-pattern) → BodyRead (c .before .before .before .before .before .before .before .before .before .args .table .now) (c .before .before .before .before .before .h .given .0 .0) (c .pattern .result)
-body-read c = record { read-head = head-read (c .before .before .before .before); few = c .before .before .if1 .left; walks = c .pattern .ensures }
+body-read : (c : tie.After-pattern) → BodyRead (c .before .before .before .before .before .before .before .before .args .table .now) (c .before .before .before .before .h .given .0 .0) (c .pattern .result)
+body-read c = record { read-head = head-read (c .before .before .before); few = c .before .before .if1 .left; walks = c .pattern .ensures }
 
 returns : tie.Need-returns
-returns c = bad-atoms (head-read (c .before .before)) (c .if1 .taken)
+returns c = bad-atoms (head-read (c .before)) (c .if1 .taken)
 
 pattern-requires : tie.Need-pattern-requires
-pattern-requires c κs = ready-start (head-read (c .before .before .before)) (c .before .if1 .left)
+pattern-requires c κs = ready-start (head-read (c .before .before)) (c .before .if1 .left)
 
 returns-2 : tie.Need-returns-2
 returns-2 c = bad-count (body-read (c .before .before .before .before .before)) (c .before .before .before .end .given .1) (c .if2 .taken)
@@ -52,8 +52,8 @@ test-spec =
     (λ c κs. search needs)
     (search needs)
     returns
-    (λ c. records-there (head-read (c .before .before)))
-    (λ c. records-there (head-read (c .before .before)))
+    (λ c. records-there (head-read (c .before)))
+    (λ c. records-there (head-read (c .before)))
     (search needs)
     pattern-requires
     (search needs)

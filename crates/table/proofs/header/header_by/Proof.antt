@@ -8,7 +8,7 @@ use Rattle.table.proofs.header.header_by.Tie as tie
 returns : tie.Need-returns
 returns c =
     let a = c .before .before .before .args in
-    let records = atoms-place + a .format .count + 2 in
+    let records = atoms-place + a .format .width + 2 in
     λ j. record { atoms = a .atoms; length = c .read16 .ensures j; records = records; pool = records + record-size * a .atoms; format = a .format }
 
 pub header-by-spec : {M : Type 1} → statement M

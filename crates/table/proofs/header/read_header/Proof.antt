@@ -5,7 +5,7 @@ use borrow.Author.Needs.{needs}
 use Rattle.pattern.specs.Decode.{version-of}
 use Rattle.table.specs.declared.header.Header.{Header}
 use Rattle.table.specs.declared.header.HeaderRead.the-variants as head
-use Rattle.table.proofs.Measures.{header-least, header-small, head-short, head-off, head-wrong, head-right}
+use Rattle.table.proofs.Measures.{header-longest, header-small, head-short, head-off, head-wrong, head-right}
 use Rattle.table.proofs.header.read_header.Statement.{statement}
 use Rattle.table.proofs.header.read_header.Tie as tie
 
@@ -13,7 +13,7 @@ returns : tie.Need-returns
 returns c = head-short (c .before .before .args .table .now) (c .if1 .taken)
 
 header-at-requires : tie.Need-header-at-requires
-header-at-requires c κs = omega (arith, c .before .before .if1 .left, header-least (version-of (c .before .before .before .before .args .table .now)))
+header-at-requires c κs = omega (arith, c .before .before .if1 .left, header-longest (version-of (c .before .before .before .before .args .table .now)))
 
 add-if3 : tie.Need-add-if3
 add-if3 c =
