@@ -78,11 +78,12 @@ pub pattern-start : {table out : Bytes} (start : Progress) → WritePatternPre t
 pattern-start start p = record { there = p .atom .there; on = omega arith; ends = refl; text = partly-start _ _ _ }
 
 module _ {table out₀ : Bytes} {start : Progress} {out : Bytes} {now : Progress} (pre : WritePatternPre table out₀ (start .atom) (start .at)) (h : PatternAt table out₀ start out now) where
-  pub pattern-atom : WriteAtomPre table out (now .atom) (now .at)
-  pattern-atom =
+  pub pattern-atom : {r : Record} → RecordOf table (now .atom) r → WriteAtomPre table out r (now .atom) (now .at)
+  pattern-atom got =
       let (v, e) = print-first (node table (now .atom)) in
       record {
         atom = record { good = pre .atom .good; there = h .there };
+        got = got;
         room = omega (arith, partly-room (h .text) (pre .room), ap length e, length-append (print (head (node table (now .atom)))) v);
       }
 
@@ -152,13 +153,12 @@ module _ {table out₀ : Bytes} {start : Progress} {k : ℕ} {out : Bytes} {now 
 
 -- ---- an atom
 
-pub count-room : {table out : Bytes} {x n : ℕ} {r : Record} → WriteAtomPre table out x n → RecordOf table x r → Fits (r .low) (high-of (r .high)) × (n + length (count-of r) ≤ length out)
-count-room {table} {out} {x} {n} {r} p got = (got .fits, omega (arith, p .room, ap length (print-atom r _ (got .count)), length-append (count-of r) (print (body-of (head (node table x))))))
+pub count-room : {table out : Bytes} {x n : ℕ} {r : Record} → WriteAtomPre table out r x n → Fits (r .low) (high-of (r .high)) × (n + length (count-of r) ≤ length out)
+count-room {table} {out} {x} {n} {r} p = (p .got .fits, omega (arith, p .room, ap length (print-atom r _ (p .got .count)), length-append (count-of r) (print (body-of (head (node table x))))))
 
--- the record of the atom at x was read, and its count written
+-- the count of the atom at x was written
 pub record CountWritten (table out : Bytes) (x n : ℕ) (r : Record) (out₁ : Bytes) (m : ℕ) : Type 0 where
-  pub pre : WriteAtomPre table out x n
-  pub got : RecordOf table x r
+  pub pre : WriteAtomPre table out r x n
   pub puts : Puts out n (count-of r) out₁ m
 
 module _ {table out : Bytes} {x n : ℕ} {r : Record} {out₁ : Bytes} {m : ℕ} (g : CountWritten table out x n r out₁ m) where
@@ -167,23 +167,23 @@ module _ {table out : Bytes} {x n : ℕ} {r : Record} {out₁ : Bytes} {m : ℕ}
 
   -- the body has room, and with it the atom is written
   body-room : (v : Bytes) → print b ≡ v → m + length v ≤ length out₁
-  body-room v e = puts-room (g .puts) v (omega (arith, g .pre .room, ap length (print-atom r b (g .got .count) ∙ ap (λ (y : Bytes). count-of r ++ y) e)))
+  body-room v e = puts-room (g .puts) v (omega (arith, g .pre .room, ap length (print-atom r b (g .pre .got .count) ∙ ap (λ (y : Bytes). count-of r ++ y) e)))
 
   body-puts : {v out₂ : Bytes} {z : ℕ} → print b ≡ v → Puts out₁ m v out₂ z → Puts out n (print (head (node table x))) out₂ z
-  body-puts e p = puts-as (puts-then (g .puts) p) (sym (print-atom r b (g .got .count) ∙ ap (λ (y : Bytes). count-of r ++ y) e))
+  body-puts e p = puts-as (puts-then (g .puts) p) (sym (print-atom r b (g .pre .got .count) ∙ ap (λ (y : Bytes). count-of r ++ y) e))
 
   leaf-post : {v out₂ : Bytes} {z : ℕ} → (r .kind ≡ group-kind → ⊥) → print b ≡ v → Puts out₁ m v out₂ z
       → WritePost (print (head (node table x))) (x + size (head (node table x))) out n (record { atom = x + 1; at = z }) out₂
-  leaf-post k e p = record { puts = body-puts e p; next = omega (arith, g .got .next-leaf k) }
+  leaf-post k e p = record { puts = body-puts e p; next = omega (arith, g .pre .got .next-leaf k) }
 
   -- codes
   module _ (k : r .kind ≡ codes-kind) where
     pub letters-room : m + length (print-set all-codes (r .a)) ≤ length out₁
-    letters-room = body-room _ (print-codes _ (g .got .is-codes k))
+    letters-room = body-room _ (print-codes _ (g .pre .got .is-codes k))
 
     pub letters-post : {out₂ : Bytes} {z : ℕ} → Puts out₁ m (print-set all-codes (r .a)) out₂ z
         → WritePost (print (head (node table x))) (x + size (head (node table x))) out n (record { atom = x + 1; at = z }) out₂
-    letters-post = leaf-post (λ e. omega arith) (print-codes _ (g .got .is-codes k))
+    letters-post = leaf-post (λ e. omega arith) (print-codes _ (g .pre .got .is-codes k))
 
   -- a literal, as the code cuts it out of the table
   module _ (k : r .kind ≡ literal-kind) {from len : ℕ} (v : LiteralAt table x from len) where

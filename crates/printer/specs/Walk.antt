@@ -7,6 +7,8 @@ use Rattle.pattern.specs.Syntax.{size}
 use Rattle.pattern.specs.Print.{print}
 use Rattle.pattern.specs.Stores.{Puts}
 use Rattle.atoms.specs.Atoms.{GoodTable, atoms, node, branches-from, head, AtomIn}
+use Rattle.atoms.specs.Records.{RecordOf}
+use Rattle.table.specs.declared.record.Record.{Record}
 use Rattle.printer.specs.declared.walk.Progress.{Progress}
 
 -- the table has an atom x, and there is room from n on for the pattern that begins there
@@ -14,9 +16,10 @@ pub record WritePatternPre (table out : Bytes) (x n : ℕ) : Type 0 where
   pub atom : AtomIn table x
   pub room : n + length (print (node table x)) ≤ length out
 
--- the same for the atom alone
-pub record WriteAtomPre (table out : Bytes) (x n : ℕ) : Type 0 where
+-- the same for the atom alone, by its record
+pub record WriteAtomPre (table out : Bytes) (r : Record) (x n : ℕ) : Type 0 where
   pub atom : AtomIn table x
+  pub got : RecordOf table x r
   pub room : n + length (print (head (node table x))) ≤ length out
 
 -- the same for k branches

@@ -3,6 +3,7 @@ use super::tokens;
 use atoms::literal_at;
 use atoms::record_at;
 use pattern::kind;
+use table::record::Record;
 ghost use Prim.Native.Nat.{_+_, _-_};
 ghost use Rattle.pattern.specs.Syntax.{size};
 ghost use Rattle.pattern.specs.Print.{print};
@@ -22,8 +23,8 @@ pub fn write_pattern(table: &[u8], out: &mut [u8], x: usize, n: usize) -> Progre
 {
     let mut from = Progress { atom: x, at: n };
     loop {
-        let next = write_atom(table, out, from.atom, from.at);
         let r = record_at(table, from.atom);
+        let next = write_atom(table, out, r, from.atom, from.at);
         if r.ends == 1 {
             return next;
         }
@@ -31,12 +32,11 @@ pub fn write_pattern(table: &[u8], out: &mut [u8], x: usize, n: usize) -> Progre
     }
 }
 
-// Atom x.
-fn write_atom(table: &[u8], out: &mut [u8], x: usize, n: usize) -> Progress
-    requires { ⌜ WriteAtomPre (now table) (now out) x n ⌝ }
+// Atom x, by its record.
+fn write_atom(table: &[u8], out: &mut [u8], r: Record, x: usize, n: usize) -> Progress
+    requires { ⌜ WriteAtomPre (now table) (now out) r x n ⌝ }
     ensures { λ r. ⌜ WritePost (print (head (node (now (table .entry)) x))) (x + size (head (node (now (table .entry)) x))) (now (out .entry)) n r (now (out .exit)) ⌝ }
 {
-    let r = record_at(table, x);
     let m = tokens::count(out, n, r.low, r.high);
     if r.kind == kind::CODES {
         return Progress {

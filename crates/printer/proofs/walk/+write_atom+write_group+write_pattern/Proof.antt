@@ -29,7 +29,7 @@ use Rattle.printer.proofs.walk.+write_atom+write_group+write_pattern.{s
 use Rattle.printer.proofs.walk.+write_atom+write_group+write_pattern.Tie.{close}
 
 abbrev μ-atom : Measures 2 atom-kinds.ps ℕ
-μ-atom κs a = 3 * (atoms (a .0 .now) - a .1 .1 .0)
+μ-atom κs a = 3 * (atoms (a .0 .now) - a .1 .1 .1 .0)
 
 abbrev μ-group : Measures 2 group-kinds.ps ℕ
 μ-group κs a = 3 * (atoms (a .0 .now) - a .1 .1 .0) + 2
@@ -56,27 +56,24 @@ abbrev pattern-below : ℕ → In 2 pattern-kinds.ps
 pattern-below t = and 2 pattern-kinds.ps (falls 2 pattern-kinds.ps _<_ μ-pattern t) pattern.Pre
 
 abbrev atom-claims : ℕ → atom-lts.Claims
-atom-claims t = (record-at-reads.Asked, record-at-reads.Learnt, count-reads.Asked, count-reads.Learnt, letters-reads.Asked, letters-reads.Learnt, literal-at-reads.Asked, literal-at-reads.Learnt, literal-reads.Asked, literal-reads.Learnt, group-below t, group.Post)
+atom-claims t = (count-reads.Asked, count-reads.Learnt, letters-reads.Asked, letters-reads.Learnt, literal-at-reads.Asked, literal-at-reads.Learnt, literal-reads.Asked, literal-reads.Learnt, group-below t, group.Post)
 
 abbrev group-claims : ℕ → group-lts.Claims
 group-claims t = (pattern-below t, pattern.Post)
 
 abbrev pattern-claims : ℕ → pattern-lts.Claims
-pattern-claims t = (atom-below t, atom.Post, record-at-reads.Asked, record-at-reads.Learnt)
+pattern-claims t = (record-at-reads.Asked, record-at-reads.Learnt, atom-below t, atom.Post)
 
 -- what is known where a count was written
 atom-counted : (t : ℕ) (c : atom-lts.After-count (atom-claims t) (atom-at t) atom.Post)
-    → CountWritten (c .before .before .before .before .before .args .table .now) (c .before .before .before .before .before .args .out .now) (c .before .before .before .before .before .args .x) (c .before .before .before .before .before .args .n) (c .before .before .record-at .result) (c .count .last .0) (c .count .result)
-atom-counted t c = record { pre = c .before .before .before .before .before .pre .1; got = c .before .before .record-at .ensures; puts = c .count .ensures }
-
-atom-record-at-requires : (t : ℕ) → atom-lts.Need-record-at-requires (atom-claims t) (atom-at t) atom.Post
-atom-record-at-requires t c κs = c .before .before .pre .1 .atom
+    → CountWritten (c .before .before .before .before .args .table .now) (c .before .before .before .before .args .out .now) (c .before .before .before .before .args .x) (c .before .before .before .before .args .n) (c .before .before .before .before .args .r) (c .count .last .0) (c .count .result)
+atom-counted t c = record { pre = c .before .before .before .before .pre .1; puts = c .count .ensures }
 
 atom-count-requires : (t : ℕ) → atom-lts.Need-count-requires (atom-claims t) (atom-at t) atom.Post
-atom-count-requires t c κs = count-room (c .before .before .before .before .pre .1) (c .before .record-at .ensures)
+atom-count-requires t c κs = count-room (c .before .before .before .pre .1)
 
 atom-add-t15 : (t : ℕ) → atom-lts.Need-add-t15 (atom-claims t) (atom-at t) atom.Post
-atom-add-t15 t c = omega (arith, record-in _ _ (c .before .before .before .before .before .before .before .before .before .pre .1 .atom) .within)
+atom-add-t15 t c = omega (arith, record-in _ _ (c .before .before .before .before .before .before .before .before .pre .1 .atom) .within)
 
 atom-letters-requires : (t : ℕ) → atom-lts.Need-letters-requires (atom-claims t) (atom-at t) atom.Post
 atom-letters-requires t c κs = letters-room (atom-counted t (c .before .before .before .before .before)) (c .before .if1 .taken)
@@ -88,13 +85,13 @@ atom-same-length : (t : ℕ) → atom-lts.Need-same-length (atom-claims t) (atom
 atom-same-length t c = puts-length (atom-returns t c .puts)
 
 atom-literal-at-requires : (t : ℕ) → atom-lts.Need-literal-at-requires (atom-claims t) (atom-at t) atom.Post
-atom-literal-at-requires t c κs = c .before .before .before .before .before .before .before .before .record-at .ensures .is-literal (c .if2 .taken)
+atom-literal-at-requires t c κs = c .before .before .before .before .before .before .before .before .before .before .pre .1 .got .is-literal (c .if2 .taken)
 
 atom-add-to : (t : ℕ) → atom-lts.Need-add-to (atom-claims t) (atom-at t) atom.Post
 atom-add-to t c = omega (arith, c .before .literal-at .ensures .within)
 
 atom-add-t19 : (t : ℕ) → atom-lts.Need-add-t19 (atom-claims t) (atom-at t) atom.Post
-atom-add-t19 t c = omega (arith, record-in _ _ (c .before .before .before .before .before .before .before .before .before .before .before .before .before .pre .1 .atom) .within)
+atom-add-t19 t c = omega (arith, record-in _ _ (c .before .before .before .before .before .before .before .before .before .before .before .before .pre .1 .atom) .within)
 
 atom-part-literal-start : (t : ℕ) → atom-lts.Need-part-literal-start (atom-claims t) (atom-at t) atom.Post
 atom-part-literal-start t c = search (needs, c .before .before .literal-at .ensures .within)
@@ -112,26 +109,26 @@ atom-same-length-2 : (t : ℕ) → atom-lts.Need-same-length-2 (atom-claims t) (
 atom-same-length-2 t c = puts-length (atom-returns-2 t c .puts)
 
 -- and where the atom is a group
-atom-group : (t : ℕ) (c : atom-lts.Else2 (atom-claims t) (atom-at t) atom.Post) → GroupIn (c .before .before .before .before .before .before .before .before .before .before .before .args .table .now) (c .before .before .before .before .before .before .before .before .before .before .before .args .x) (c .before .before .before .before .before .before .before .before .record-at .result .a)
-atom-group t c = c .before .before .before .before .before .before .before .before .record-at .ensures .is-group (c .before .before .if1 .left) (c .if2 .left)
+atom-group : (t : ℕ) (c : atom-lts.Else2 (atom-claims t) (atom-at t) atom.Post) → GroupIn (c .before .before .before .before .before .before .before .before .before .before .args .table .now) (c .before .before .before .before .before .before .before .before .before .before .args .x) (c .before .before .before .before .before .before .before .before .before .before .args .r .a)
+atom-group t c = c .before .before .before .before .before .before .before .before .before .before .pre .1 .got .is-group (c .before .before .if1 .left) (c .if2 .left)
 
 atom-slice-write-out : (t : ℕ) → atom-lts.Need-slice-write-out (atom-claims t) (atom-at t) atom.Post
 atom-slice-write-out t c = omega (arith, open-room (atom-counted t (c .before .before .before .before .before .before)) (atom-group t c))
 
 atom-add-write-group : (t : ℕ) → atom-lts.Need-add-write-group (atom-claims t) (atom-at t) atom.Post
-atom-add-write-group t c = omega (arith, record-in _ _ (c .before .before .before .before .before .before .before .before .before .before .before .before .pre .1 .atom) .within)
+atom-add-write-group t c = omega (arith, record-in _ _ (c .before .before .before .before .before .before .before .before .before .before .before .pre .1 .atom) .within)
 
 atom-add-write-group-2 : (t : ℕ) → atom-lts.Need-add-write-group-2 (atom-claims t) (atom-at t) atom.Post
 atom-add-write-group-2 t c = omega (arith, open-room (atom-counted t (c .before .before .before .before .before .before .before)) (atom-group t (c .before)), puts-length (c .before .before .before .before .before .before .before .count .ensures))
 
 atom-write-group-requires : (t : ℕ) → atom-lts.Need-write-group-requires (atom-claims t) (atom-at t) atom.Post
-atom-write-group-requires t c κs = (omega (arith, c .before .before .before .before .before .before .before .before .before .before .before .before .before .pre .1 .atom .there, c .before .before .before .before .before .before .before .before .before .before .before .before .before .pre .0), inner-pre (atom-counted t (c .before .before .before .before .before .before .before .before)) (atom-group t (c .before .before)))
+atom-write-group-requires t c κs = (omega (arith, c .before .before .before .before .before .before .before .before .before .before .before .before .pre .1 .atom .there, c .before .before .before .before .before .before .before .before .before .before .before .before .pre .0), inner-pre (atom-counted t (c .before .before .before .before .before .before .before .before)) (atom-group t (c .before .before)))
 
 atom-slice-write-out-2 : (t : ℕ) → atom-lts.Need-slice-write-out-2 (atom-claims t) (atom-at t) atom.Post
 atom-slice-write-out-2 t c = omega (arith, close-room (atom-counted t (c .before .before .before .before .before .before .before .before .before .before .before)) (atom-group t (c .before .before .before .before .before)) (c .before .before .write-group .ensures))
 
 atom-add-t30 : (t : ℕ) → atom-lts.Need-add-t30 (atom-claims t) (atom-at t) atom.Post
-atom-add-t30 t c = omega (arith, close-fits (atom-counted t (c .before .before .before .before .before .before .before .before .before .before .before)) (atom-group t (c .before .before .before .before .before)) (c .before .before .write-group .ensures), c .before .before .before .before .before .before .before .before .before .before .before .before .before .before .before .before .good .1 .0)
+atom-add-t30 t c = omega (arith, close-fits (atom-counted t (c .before .before .before .before .before .before .before .before .before .before .before)) (atom-group t (c .before .before .before .before .before)) (c .before .before .write-group .ensures), c .before .before .before .before .before .before .before .before .before .before .before .before .before .before .before .good .1 .0)
 
 atom-returns-3 : (t : ℕ) → atom-lts.Need-returns-3 (atom-claims t) (atom-at t) atom.Post
 atom-returns-3 t c = group-post (atom-counted t (c .before .before .before .before .before .before .before .before .before .before .before)) (atom-group t (c .before .before .before .before .before)) (c .before .before .write-group .ensures)
@@ -178,31 +175,31 @@ pattern-μ-loop table out₀ x n from₀ out from = atoms table - from .atom
 pattern-loop-holds : (t : ℕ) → pattern-lts.Need-loop-holds (pattern-claims t) (pattern-at t) pattern.Post pattern-Inv-loop pattern-μ-loop
 pattern-loop-holds t c = pattern-start _ (c .before .before .pre .1)
 
-pattern-write-atom-requires : (t : ℕ) → pattern-lts.Need-write-atom-requires (pattern-claims t) (pattern-at t) pattern.Post pattern-Inv-loop pattern-μ-loop
-pattern-write-atom-requires t c κs = (omega (arith, c .before .loop .inv .on, c .before .before .before .before .pre .0), pattern-atom (c .before .before .before .before .pre .1) (c .before .loop .inv))
-
 pattern-record-at-requires : (t : ℕ) → pattern-lts.Need-record-at-requires (pattern-claims t) (pattern-at t) pattern.Post pattern-Inv-loop pattern-μ-loop
-pattern-record-at-requires t c κs = record { good = c .before .before .before .before .before .before .before .pre .1 .atom .good; there = c .before .before .before .before .loop .inv .there }
+pattern-record-at-requires t c κs = record { good = c .before .before .before .pre .1 .atom .good; there = c .loop .inv .there }
+
+pattern-write-atom-requires : (t : ℕ) → pattern-lts.Need-write-atom-requires (pattern-claims t) (pattern-at t) pattern.Post pattern-Inv-loop pattern-μ-loop
+pattern-write-atom-requires t c κs = (omega (arith, c .before .before .loop .inv .on, c .before .before .before .before .before .pre .0), pattern-atom (c .before .before .before .before .before .pre .1) (c .before .before .loop .inv) (c .before .record-at .ensures))
 
 pattern-returns : (t : ℕ) → pattern-lts.Need-returns (pattern-claims t) (pattern-at t) pattern.Post pattern-Inv-loop pattern-μ-loop
-pattern-returns t c = pattern-end (c .before .before .before .before .before .before .before .before .before .before .pre .1) (c .before .before .before .before .before .before .before .loop .inv) (c .before .before .before .before .before .write-atom .ensures) (c .before .before .record-at .ensures) (c .if1 .taken)
+pattern-returns t c = pattern-end (c .before .before .before .before .before .before .before .before .before .before .pre .1) (c .before .before .before .before .before .before .before .loop .inv) (c .before .before .before .before .write-atom .ensures) (c .before .before .before .before .before .before .record-at .ensures) (c .if1 .taken)
 
 pattern-same-length : (t : ℕ) → pattern-lts.Need-same-length (pattern-claims t) (pattern-at t) pattern.Post pattern-Inv-loop pattern-μ-loop
 pattern-same-length t c = puts-length (pattern-returns t c .puts)
 
 pattern-loop-less : (t : ℕ) → pattern-lts.Need-loop-less (pattern-claims t) (pattern-at t) pattern.Post pattern-Inv-loop pattern-μ-loop
-pattern-loop-less t c = pattern-less (c .before .before .before .before .before .before .before .before .before .before .pre .1) (c .before .before .before .before .before .before .before .loop .inv) (c .before .before .before .before .before .write-atom .ensures) (c .before .before .record-at .ensures) (c .if1 .left)
+pattern-loop-less t c = pattern-less (c .before .before .before .before .before .before .before .before .before .before .pre .1) (c .before .before .before .before .before .before .before .loop .inv) (c .before .before .before .before .write-atom .ensures) (c .before .before .before .before .before .before .record-at .ensures) (c .if1 .left)
 
 pattern-loop-again : (t : ℕ) → pattern-lts.Need-loop-again (pattern-claims t) (pattern-at t) pattern.Post pattern-Inv-loop pattern-μ-loop
-pattern-loop-again t c = pattern-next (c .before .before .before .before .before .before .before .before .before .before .pre .1) (c .before .before .before .before .before .before .before .loop .inv) (c .before .before .before .before .before .write-atom .ensures) (c .before .before .record-at .ensures) (c .if1 .left)
+pattern-loop-again t c = pattern-next (c .before .before .before .before .before .before .before .before .before .before .pre .1) (c .before .before .before .before .before .before .before .loop .inv) (c .before .before .before .before .write-atom .ensures) (c .before .before .before .before .before .before .record-at .ensures) (c .if1 .left)
 
 pub +write-atom+write-group+write-pattern-spec : {M : Type 1} → statement M
 +write-atom+write-group+write-pattern-spec = close μ-atom μ-group μ-pattern
     (λ t. atom-lts.spec (atom-claims t) (atom-at t) atom.Post
-    (atom-record-at-requires t) (atom-count-requires t) (atom-add-t15 t) (atom-letters-requires t) (atom-same-length t) (atom-returns t)
+    (atom-count-requires t) (atom-add-t15 t) (atom-letters-requires t) (atom-same-length t) (atom-returns t)
     (atom-literal-at-requires t) (atom-add-to t) (atom-add-t19 t) (λ c. omega arith) (atom-part-literal-start t) (atom-part-literal-end t) (atom-literal-requires t) (atom-same-length-2 t) (atom-returns-2 t)
     (atom-slice-write-out t) (atom-add-write-group t) (atom-add-write-group-2 t) (search needs) (atom-write-group-requires t) (atom-slice-write-out-2 t) (atom-add-t30 t) (atom-same-length-3 t) (atom-returns-3 t))
     (λ t. group-lts.spec (group-claims t) (group-at t) group.Post group-Inv-loop group-μ-loop
     (group-sub-more t) (group-loop-holds t) (group-write-pattern-requires t) (group-same-length t) (group-returns t) (group-slice-write-out t) (group-add-t14 t) (λ c. omega (arith, c .if1 .left)) (λ c. omega (arith, c .if1 .left)) (group-loop-again t))
     λ t. pattern-lts.spec (pattern-claims t) (pattern-at t) pattern.Post pattern-Inv-loop pattern-μ-loop
-    (pattern-loop-holds t) (pattern-write-atom-requires t) (pattern-record-at-requires t) (pattern-same-length t) (pattern-returns t) (pattern-loop-less t) (pattern-loop-again t)
+    (pattern-loop-holds t) (pattern-record-at-requires t) (pattern-write-atom-requires t) (pattern-same-length t) (pattern-returns t) (pattern-loop-less t) (pattern-loop-again t)
