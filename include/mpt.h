@@ -74,7 +74,7 @@ enum {
 #define MPT_REGISTER_SIZE(n) (MPT_REGISTER_MIN + (size_t)(n) * MPT_TABLE_MAX)
 #define MPT_REGISTER_MAX MPT_REGISTER_SIZE(256)
 
-/* Writes a table of version 2. The other calls take tables of version 1 too, good by 64 atoms and 512 bytes of source. The
+/* Writes a table of version 2. Every call that takes a table takes version 1 too, good by 64 atoms and 512 bytes of source. The
  * answer's value is the length of the table: lend the other calls that length, not the buffer's. */
 uint32_t mpt_compile(const uint8_t *source, size_t source_len, uint8_t *table, size_t table_len, uint8_t *answer,
                      size_t answer_len);

@@ -24,7 +24,7 @@ use Rattle.pattern.specs.Stores.{store-at}
 use Rattle.table.specs.Write.{rec-of, put-records}
 use Rattle.scanner.specs.Bodies.{Inside, after-codes, in-literal, Refuses}
 
--- where a reader may start, in d groups
+-- where a reader may start, in d groups; no more atoms than bytes are passed (sparse)
 pub record ReadPre (s : Bytes) (st : ReaderState) (d : ℕ) : Type 0 where
   pub within : st .at .at ≤ length s
   pub atoms : st .atoms ≤ atom-limit

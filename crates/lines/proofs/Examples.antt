@@ -12,7 +12,7 @@ use Rattle.lines.specs.Output.{prefixed, answers, last-line, lines-after
 abbrev line : Bytes → Bytes → Bytes
 line source label = source ++ tab-byte ∷ label ++ newline-byte ∷ []
 
--- "The lines 2N tab 42, 2N tab 4x, 2N, tab 42 give, whole: MPT 2, 1 2, 0, R 2 2"
+-- "The lines 2N tab 42, 2N tab 4x, 2N, tab 42 give, whole: MPT 1, 1 2, 0, R 2 2", by 02 MPT 2
 pub example-holds : output (line (bytes "2N") (bytes "42") ++ line (bytes "2N") (bytes "4x") ++ line (bytes "2N,") (bytes "42"))
     ≡ bytes "MPT 2" ++ newline-byte ∷ bytes "1 2" ++ newline-byte ∷ bytes "0" ++ newline-byte ∷ bytes "R 2 2" ++ newline-byte ∷ []
 unfolding computed coded-text refused-text unmatched-text listed matched-text ending-text index-of cut-at cut ending-reply zeros label-reply table-reply source-reply cut-reply reply answer-to prefixed answers last-line lines-after split first-line output

@@ -29,7 +29,7 @@ use Rattle.pattern.proofs.FormAt.{stops}
 use Rattle.pattern.proofs.ByteAt.{code-exactly, number-exactly, depth-exactly}
 use Rattle.pattern.proofs.AtomAt.{range-exactly, atoms-exactly}
 use Rattle.pattern.proofs.RoundTrip.{accepted-compiles, good-exactly}
-use Rattle.pattern.proofs.Calls.{put-fits, put-short, print-accepted, write-compile, write-compile-same, budgets-agree, within-reports, beyond-reports, verdict-exactly, count-bounded, compile-untouched, write-untouched, match-untouched, match-zeroed, scratch-ignored, compile-accepted, compile-zero, compile-number, write-number, match-number, match-verdict, match-parts}
+use Rattle.pattern.proofs.Calls.{put-fits, put-short, print-accepted, renewed, write-compile, write-compile-same, budgets-agree, within-reports, beyond-reports, verdict-exactly, count-bounded, compile-untouched, write-untouched, match-untouched, match-zeroed, scratch-ignored, compile-accepted, compile-zero, compile-number, write-number, match-number, match-verdict, match-parts}
 
 -- ---- demand 1: any bytes, a verdict or a numbered refusal
 
@@ -89,7 +89,7 @@ pub record Demand2 : Type 0 where
       → compileOf (result-bytes (writeOf table source)) room ≡ record { answer = result (length table) 0; bytes = overwrite table room }
   pub written-renews : (table source room : Bytes) (t : Syntax pattern) → decode table ≡ some t → writeOf table source .answer .number ≡ 0 → length (encode t) ≤ length room
       → compileOf (result-bytes (writeOf table source)) room ≡ record { answer = result (length (encode t)) 0; bytes = overwrite (encode t) room }
-  pub same-pattern : (table : Bytes) (t : Syntax pattern) → decode table ≡ some t → Compiles v2 (print t) t (encode t)
+  pub same-pattern : (table : Bytes) (t : Syntax pattern) → decode table ≡ some t → (decode (encode t) ≡ some t) × Compiles v2 (print t) t (encode t)
   -- "The verdict is yes exactly when the standard's partition of the label exists"
   pub yes-exactly : (table label scratch parts : Bytes) (t : Syntax pattern) → decode table ≡ some t → lent-fault t label scratch parts ≡ none → (budget : ℕ) → trials label t ≤ budget
       → (matchOf table label scratch parts budget .answer .value ≡ 1) ↔ ((ends : List ℕ) × Partition label t 0 ends)
@@ -143,7 +143,7 @@ demand-2 = record {
   writes-back = written-whole;
   written-compiles = write-compile-same;
   written-renews = write-compile;
-  same-pattern = λ table t d. accepted-compiles (print t) t (print-accepted table t d);
+  same-pattern = λ table t d. (renewed table t d, accepted-compiles (print t) t (print-accepted table t d));
   yes-exactly = partition-exists;
   longest-first = match-parts;
 }

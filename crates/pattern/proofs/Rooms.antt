@@ -61,7 +61,7 @@ table-fits v2 source t table c = omega (arith, c .few, c .short, derived-size t 
 pub good-fits : (table : Bytes) (t : Syntax pattern) → decode table ≡ some t → length table ≤ table-room
 good-fits table t good = let (v, source, c) = good-exactly table t .0 good in table-fits v source t table c
 
--- an accepted source's table and parts
+-- an accepted source's table
 module _ (source : Bytes) (t : Syntax pattern) (good : outcome source ≡ accepted t) where
   pub encode-fits : length (encode t) ≤ table-room
   encode-fits = table-fits written-version source t (encode t) (accepted-compiles source t good)
@@ -70,19 +70,22 @@ module _ (source : Bytes) (t : Syntax pattern) (good : outcome source ≡ accept
   pub encode-short : length (encode t) ≤ header-size written-version + record-size * length source
   encode-short = let (n, s, l) = accepted-exactly source t .0 good in omega (arith, derived-size t source s, encode-length written-version t)
 
-  pub parts-fit : 2 * top-size t ≤ parts-room
-  parts-fit = let (n, s, l) = accepted-exactly source t .0 good in omega (arith, l .atoms, top-le t)
-
   -- so the source is never refused for room
   pub table-has-room : (lent : Bytes) → table-room ≤ length lent → compileOf source lent ≡ record { answer = result (length (encode t)) 0; bytes = overwrite (encode t) lent }
   table-has-room lent r =
       let (n, s, l) = accepted-exactly source t .0 good in
       compile-accepted source lent t n s l (omega (arith, encode-fits))
 
--- the scratch bytes of every match: "(2A+4) x (n+1) x (n+1)" with 256 atoms and 255 bytes
-pub scratch-fits : (t : Syntax pattern) (n : ℕ) → size t ≤ atom-limit → n ≤ label-limit → scratch-needed t n ≤ 33_816_576
-scratch-fits t n few short =
-    let a : 2 * size t + 4 ≤ 2 * atom-limit + 4 = omega arith in
+-- the parts and the scratch of a good table: with 256 atoms and 255 bytes "(2A+4) x (n+1) x (n+1)" is the most
+good-few : (table : Bytes) (t : Syntax pattern) → decode table ≡ some t → size t ≤ atom-limit
+good-few table t good = let (n, s, l) = accepted-exactly (print t) t .0 (print-accepted table t good) in l .atoms
+
+pub parts-fit : (table : Bytes) (t : Syntax pattern) → decode table ≡ some t → 2 * top-size t ≤ parts-room
+parts-fit table t good = omega (arith, good-few table t good, top-le t)
+
+pub scratch-fits : (table : Bytes) (t : Syntax pattern) (n : ℕ) → decode table ≡ some t → n ≤ label-limit → scratch-needed t n ≤ 33_816_576
+scratch-fits table t n good short =
+    let a : 2 * size t + 4 ≤ 2 * atom-limit + 4 = omega (arith, good-few table t good) in
     let b : n + 1 ≤ label-limit + 1 = omega arith in
     mul-le-mul (mul-le-mul a b) b
 

@@ -9,7 +9,7 @@ use Rattle.pattern.specs.Versions.{written-version, header-size, table-room}
 use Rattle.pattern.specs.Bytes.{Bytes}
 use Rattle.pattern.specs.Scan.{Outcome, refused, accepted, outcome}
 use Rattle.pattern.specs.Table.{encode}
-use Rattle.pattern.specs.Answers.{Answer, refusal, result, Output, compiled, compileOf}
+use Rattle.pattern.specs.Answers.{Answer, Output, compiled, compileOf}
 use Rattle.pattern.proofs.Tests.{if-false}
 use Rattle.pattern.proofs.Stores.{take-overwrite}
 use Rattle.pattern.proofs.Calls.{put-fits}

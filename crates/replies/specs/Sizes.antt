@@ -33,7 +33,7 @@ refused-letter = 82
 abbrev pub unmatched-letter : ℕ
 unmatched-letter = 77
 
--- a reply without its newline: the longest is a yes with a byte and three digits for each part
+-- a reply without its newline: the longest is a yes with a byte and the five digits of 16 bits for each part
 abbrev pub reply-room : ℕ
 reply-room = 1 + 3 * parts-room
 

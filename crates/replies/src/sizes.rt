@@ -20,5 +20,5 @@ pub const SPACE: u8 = b' ';
 // The parts of every table fit.
 pub const PARTS_ROOM: usize = 2 * limits::ATOM_LIMIT;
 
-// A reply fits, its newline too: the longest is a yes with a comma and three digits for each part.
+// A reply fits, its newline too: the longest is a yes with a byte and the five digits of 16 bits for each part.
 pub const OUT_ROOM: usize = 2 + 3 * PARTS_ROOM;

@@ -53,7 +53,7 @@ codes-leaf a b = only-if (a-set a) (only-if (eqb b 0) (some (codes a)))
 abbrev pub payload-layout : ℕ → Layout
 payload-layout A = record { records = 0; pool = record-size * A }
 
--- the record of atom i
+-- the record of atom i, the records beginning at 0
 abbrev pub payload-record : Bytes → ℕ → Rec
 payload-record s i = rec-at s (0 + record-size * i)
 

@@ -17,10 +17,6 @@ use Rattle.table.specs.declared.write.TableWritten.the-variants.{Length,
 abbrev pub rec-of : (kind last : ℕ) → Repeat → (a b : ℕ) → Rec
 rec-of kind last rep a b = record { kind = kind; ends = last; low = rep .low; high = rep .high; a = a; b = b }
 
--- the records of every pattern fit
-abbrev pub records-room : ℕ
-records-room = record-size * atom-limit
-
 -- records in a buffer of records, the first of them that of atom i
 abbrev pub put-records : Bytes → (i : ℕ) → List Rec → Bytes
 put-records recs i xs = store-at recs (record-size * i) (record-bytes xs [])

@@ -62,7 +62,7 @@ pub fn header_at(table: &[u8]) -> Header
     requires { ⌜ header-size (version-of (now table)) ≤ length (now table) ⌝ }
     ensures { λ r. ⌜ r ≡ header-of (now (table .entry)) ⌝ }
 {
-    if read16(table, layout::VERSION_PLACE) == 1 {
+    if read16(table, layout::VERSION_PLACE) == layout::VERSION_1 {
         return header_by(table, wide(table[ATOMS_PLACE]), layout::format_1());
     }
     header_by(table, read16(table, ATOMS_PLACE), layout::format_2())

@@ -1,4 +1,5 @@
-// Where a table has what, and what depends on its version. That these are the numbers of the paper is part of the proofs of those who read and write it.
+// Where a table has what, and what depends on its version.
+// That these are the numbers of the paper is part of the proofs of those who read and write it.
 use pattern::limits;
 ghost use mathlib.Core.Path.{_≡_};
 ghost use Rattle.pattern.specs.Versions.{v1, v2};
@@ -17,6 +18,8 @@ pub const LENGTH_PLACE: usize = ATOMS_PLACE + COUNT_WIDTH;
 pub const HEADER_SIZE: usize = LENGTH_PLACE + 2;
 
 pub const RECORD_SIZE: usize = 10;
+
+pub const VERSION_1: u16 = 1;
 
 // The mark and the 16-bit version.
 const FIRST_BYTES_1: [u8; ATOMS_PLACE] = *b"MPT\x01\x00";

@@ -18,7 +18,7 @@ pub const RECORDS_ROOM: usize = layout::RECORD_SIZE * limits::ATOM_LIMIT;
 // Every table fits.
 pub const TABLE_ROOM: usize = layout::HEADER_SIZE + RECORDS_ROOM + limits::SOURCE_LIMIT;
 
-// A source as short as most are: what it needs is zeroed in a fraction of the time. Each byte of it may begin an atom.
+// A source as short as most are: what it needs is zeroed in a fraction of the time. It has no more atoms and bytes of literals than bytes.
 pub const SHORT_SOURCE: usize = 64;
 
 pub const SHORT_RECORDS: usize = layout::RECORD_SIZE * SHORT_SOURCE;
