@@ -8,13 +8,12 @@ use lib.ListN.{length, getD}
 use Rattle.pattern.specs.Numbers.{atom-limit}
 use Rattle.pattern.specs.Bytes.{Bytes}
 use Rattle.pattern.specs.Syntax.{Sort, pattern, atom, Syntax, last, then, repeat, codes, literal, group, only, or, size, top-size, nodes}
-use Rattle.pattern.specs.Within.{Fits, InLimits, Limited}
+use Rattle.pattern.specs.Within.{Fits, InLimits}
 use Rattle.pattern.specs.Print.{print}
 use Rattle.pattern.specs.Decode.{version-of, dummy, tree-of, decode}
-use Rattle.pattern.proofs.Accepted.{accepted-exactly}
 use Rattle.pattern.proofs.Bound.{nodes-size}
 use Rattle.pattern.proofs.RoundTrip.{tree-encode}
-use Rattle.pattern.proofs.Calls.{print-accepted, print-compiles}
+use Rattle.pattern.proofs.Calls.{good-limited, print-compiles}
 use Rattle.table.specs.declared.Sizes.{Sizes}
 use Rattle.table.specs.declared.Tested.the-variants as verdict
 use Rattle.table.specs.Tested.{tested}
@@ -22,11 +21,7 @@ use Rattle.atoms.specs.Atoms.{GoodTable, atoms, node, head, AtomIn}
 
 -- ---- the test's answer
 
--- the tree that a table decodes to is within the limits
-limited : (table : Bytes) (t : Syntax pattern) → decode table ≡ some t → Limited t
-limited table t d = let (n, h, g) = accepted-exactly (print t) t .0 (print-accepted table t d) in g
-
--- and is what the table is read as
+-- the tree that a table decodes to is what it is read as
 tree-is : (table : Bytes) (t : Syntax pattern) → decode table ≡ some t → tree-of table ≡ t
 tree-is table t d = let c = print-compiles table t d in ap tree-of (sym (c .whole)) ∙ tree-encode (version-of table) t (c .within) (c .few)
 
@@ -46,7 +41,7 @@ module _ (table : Bytes) where
       go : (o : Option (Syntax pattern)) → decode table ≡ o → verdict.Good s ≡ tested o → GoodSizes table s
       go none d e = let z : _≡_ {A = ℕ} 0 1 = cc in absurd (omega arith)
       go (some t) d e =
-          let g = limited table t d in
+          let g = good-limited table t d in
           let r = tree-is table t d in
           let y : s ≡ record { atoms = size t; top = top-size t; source = length (print t) } = cc in
           record {
@@ -104,4 +99,4 @@ pub count-fits : (table : Bytes) (x : ℕ) → AtomIn table x → (low : ℕ) (h
 unfolding node AtomFits
 count-fits table x ok low high b e =
     let t = tree-of table in
-    subst AtomFits e (fit-at (nodes t) x (last dummy) (omega (arith, ok .there, nodes-size t)) (all-fit 0 t (limited table t (ok .good .decoded) .tree)))
+    subst AtomFits e (fit-at (nodes t) x (last dummy) (omega (arith, ok .there, nodes-size t)) (all-fit 0 t (good-limited table t (ok .good .decoded) .tree)))

@@ -55,6 +55,10 @@ module _ (table : Bytes) (t : Syntax pattern) (good : decode table ≡ some t) w
   pub print-accepted : outcome (print t) ≡ accepted t
   print-accepted = let (v, source, c) = good-exactly table t .0 good in good-tree t .0 (source, compiles-accepted c)
 
+  -- so its tree is within the limits
+  pub good-limited : Limited t
+  good-limited = let (n, h, g) = accepted-exactly (print t) t .0 print-accepted in g
+
   -- that source compiles to the table in the version that the table names
   pub print-compiles : Compiles (version-of table) (print t) t table
   print-compiles =

@@ -17,26 +17,21 @@ use Rattle.pattern.specs.Answers.{result, compileOf, scratch-needed, len
 use Rattle.pattern.proofs.Tests.{all, all-at}
 use Rattle.pattern.proofs.Calls.{verdict-right}
 use Rattle.pattern.proofs.Computed.{computed}
+use Rattle.pattern.proofs.Sources.{header-1, header-2}
 
 -- what `.E` spells
 abbrev e-pattern : Syntax pattern
 e-pattern = last (repeat 0 none (codes 4))
 
--- its tables, of version 1 and of version 2
+-- its record, in the tables of both versions
 abbrev e-record : Bytes
 e-record = 1 ∷ 1 ∷ 0 ∷ 0 ∷ 255 ∷ 255 ∷ 4 ∷ 0 ∷ 0 ∷ 0 ∷ []
 
-abbrev e-table-1 : Bytes
-e-table-1 = 77 ∷ 80 ∷ 84 ∷ 1 ∷ 0 ∷ 1 ∷ 0 ∷ 0 ∷ e-record
-
-abbrev e-table-2 : Bytes
-e-table-2 = 77 ∷ 80 ∷ 84 ∷ 2 ∷ 0 ∷ 1 ∷ 0 ∷ 0 ∷ 0 ∷ e-record
-
-pub e-compiled : compileOf (bytes ".E") (replicate 19 7) ≡ record { answer = result 19 0; bytes = e-table-2 }
+pub e-compiled : compileOf (bytes ".E") (replicate 19 7) ≡ record { answer = result 19 0; bytes = header-2 1 0 e-record }
 unfolding computed
 e-compiled = refl
 
-pub e-decoded : (decode e-table-1 ≡ some e-pattern) × (decode e-table-2 ≡ some e-pattern)
+pub e-decoded : (decode (header-1 1 0 e-record) ≡ some e-pattern) × (decode (header-2 1 0 e-record) ≡ some e-pattern)
 unfolding computed
 e-decoded = (refl, refl)
 

@@ -1,6 +1,6 @@
 -- Where the records and the literals of a tree stand in its table. Assumes nothing.
 use mathlib.Core.Path.{_≡_, refl, sym, ap, ap₂, _∙_}
-use mathlib.Core.List.{List, [], _∷_, _++_, append-assoc}
+use mathlib.Core.List.{List, [], _∷_, _++_, append-assoc, append-nil}
 use Prim.Native.Nat.{ℕ, suc, _+_, _*_, _/_, _%_}
 use native.Mathlib.Omega.{arith}
 use lib.ListN.{length, getD, drop, length-append}
@@ -74,6 +74,11 @@ pub record Stands (s : Bytes) (l : Layout) (i p : ℕ) (xs : List Rec) (v : Byte
 -- a tree stands there; e is for an atom alone
 abbrev pub Placed : Bytes → Layout → {o : Sort} → ℕ → Syntax o → (i p : ℕ) → Type 0
 Placed s l e t i p = Stands s l i p (records e t i p) (pool t)
+
+-- a pattern whose records begin the records, and whose pool follows them
+pub placed-first : {s : Bytes} {l : Layout} (t : Syntax pattern) → l .pool + 0 ≡ l .records + record-size * 0 + record-size * length (records 1 t 0 0)
+    → drop (l .records + record-size * 0) s ≡ record-bytes (records 1 t 0 0) (pool t) → Placed s l 1 t 0 0
+placed-first {s} t n e = record { left = pool t; over = []; recs = e; text = next-there s _ _ (records 1 t 0 0) (pool t) n e ∙ sym (append-nil (pool t)) }
 
 module _ {s : Bytes} {l : Layout} {i p : ℕ} where
   -- the first record

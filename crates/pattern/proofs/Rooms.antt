@@ -20,7 +20,7 @@ use Rattle.pattern.specs.Decode.{decode, Compiles}
 use Rattle.pattern.specs.Answers.{result, put-if, put, compiled, compileOf, scratch-needed}
 use Rattle.pattern.proofs.RoundTrip.{some-atom, encode-length, accepted-compiles, good-exactly}
 use Rattle.pattern.proofs.Accepted.{accepted-exactly}
-use Rattle.pattern.proofs.Calls.{print-accepted, compile-accepted, compile-zero}
+use Rattle.pattern.proofs.Calls.{print-accepted, good-limited, compile-accepted, compile-zero}
 
 -- a source is longer than the literals' values in it, by a byte for each atom
 quoted-pool : {v s : Bytes} → Quoted v s → length v ≤ length s
@@ -77,15 +77,12 @@ module _ (source : Bytes) (t : Syntax pattern) (good : outcome source ≡ accept
       compile-accepted source lent t n s l (omega (arith, encode-fits))
 
 -- the parts and the scratch of a good table: with 256 atoms and 255 bytes "(2A+4) x (n+1) x (n+1)" is the most
-good-few : (table : Bytes) (t : Syntax pattern) → decode table ≡ some t → size t ≤ atom-limit
-good-few table t good = let (n, s, l) = accepted-exactly (print t) t .0 (print-accepted table t good) in l .atoms
-
 pub parts-fit : (table : Bytes) (t : Syntax pattern) → decode table ≡ some t → 2 * top-size t ≤ parts-room
-parts-fit table t good = omega (arith, good-few table t good, top-le t)
+parts-fit table t good = omega (arith, good-limited table t good .atoms, top-le t)
 
 pub scratch-fits : (table : Bytes) (t : Syntax pattern) (n : ℕ) → decode table ≡ some t → n ≤ label-limit → scratch-needed t n ≤ 33_816_576
 scratch-fits table t n good short =
-    let a : 2 * size t + 4 ≤ 2 * atom-limit + 4 = omega (arith, good-few table t good) in
+    let a : 2 * size t + 4 ≤ 2 * atom-limit + 4 = omega (arith, good-limited table t good .atoms) in
     let b : n + 1 ≤ label-limit + 1 = omega arith in
     mul-le-mul (mul-le-mul a b) b
 

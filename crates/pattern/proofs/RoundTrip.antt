@@ -3,11 +3,10 @@ use mathlib.Core.Path.{_≡_, refl, sym, ap, ap₂, subst, _∙_}
 use mathlib.Core.Logic.{_↔_}
 use mathlib.Core.Bool.{Bool, true, false}
 use mathlib.Core.Option.{Option, none, some, Option·none-ne-some}
-use mathlib.Core.List.{[], append-nil}
 use Prim.Native.Nat.{ℕ, zero, suc, _+_, _*_, _<_, _≤_}
 use native.Mathlib.Omega.{arith}
 use borrow.Author.Tests.{eq-eqb, ne-eqb}
-use lib.ListN.{length, take, drop}
+use lib.ListN.{length, take}
 use lib.Seq.{take-append-seam}
 use Rattle.pattern.specs.Numbers.{source-limit, atom-limit, record-size, open-high}
 use Rattle.pattern.specs.Versions.{Version, v1, v2, written-version, format, header-size}
@@ -16,13 +15,13 @@ use Rattle.pattern.specs.Syntax.{Sort, pattern, atom, body, branches, Sy
 use Rattle.pattern.specs.Scan.{Outcome, refused, accepted, outcome}
 use Rattle.pattern.specs.Within.{Small, InLimits}
 use Rattle.pattern.specs.Print.{print}
-use Rattle.pattern.specs.Table.{pool, branch-count, high-field, kind-field, a-field, b-field, Rec, rec, records, record-bytes, header, encode-in, encode}
+use Rattle.pattern.specs.Table.{pool, branch-count, high-field, kind-field, a-field, b-field, Rec, rec, records, header, encode-in, encode}
 use Rattle.pattern.specs.Decode.{version-of, Layout, layout, high-of, record-at, pattern-at, atom-at, body-at, branches-at, tree-of, is-table-in, compiled-to, decode, Compiles}
 use Rattle.pattern.proofs.Tests.{Decides, leb-decides, both, if-true, if-false}
 use Rattle.pattern.proofs.Agree.{equal-decides}
 use Rattle.pattern.proofs.Accepted.{accepted-exactly}
 use Rattle.pattern.proofs.Shortest.{shortest, good-tree}
-use Rattle.pattern.proofs.Records.{length-record-bytes, count-records, Placed, head-there, tail-there, then-there, or-there, next-there}
+use Rattle.pattern.proofs.Records.{length-record-bytes, count-records, Placed, placed-first, head-there, tail-there, then-there, or-there}
 
 pub some-atom : (a : Syntax atom) → 0 < size a
 unfolding size
@@ -129,14 +128,10 @@ module _ (v : Version) (t : Syntax pattern) where
   version-encode = elim v [ v1 ↦ refl | v2 ↦ refl ]
 
 -- its records begin after the header, and its pool after them, if there are no more atoms than the version allows
-placed-there : (v : Version) (t : Syntax pattern) → let s : Bytes = encode-in v t in layout s .pool + 0 ≡ layout s .records + record-size * 0 + record-size * length (records 1 t 0 0)
-    → drop (layout s .records + record-size * 0) s ≡ record-bytes (records 1 t 0 0) (pool t) → Placed s (layout s) 1 t 0 0
-placed-there v t n e = record { left = pool t; over = []; recs = e; text = next-there (encode-in v t) _ _ (records 1 t 0 0) (pool t) n e ∙ sym (append-nil (pool t)) }
-
 pub encode-placed : (v : Version) (t : Syntax pattern) → size t ≤ format v .atoms → Placed (encode-in v t) (layout (encode-in v t)) 1 t 0 0
 unfolding version-of encode-in header little number-in
-encode-placed v1 t few = placed-there v1 t (omega (arith, few, count-records 1 t 0 0)) refl
-encode-placed v2 t few = placed-there v2 t (omega (arith, few, count-records 1 t 0 0)) refl
+encode-placed v1 t few = placed-first t (omega (arith, few, count-records 1 t 0 0)) refl
+encode-placed v2 t few = placed-first t (omega (arith, few, count-records 1 t 0 0)) refl
 
 -- a good tree is what its table is read as
 pub tree-encode : (v : Version) (t : Syntax pattern) → InLimits 0 t → size t ≤ format v .atoms → tree-of (encode-in v t) ≡ t

@@ -95,7 +95,10 @@ rewrite s =
     let w : Output = writeOf (take (c .answer .value) (c .bytes)) (replicate 128 7) in
     take (w .answer .value) (w .bytes)
 
--- the header of version 2 for n atoms, fewer than 256, and m bytes of pool
+-- the headers of both versions for n atoms, fewer than 256, and m bytes of pool
+abbrev pub header-1 : (n m : ℕ) → Bytes → Bytes
+header-1 n m s = 0x4D ∷ 0x50 ∷ 0x54 ∷ 0x01 ∷ 0x00 ∷ n ∷ le16 m s
+
 abbrev pub header-2 : (n m : ℕ) → Bytes → Bytes
 header-2 n m s = 0x4D ∷ 0x50 ∷ 0x54 ∷ 0x02 ∷ 0x00 ∷ n ∷ 0x00 ∷ le16 m s
 

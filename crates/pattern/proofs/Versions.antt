@@ -7,11 +7,7 @@ use Rattle.pattern.specs.Numbers.{TABLE}
 use Rattle.pattern.specs.Bytes.{Bytes, le16, bytes}
 use Rattle.pattern.specs.Answers.{compileOf, writeOf, result-bytes}
 use Rattle.pattern.proofs.Computed.{computed}
-use Rattle.pattern.proofs.Sources.{header-2, Payload-2N, Payload-group, Payload-nested}
-
--- the header of version 1 for n atoms, fewer than 256, and m bytes of pool
-abbrev header-1 : (n m : ℕ) → Bytes → Bytes
-header-1 n m s = 0x4D ∷ 0x50 ∷ 0x54 ∷ 0x01 ∷ 0x00 ∷ n ∷ le16 m s
+use Rattle.pattern.proofs.Sources.{header-1, header-2, Payload-2N, Payload-group, Payload-nested}
 
 -- a table written back, and the source compiled again
 unfoldable pub again : Bytes → Bytes × Bytes

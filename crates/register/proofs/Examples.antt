@@ -3,8 +3,9 @@ use mathlib.Core.Path.{_≡_, refl}
 use mathlib.Core.Bool.{true}
 use mathlib.Core.List.{[], _∷_, _++_}
 use lib.ListN.{take, drop, set, replicate}
-use Rattle.pattern.specs.Bytes.{Bytes, little}
+use Rattle.pattern.specs.Bytes.{little}
 use Rattle.pattern.proofs.Computed.{computed}
+use Rattle.pattern.proofs.Sources.{header-1, header-2, Payload-2N}
 use Rattle.register.specs.Maps.{empty, tables, is-table}
 use Rattle.register.specs.Layout.{slot, directory, section, laid-out}
 
@@ -16,9 +17,6 @@ unfolding empty tables slot directory section laid-out little
 layout-holds = (refl, refl)
 
 -- "The register keeps either version": the tables of 2N
-abbrev record-2N : Bytes
-record-2N = 1 ∷ 1 ∷ 2 ∷ 0 ∷ 2 ∷ 0 ∷ 16 ∷ 0 ∷ 0 ∷ 0 ∷ []
-
-pub either-kept : (is-table (77 ∷ 80 ∷ 84 ∷ 1 ∷ 0 ∷ 1 ∷ 0 ∷ 0 ∷ record-2N) ≡ true) × (is-table (77 ∷ 80 ∷ 84 ∷ 2 ∷ 0 ∷ 1 ∷ 0 ∷ 0 ∷ 0 ∷ record-2N) ≡ true)
+pub either-kept : (is-table (header-1 1 0 Payload-2N) ≡ true) × (is-table (header-2 1 0 Payload-2N) ≡ true)
 unfolding computed is-table
 either-kept = (refl, refl)

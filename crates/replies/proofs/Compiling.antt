@@ -7,6 +7,7 @@ use borrow.Author.Tests.{ne-eqb}
 use Rattle.pattern.specs.Numbers.{record-size}
 use Rattle.pattern.specs.Versions.{written-version, header-size, table-room}
 use Rattle.pattern.specs.Bytes.{Bytes}
+use Rattle.pattern.specs.Syntax.{pattern, Syntax}
 use Rattle.pattern.specs.Scan.{Outcome, refused, accepted, outcome}
 use Rattle.pattern.specs.Table.{encode}
 use Rattle.pattern.specs.Answers.{Answer, Output, compiled, compileOf}
@@ -33,7 +34,7 @@ module _ (source label scratch lent : Bytes) (fit : TableFits source lent) where
   abbrev full : Bytes
   full = replicate table-room 0
 
-  table-put : (t : _) → outcome source ≡ accepted t → (room : Bytes) → length (encode t) ≤ length room → table-reply (compiled (accepted t) source room) label scratch ≡ label-reply (encode t) label scratch
+  table-put : (t : Syntax pattern) → outcome source ≡ accepted t → (room : Bytes) → length (encode t) ≤ length room → table-reply (compiled (accepted t) source room) label scratch ≡ label-reply (encode t) label scratch
   unfolding table-reply compiled
   table-put t e room h =
       ap (λ o. table-reply o label scratch) (put-fits (length source) (encode t) room h) ∙ ap (λ b. label-reply b label scratch) (take-overwrite (encode t) room)

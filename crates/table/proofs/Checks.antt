@@ -6,7 +6,7 @@ use Prim.Native.Nat.{ℕ, _+_, _*_, _-_, _<_, _≤_}
 use native.Mathlib.Omega.{arith}
 use lib.Dec.{leb, eqb}
 use lib.ListN.{length, take, drop, length-drop}
-use lib.Seq.{take-length}
+use lib.Seq.{take-all}
 use borrow.Author.Tests.{le-leb, lt-leb, eq-eqb, ne-eqb}
 use Rattle.pattern.specs.Versions.{length-place}
 use Rattle.pattern.specs.Bytes.{Bytes}
@@ -61,7 +61,7 @@ abbrev payload-slice : Bytes → Header → Bytes
 payload-slice s h = take (length s - h .records) (drop (h .records) s)
 
 payload-is : (s : Bytes) (h : Header) → payload-slice s h ≡ drop (h .records) s
-payload-is s h = ap (λ n. take n (drop (h .records) s)) (sym (length-drop (h .records) s)) ∙ take-length (drop (h .records) s)
+payload-is s h = take-all (length s - h .records) (drop (h .records) s) (omega (arith, length-drop (h .records) s))
 
 -- and whose records were walked
 pub record BodyRead (s : Bytes) (h : Header) (x : Walked) : Type 0 where

@@ -20,7 +20,7 @@ use Rattle.pattern.specs.Table.{pool, records, record-bytes, header, encode-in}
 use Rattle.pattern.specs.Decode.{field, version-of, count-in, decode}
 use Rattle.pattern.proofs.Tests.{true-T, le-or-lt}
 use Rattle.pattern.proofs.Agree.{equal-decides}
-use Rattle.pattern.proofs.Records.{length-record-bytes, count-records, next-there, after-there}
+use Rattle.pattern.proofs.Records.{length-record-bytes, count-records, placed-first, next-there, after-there}
 use Rattle.pattern.proofs.RoundTrip.{some-pattern, encode-length, version-encode, good-exactly}
 use Rattle.pattern.proofs.Calls.{print-compiles}
 use Rattle.stores.proofs.Little.{Octets, octets-drop, octets-take, little-number}
@@ -139,7 +139,7 @@ set-payload : (t : Syntax pattern) → InLimits 0 t → Clean t → Set (payload
 set-payload t g c =
     let n : record-size * size t + 0 ≡ 0 + record-size * 0 + record-size * length (records 1 t 0 0) = omega (arith, count-records 1 t 0 0) in
     record {
-      placed = record { left = pool t; over = []; recs = refl; text = next-there (payload t) _ _ (records 1 t 0 0) (pool t) n refl ∙ sym (append-nil (pool t)) };
+      placed = placed-first t n refl;
       good = g;
       clean = c;
       within = omega arith;
