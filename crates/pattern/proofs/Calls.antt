@@ -9,7 +9,7 @@ use native.Mathlib.Nat.{mul-le-mul}
 use native.Mathlib.Omega.{arith}
 use lib.Dec.{T, leb, leb→le}
 use lib.ListN.{length}
-use lib.Seq.{take-append-seam, take-length}
+use lib.Seq.{take-append-seam}
 use borrow.Author.Tests.{le-leb, lt-leb, leb-true, leb-false, lt-ltb, le-ltb}
 use Rattle.pattern.specs.Numbers.{source-limit, atom-limit, label-limit, LONG, DEPTH, ROOM, TABLE, LABEL, WORK, PARTS, BUDGET}
 use Rattle.pattern.specs.Versions.{Version, written-version}
@@ -28,7 +28,7 @@ use Rattle.pattern.specs.Decode.{version-of, decode, Compiles}
 use Rattle.pattern.specs.Answers.{Answer, refusal, result, put-if, put, compiled, compileOf, written-back, writeOf, MatchOutput, scratch-needed, part-bytes, lent-fault, Ending, untried, exhausted, decided, ended, ending, match-ending, matchOf, result-bytes, MatchNumber, Untouched, shown}
 use Rattle.pattern.proofs.Tests.{le-or-lt, not-less, if-true, if-false}
 use Rattle.pattern.proofs.Stores.{length-overwrite, length-zeroed}
-use Rattle.pattern.proofs.Longest.{partition-satisfies, verdict-is, verdict-length, part-bytes-length}
+use Rattle.pattern.proofs.Longest.{verdict-is, yes-satisfies, verdict-length, part-bytes-length}
 use Rattle.pattern.proofs.Bound.{bound}
 use Rattle.pattern.proofs.Accepted.{accepted-exactly}
 use Rattle.pattern.proofs.TableRows.{refuse-applies, refuse-none, row-number}
@@ -37,7 +37,7 @@ use Rattle.pattern.proofs.Shortest.{shortest, good-tree}
 use Rattle.pattern.proofs.RoundTrip.{compiles-accepted, compiles-version, accepted-compiles, good-exactly}
 
 -- the counts of a tree within the limits are in order
-good-ordered : {s : Sort} (d : ℕ) (x : Syntax s) → InLimits d x → Ordered x
+pub good-ordered : {s : Sort} (d : ℕ) (x : Syntax s) → InLimits d x → Ordered x
 unfolding InLimits Ordered
 good-ordered d (last a) g = good-ordered d a g
 good-ordered d (then a p) (g, k) = (good-ordered d a g, good-ordered d p k)
@@ -85,6 +85,23 @@ module _ (table : Bytes) (t : Syntax pattern) (good : decode table ≡ some t) w
   pub verdict-right : (label : Bytes) → IsVerdict label t (verdict label t)
   verdict-right label =
       verdict-is label t (good-ordered 0 t (print-compiles .within))
+
+  -- so a label gets no just where it does not satisfy the pattern
+  pub unsatisfied-no : (label : Bytes) → ¬ Satisfies t label → verdict label t ≡ none
+  unfolding IsVerdict
+  unsatisfied-no label n = go (verdict label t) (verdict-right label)
+    where
+      go : (v : Option (List ℕ)) → IsVerdict label t v → v ≡ none
+      go none w = refl
+      go (some ends) w = absurd (n (yes-satisfies label t ends w))
+
+  pub satisfied-yes : (label : Bytes) → Satisfies t label → (ends : List ℕ) × (verdict label t ≡ some ends)
+  unfolding IsVerdict
+  satisfied-yes label s = go (verdict label t) (verdict-right label)
+    where
+      go : (v : Option (List ℕ)) → IsVerdict label t v → (ends : List ℕ) × (v ≡ some ends)
+      go none w = absurd (w s)
+      go (some ends) w = (ends, refl)
 
 -- ---- writing back
 
@@ -424,7 +441,7 @@ module _ (table label scratch parts : Bytes) (t : Syntax pattern) (good : decode
     where
       go : (v : Option (List ℕ)) → IsVerdict label t v → (ended (decided (scratch-needed t (length label)) (trials label t) v) scratch parts .answer .value ≡ 1) ↔ Satisfies t label
       go none m = (λ e. absurd (omega arith), λ s. absurd (m s))
-      go (some ends) m = (λ e. rw take-length at (partition-satisfies label t 0 ends (m .0)), λ s. refl)
+      go (some ends) m = (λ e. yes-satisfies label t ends m, λ s. refl)
 
   -- yes writes the longest-first ends, 2T bytes
   pub match-parts : matchOf table label scratch parts budget .answer .value ≡ 1

@@ -87,6 +87,11 @@ module _ (l : Bytes) where
       go true e = (parts-fit p o 0 (omega arith) (rw take-length (e .sound tt)), parts-longest p o 0)
       go false e = e .complete
 
+-- the ends of a yes show that the label satisfies the pattern
+pub yes-satisfies : (l : Bytes) (p : Syntax pattern) (ends : List ℕ) → IsVerdict l p (some ends) → Satisfies p l
+unfolding IsVerdict
+yes-satisfies l p ends v = rw take-length at (partition-satisfies l p 0 ends (v .0))
+
 -- two lists neither of which is above the other are one
 lex-antisym : (xs ys : List ℕ) → Lex xs ys → Lex ys xs → xs ≡ ys
 unfolding Lex
@@ -102,8 +107,8 @@ lex-antisym (x ∷ xs) (y ∷ ys) (inr (e, h)) (inr (f, k)) = cc (lex-antisym xs
 pub one-verdict : (l : Bytes) (p : Syntax pattern) (u v : Option (List ℕ)) → IsVerdict l p u → IsVerdict l p v → u ≡ v
 unfolding IsVerdict
 one-verdict l p none none h k = refl
-one-verdict l p none (some y) h k = absurd (h (rw take-length at (partition-satisfies l p 0 y (k .0))))
-one-verdict l p (some x) none h k = absurd (k (rw take-length at (partition-satisfies l p 0 x (h .0))))
+one-verdict l p none (some y) h k = absurd (h (yes-satisfies l p y k))
+one-verdict l p (some x) none h k = absurd (k (yes-satisfies l p x h))
 one-verdict l p (some x) (some y) h k = ap some (lex-antisym x y (k .1 x (h .0)) (h .1 y (k .0)))
 
 -- ---- the parts as they are written

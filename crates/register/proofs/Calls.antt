@@ -21,8 +21,9 @@ use Rattle.register.specs.declared.locate.Located.the-variants as locati
 use Rattle.register.specs.Maps.{numbers, Map, table-of, empty, tables, total, is-table, missing, Changed, change}
 use Rattle.register.specs.Layout.{preamble, preamble-size, slot-size, slot, directory-size, directory, section, laid-out, overhead, capacity, allowed, registerOf}
 use Rattle.register.specs.Register.{initOf, in-register, storeOf, removeOf, matchNumberOf}
-use Rattle.register.specs.Sections.{only-if, section-of, found, location-in, located, placed, PutTablePre}
+use Rattle.register.specs.Sections.{only-if, section-of, found, is-register, location-in, located, placed, PutTablePre}
 use Rattle.register.proofs.Maps.{tables-empty, total-set}
+use Rattle.register.proofs.Sections.{slot-none}
 use Rattle.register.proofs.Cases.{store-bad, store-full, store-done, remove-missing, remove-done}
 use Rattle.register.proofs.Meaning.{section-meant, found-split, meant, found-is}
 use Rattle.register.proofs.Registers.{short-means-none, store-refused, remove-refused, match-refused, match-missing, match-means}
@@ -34,6 +35,15 @@ none-located : (k : ℕ) (o : Option Map) → location.Bad ≡ located k o → o
 unfolding located
 none-located k none e = refl
 none-located k (some m) e = absurd (let z : _≡_ {A = ℕ} 0 1 = cc in omega arith)
+
+-- whether there is a map
+pub none-there : (k : ℕ) (o : Option Map) → location.Bad ≡ located k o → false ≡ is-register o
+unfolding is-register
+none-there k o e = sym (ap is-register (none-located k o e))
+
+pub one-there : (k : ℕ) (o : Option Map) (at : Location) → location.At at ≡ located k o → true ≡ is-register o
+unfolding is-register
+one-there k o at e = let (m, l) = located-in o k at e in sym (ap is-register (l .holds))
 
 -- the part of lent bytes that is the section
 abbrev section-part : Bytes → Bytes
@@ -59,11 +69,11 @@ module _ (lent : Bytes) (k : ℕ) where
 -- ---- an empty register
 
 directory-empty : (c : ℕ) → directory (replicate c []) ≡ replicate (slot-size * c) 0
-unfolding directory slot little
+unfolding directory
 directory-empty zero = refl
 directory-empty (suc c) =
     let e : slot-size + slot-size * c ≡ slot-size * suc c = omega arith in
-    ap (λ (x : Bytes). replicate slot-size 0 ++ x) (directory-empty c) ∙ replicate-append-replicate slot-size (slot-size * c) 0 ∙ ap (λ n. replicate n 0) e
+    ap (λ (x : Bytes). x ++ directory (replicate c [])) slot-none ∙ ap (λ (x : Bytes). replicate slot-size 0 ++ x) (directory-empty c) ∙ replicate-append-replicate slot-size (slot-size * c) 0 ∙ ap (λ n. replicate n 0) e
 
 -- zeros with the first bytes over them are an empty map laid out, of any count
 empty-laid : (lent : Bytes) (c n : ℕ) → n ≡ slot-size * c → preamble-size + n ≤ length lent
@@ -135,12 +145,12 @@ module _ {lent : Bytes} {k : ℕ} {at : Location} (w : TableAt lent k at) where
       (a, b, omega (arith, a, b, c, length-drop preamble-size lent), omega arith) in
       rw (l .place) there
 
-  pub lent-put : (t : Bytes) → allowed t ≡ true → length t ≤ length lent - preamble-size - at .used + (at .end - at .start) → PutTablePre (section-part lent) k at t
-  lent-put t kt r =
+  pub lent-put : (t own : Bytes) → allowed t ≡ true → own ≡ slot t → length t ≤ length lent - preamble-size - at .used + (at .end - at .start) → PutTablePre (section-part lent) k at t own
+  lent-put t own kt ks r =
       let (m, l) = in-map in
       let (a, b, c, d) = lent-places in
       let same : registerOf lent ≡ section-of (section-part lent) = l .holds ∙ sym (ap section-of (section-part-is lent) ∙ lent-split m (l .holds) .1) in
-      record { small = w .small; lies = w .lies ∙ ap (located k) same; allows = kt; room = omega (arith, a, b, c, r, ap length (section-part-is lent), length-drop preamble-size lent) }
+      record { small = w .small; lies = w .lies ∙ ap (located k) same; allows = kt; room = omega (arith, a, b, c, r, ap length (section-part-is lent), length-drop preamble-size lent); slotted = ks }
 
   -- the lent bytes after the table t took the place
   replaced : (m : Map) → registerOf lent ≡ some m → (t x : Bytes) → x ≡ placed (section-of (section-part lent)) (section-part lent) k t

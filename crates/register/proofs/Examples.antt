@@ -3,17 +3,26 @@ use mathlib.Core.Path.{_≡_, refl}
 use mathlib.Core.Bool.{true}
 use mathlib.Core.List.{[], _∷_, _++_}
 use lib.ListN.{take, drop, set, replicate}
-use Rattle.pattern.specs.Bytes.{little}
+use Rattle.pattern.specs.Bytes.{Bytes, little}
+use Rattle.pattern.specs.Decision.{any}
 use Rattle.pattern.proofs.Computed.{computed}
 use Rattle.pattern.proofs.Sources.{header-1, header-2, Payload-2N}
-use Rattle.register.specs.Maps.{empty, tables, is-table}
-use Rattle.register.specs.Layout.{slot, directory, section, laid-out}
+use Rattle.summary.specs.Summary.{often, once, of-class, of-repeat, summary-of, bits, set-bytes, summary-bytes}
+use Rattle.register.specs.Maps.{Map, empty, tables, is-table}
+use Rattle.register.specs.Layout.{entry, slot, directory, section, laid-out}
 
--- 300 bytes under number 2 and three under number 255: the mark, version and zeros, the slots of 0 to 2, and the last slot with what follows
+-- the table of 2N, version 2, under number 2, and that of version 1 under number 255: the mark, version and zeros, the slots of 0 to 2, and the last slot
+-- with the tables; the slot of 2N has its length, one atom, one top-level atom, lengths 2 and 2, and the ten digits
+abbrev two-kept : Map
+two-kept = set (set empty 2 (header-2 1 0 Payload-2N)) 255 (header-1 1 0 Payload-2N)
+
+abbrev digits : Bytes
+digits = replicate 6 0 ++ 255 ∷ 3 ∷ replicate 24 0
+
 pub layout-holds :
-    (take 20 (laid-out (set (set empty 2 (replicate 300 9)) 255 (7 ∷ 8 ∷ 7 ∷ []))) ≡ 77 ∷ 80 ∷ 82 ∷ 1 ∷ 0 ∷ 0 ∷ 0 ∷ 0 ∷ replicate 8 0 ++ 44 ∷ 1 ∷ 0 ∷ 0 ∷ [])
-    × (drop 1028 (laid-out (set (set empty 2 (replicate 300 9)) 255 (7 ∷ 8 ∷ 7 ∷ []))) ≡ 3 ∷ 0 ∷ 0 ∷ 0 ∷ replicate 300 9 ++ 7 ∷ 8 ∷ 7 ∷ [])
-unfolding empty tables slot directory section laid-out little
+    (take 140 (laid-out two-kept) ≡ 77 ∷ 80 ∷ 82 ∷ 2 ∷ 0 ∷ 0 ∷ 0 ∷ 0 ∷ replicate 88 0 ++ 19 ∷ 0 ∷ 0 ∷ 0 ∷ 1 ∷ 0 ∷ 1 ∷ 0 ∷ 2 ∷ 0 ∷ 2 ∷ 0 ∷ digits)
+    × (drop 11228 (laid-out two-kept) ≡ 18 ∷ 0 ∷ 0 ∷ 0 ∷ 1 ∷ 0 ∷ 1 ∷ 0 ∷ 2 ∷ 0 ∷ 2 ∷ 0 ∷ digits ++ header-2 1 0 Payload-2N ++ header-1 1 0 Payload-2N)
+unfolding computed empty tables slot entry directory section laid-out little summary-bytes set-bytes bits summary-of of-repeat of-class often once any
 layout-holds = (refl, refl)
 
 -- "The register keeps either version": the tables of 2N

@@ -2,11 +2,13 @@ pub mod Maps
 pub mod Testing
 pub mod Cases
 pub mod Sections
+pub mod Slots
 pub mod Meaning
 pub mod Registers
 pub mod Turns
 pub mod Passing
 pub mod Locating
 pub mod Putting
+pub mod Kept
 pub mod Calls
 pub mod Examples

@@ -42,13 +42,16 @@ allowed-short t e = go (eqb (length t) 0) refl
     go false f = table-short t (ap (λ (x : Bool). x || is-table t) (sym f) ∙ e)
 
 -- no bytes are no table, so a number has one just where it isn't missing
-pub no-bytes-no-table : is-table [] ≡ false
-unfolding is-table
-no-bytes-no-table = go (decode []) refl
+pub no-bytes-no-tree : decode [] ≡ none
+no-bytes-no-tree = go (decode []) refl
   where
-    go : (o : Option (Syntax pattern)) → decode [] ≡ o → (elim o [ none ↦ false | some _ ↦ true ]) ≡ false
+    go : (o : Option (Syntax pattern)) → decode [] ≡ o → o ≡ none
     go none d = refl
     go (some x) d = absurd (omega (arith, ap length (print-compiles [] x d .whole), encode-length (version-of []) x))
+
+pub no-bytes-no-table : is-table [] ≡ false
+unfolding is-table
+no-bytes-no-table = ap (λ (o : Option (Syntax pattern)). elim o [ none ↦ false | some _ ↦ true ]) no-bytes-no-tree
 
 pub there-is-table : (m : Map) → Proper m → (k : ℕ) → missing m k ≡ false → is-table (table-of m k) ≡ true
 unfolding allowed

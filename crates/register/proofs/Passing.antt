@@ -1,33 +1,26 @@
 -- The tables of a section passed one after the other. Assumes nothing.
 use mathlib.Core.Path.{_≡_, refl, sym, ap, _∙_}
-use mathlib.Core.Bool.{true, false}
+use mathlib.Core.Bool.{Bool, true, false, _&&_}
 use mathlib.Core.Option.{Option, none, some}
 use Prim.Native.Nat.{ℕ, suc, _+_, _*_, _-_, _≤_, _<_}
 use native.Mathlib.Omega.{arith}
-use borrow.Author.Tests.{le-leb, lt-leb, ne-eqb}
+use borrow.Author.Tests.{le-leb, lt-leb}
 use lib.ListN.{length, take, drop, length-append, length-drop}
 use lib.Seq.{length-take-le, drop-drop}
-use Rattle.pattern.specs.Bytes.{Bytes, little, number-in}
-use Rattle.stores.proofs.Little.{Octets, octets-drop, octets-take, little-number}
+use Rattle.pattern.specs.Bytes.{Bytes, equal}
 use Rattle.register.specs.declared.locate.TablesEnd.the-variants as ending
-use Rattle.register.specs.Maps.{numbers, Map, tables, is-table}
-use Rattle.register.specs.Layout.{slot-size, slot, directory-size, allowed}
+use Rattle.register.specs.Maps.{Map, tables}
+use Rattle.register.specs.Layout.{slot-size, slot, allowed}
 use Rattle.register.specs.Sections.{first-size, first-table, intact, cons-if, held, tables-end}
-use Rattle.register.proofs.Maps.{none-allowed, table-allowed}
-use Rattle.register.proofs.Sections.{is-intact}
-
--- a slot of bytes is what its length is written as
-slot-told : (slots bytes : Bytes) → Octets slots → slot-size ≤ length slots → first-size slots ≤ length bytes → take slot-size slots ≡ slot (first-table slots bytes)
-unfolding slot
-slot-told slots bytes f h k =
-    let v : Bytes = take slot-size slots in
-    let n : length v ≡ slot-size = length-take-le slot-size slots h in
-    sym (little-number v (octets-take slot-size slots f)) ∙ ap (λ x. little x (number-in v)) n ∙ ap (little slot-size) (sym (length-take-le (number-in v) bytes k))
 
 tables-end-cons : (at : ℕ) (t : Bytes) (o : Option Map) → tables-end at (cons-if true t o) ≡ tables-end (at + length t) o
 unfolding tables-end cons-if tables
 tables-end-cons at t none = refl
 tables-end-cons at t (some m) = ap ending.At (omega (arith, length-append t (tables m)))
+
+-- the bytes of a slot that are there
+pub slot-whole : (s : Bytes) (k : ℕ) → slot-size * k + slot-size ≤ length s → length (take (slot-size * k + slot-size - slot-size * k) (drop (slot-size * k) s)) ≡ slot-size
+slot-whole s k h = omega (arith, length-take-le (slot-size * k + slot-size - slot-size * k) (drop (slot-size * k) s) (omega (arith, length-drop (slot-size * k) s)))
 
 -- the tables of the numbers from k on, the first one at a place
 abbrev pub held-from : (s : Bytes) (k b at : ℕ) → Option Map
@@ -78,27 +71,27 @@ module _ {s : Bytes} {a b at k end : ℕ} (w : Passing s a b at k end) where
       first-is : take (end + n - end) (drop end s) ≡ first-table slots bytes
       first-is = let e : end + n - end ≡ first-size slots = omega (arith, sized) in ap (λ x. take x bytes) e
 
-      pub pass-bad : (n ≡ 0 → ⊥) → false ≡ is-table (take (end + n - end) (drop end s)) → ending.Bad ≡ tables-end at (held-from s a b at)
-      unfolding intact allowed
-      pass-bad z h =
-          let l : length (first-table slots bytes) ≡ n = length-take-le (first-size slots) bytes there ∙ sym sized in
-          not-intact (rw (le-leb (first-size slots) (length bytes) there, ne-eqb (length (first-table slots bytes)) 0 (λ e. z (sym l ∙ e)), ← first-is, ← h))
+      slot-is : take (slot-size * k + slot-size - slot-size * k) (drop (slot-size * k) s) ≡ take slot-size slots
+      slot-is = let e : slot-size * k + slot-size - slot-size * k ≡ slot-size = omega arith in ap (λ x. take x slots) e
 
-      pass-allowed : Octets s → directory-size ≤ length s → b ≤ numbers → allowed (first-table slots bytes) ≡ true → Passing s a b at (k + 1) (end + n)
-      pass-allowed f long few h =
-          let wide : slot-size ≤ length slots = omega (arith, length-drop (slot-size * k) s) in
-          let g : intact slots bytes ≡ true = is-intact slots bytes (record { there = there; allows = h; told = slot-told slots bytes (octets-drop (slot-size * k) s f) wide there }) in
+      -- what the code tests of the slot and the table
+      abbrev tested : Bool
+      tested =
+          let t : Bytes = take (end + n - end) (drop end s) in
+          allowed t && equal (take (slot-size * k + slot-size - slot-size * k) (drop (slot-size * k) s)) (slot t)
+
+      intact-tested : intact slots bytes ≡ tested
+      unfolding intact
+      intact-tested = rw (le-leb (first-size slots) (length bytes) there, ← first-is, ← slot-is)
+
+      pub pass-bad : false ≡ tested → ending.Bad ≡ tables-end at (held-from s a b at)
+      pass-bad h = not-intact (intact-tested ∙ sym h)
+
+      pub pass-table : true ≡ tested → Passing s a b at (k + 1) (end + n)
+      pass-table h =
           let size : end + length (first-table slots bytes) ≡ end + n = omega (arith, sized, length-take-le (first-size slots) bytes there) in
           let rest : Option Map = held-from s (k + 1) b (end + n) in
           record {
             inside = omega (arith, w .inside);
-            left = w .left ∙ ap (tables-end end) (one-more ∙ ap (λ x. cons-if x (first-table slots bytes) rest) g) ∙ tables-end-cons end (first-table slots bytes) rest ∙ ap (λ x. tables-end x rest) size;
+            left = w .left ∙ ap (tables-end end) (one-more ∙ ap (λ x. cons-if x (first-table slots bytes) rest) (intact-tested ∙ sym h)) ∙ tables-end-cons end (first-table slots bytes) rest ∙ ap (λ x. tables-end x rest) size;
           }
-
-      pub pass-table : Octets s → directory-size ≤ length s → b ≤ numbers → true ≡ is-table (take (end + n - end) (drop end s)) → Passing s a b at (k + 1) (end + n)
-      pass-table f long few h = pass-allowed f long few (table-allowed (first-table slots bytes) (ap is-table (sym first-is) ∙ sym h))
-
-    pub pass-none : n ≡ 0 → Octets s → directory-size ≤ length s → b ≤ numbers → Passing s a b at (k + 1) end
-    pass-none z f long few =
-        let e : end + n ≡ end = omega arith in
-        rw e at (pass-allowed (omega arith) f long few (ap (λ x. allowed (take x bytes)) (sym sized ∙ z) ∙ none-allowed))

@@ -23,6 +23,19 @@ unfolding directory
 directory-append [] n = refl
 directory-append (t ∷ m) n = rw (directory-append m n, append-assoc)
 
+-- the slots before a number's, its own, and those after it
+module _ (m : Map) (k : ℕ) (there : k < length m) where
+  pub directory-split : directory m ≡ directory (take k m) ++ (slot (table-of m k) ++ directory (drop (suc k) m))
+  unfolding directory
+  directory-split = ap directory (split-at m k [] there) ∙ directory-append (take k m) (table-of m k ∷ drop (suc k) m)
+
+  directory-set : (t : Bytes) → directory (set m k t) ≡ directory (take k m) ++ (slot t ++ directory (drop (suc k) m))
+  unfolding directory
+  directory-set t = ap directory (set-split m k t there) ∙ directory-append (take k m) (t ∷ drop (suc k) m)
+
+  pub slot-place : length (directory (take k m)) ≡ slot-size * k
+  slot-place = length-directory (take k m) ∙ ap (λ n. slot-size * n) (length-take-le k m (omega (arith, there)))
+
 -- a store in the middle
 store-between : (p x q v : Bytes) (i : ℕ) → length p ≡ i → length x ≡ length v → store-at (p ++ (x ++ q)) i v ≡ p ++ (v ++ q)
 unfolding store-at
@@ -85,17 +98,6 @@ module _ (s : Bytes) (m : Map) (h : SectionIs s m) (k : ℕ) (small : k < number
   in-order = (omega arith, omega (arith, total-split m k there), h .within)
 
   module _ (t : Bytes) where
-    directory-split : directory m ≡ directory (take k m) ++ (slot old ++ directory (drop (suc k) m))
-    unfolding directory
-    directory-split = ap directory (split-at m k [] there) ∙ directory-append (take k m) (old ∷ drop (suc k) m)
-
-    directory-set : directory (set m k t) ≡ directory (take k m) ++ (slot t ++ directory (drop (suc k) m))
-    unfolding directory
-    directory-set = ap directory (set-split m k t there) ∙ directory-append (take k m) (t ∷ drop (suc k) m)
-
-    slot-place : length (directory (take k m)) ≡ slot-size * k
-    slot-place = length-directory (take k m) ∙ ap (λ n. slot-size * n) (length-take-le k m (omega (arith, there)))
-
     new-size : at .start + length (t ++ tail) ≡ length (section (set m k t))
     unfolding section
     new-size =
@@ -122,11 +124,11 @@ module _ (s : Bytes) (m : Map) (h : SectionIs s m) (k : ℕ) (small : k < number
           let e : length (slot old) ≡ length (slot t) = length-slot old ∙ sym (length-slot t) in
           ap (λ (x : Bytes). store-at (store-at (store-at s (at .start + length t) x) (at .start) t) (slot-size * k) (slot t)) tail-is
           ∙ ap (λ (x : Bytes). store-at x (slot-size * k) (slot t)) (store-at-before s (at .start) (at .start + length t) t tail refl ∙ tables-put)
-          ∙ ap (λ (x : Bytes). store-at ((x ++ front) ++ y) (slot-size * k) (slot t)) directory-split
+          ∙ ap (λ (x : Bytes). store-at ((x ++ front) ++ y) (slot-size * k) (slot t)) (directory-split m k there)
           ∙ ap (λ (x : Bytes). store-at x (slot-size * k) (slot t)) (by-slot u (slot old) w front y)
-          ∙ store-between u (slot old) (w ++ (front ++ y)) (slot t) (slot-size * k) slot-place e
+          ∙ store-between u (slot old) (w ++ (front ++ y)) (slot t) (slot-size * k) (slot-place m k there) e
           ∙ by-section u (slot t) w front t tail r
-          ∙ ap (λ (x : Bytes). (x ++ (front ++ (t ++ tail))) ++ r) (sym directory-set)
+          ∙ ap (λ (x : Bytes). (x ++ (front ++ (t ++ tail))) ++ r) (sym (directory-set m k there t))
           ∙ ap (λ (x : Bytes). (directory (set m k t) ++ x) ++ r) (sym (tables-set m k there t))
 
 -- ---- by where the table lies
@@ -149,7 +151,7 @@ pub record Places (s : Bytes) (k : ℕ) (at : Location) (n : ℕ) : Type 0 where
   pub room : at .start + n + (at .used - at .end) ≤ length s
   pub slotted : slot-size * k + slot-size ≤ length s
 
-module _ {s : Bytes} {k : ℕ} {at : Location} {t : Bytes} (p : PutTablePre s k at t) where
+module _ {s : Bytes} {k : ℕ} {at : Location} {t own : Bytes} (p : PutTablePre s k at t own) where
   in-map : (m : Map) × LocatedIn (section-of s) k at m
   in-map = located-in (section-of s) k at (p .lies)
 
@@ -165,6 +167,6 @@ put-lies : (s : Bytes) (k : ℕ) (at : Location) (t : Bytes) (m : Map) → Locat
 unfolding placed
 put-lies s k at t m l h small room = rw (l .holds, l .place) (put-is s m h k small t (rw (l .place) at room))
 
-pub put-placed : {s : Bytes} {k : ℕ} {at : Location} {t : Bytes} → PutTablePre s k at t
-    → store-at (store-at (store-at s (at .start + length t) (take (at .used - at .end) (drop (at .end) s))) (at .start) t) (slot-size * k) (slot t) ≡ placed (section-of s) s k t
-put-placed {s} {k} {at} {t} p = let (m, l) = in-map p in put-lies s k at t m l (section-meant s m (l .holds)) (p .small) (p .room)
+pub put-placed : {s : Bytes} {k : ℕ} {at : Location} {t own : Bytes} → PutTablePre s k at t own
+    → store-at (store-at (store-at s (at .start + length t) (take (at .used - at .end) (drop (at .end) s))) (at .start) t) (slot-size * k) own ≡ placed (section-of s) s k t
+put-placed {s} {k} {at} {t} p = let (m, l) = in-map p in rw (p .slotted) (put-lies s k at t m l (section-meant s m (l .holds)) (p .small) (p .room))

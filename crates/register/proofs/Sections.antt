@@ -7,27 +7,45 @@ use Prim.Native.Nat.{ℕ, zero, suc, _+_, _*_, _≤_}
 use native.Mathlib.Omega.{arith}
 use borrow.Author.Tests.{le-leb}
 use lib.Dec.{leb, leb→le}
-use lib.ListN.{length, take, drop, length-append, length-drop}
-use lib.Seq.{length-take-le, take-add, take-at, drop-at}
-use Rattle.pattern.specs.Bytes.{Bytes, equal, number-in}
+use lib.ListN.{length, take, drop, replicate, length-append, length-drop}
+use lib.Seq.{length-take-le, take-add, take-take, take-at, drop-at}
+use Rattle.pattern.specs.Bytes.{Bytes, equal, little, number-in}
+use Rattle.pattern.specs.Syntax.{pattern, Syntax}
+use Rattle.pattern.specs.Decode.{decode}
 use Rattle.pattern.proofs.Agree.{equal-decides}
 use Rattle.pattern.proofs.Tests.{true-T, and-both, passed}
 use Rattle.stores.proofs.Little.{length-little, number-little}
 use Rattle.register.specs.Maps.{Map, tables, total}
-use Rattle.register.specs.Layout.{slot-size, slot, directory, allowed}
+use Rattle.summary.specs.Summary.{summary-bytes, set-bytes}
+use Rattle.register.specs.Layout.{length-size, entry-size, entry, slot-size, slot, directory, allowed}
 use Rattle.register.specs.Sections.{first-size, first-table, intact, cons-if, held}
-use Rattle.register.proofs.Maps.{AllAllowed, allowed-short}
+use Rattle.register.proofs.Maps.{AllAllowed, allowed-short, no-bytes-no-tree}
 
 -- ---- the parts of a layout
 
+length-entry : (o : Option (Syntax pattern)) → length (entry o) ≡ entry-size
+unfolding entry summary-bytes set-bytes
+length-entry none = refl
+length-entry (some t) = refl
+
 pub length-slot : (t : Bytes) → length (slot t) ≡ slot-size
 unfolding slot
-length-slot t = length-little slot-size (length t)
+length-slot t = omega (arith, length-append (little length-size (length t)) (entry (decode t)), length-little length-size (length t), length-entry (decode t))
+
+-- the length in a slot
+pub slot-length : (t : Bytes) → take length-size (slot t) ≡ little length-size (length t)
+unfolding slot
+slot-length t = take-at (little length-size (length t)) (entry (decode t)) length-size (length-little length-size (length t))
 
 pub length-directory : (m : Map) → length (directory m) ≡ slot-size * length m
 unfolding directory
 length-directory [] = refl
 length-directory (t ∷ m) = omega (arith, length-append (slot t) (directory m), length-slot t, length-directory m)
+
+-- the slot of no table
+pub slot-none : slot [] ≡ replicate slot-size 0
+unfolding slot entry little
+slot-none = ap (λ (o : Option (Syntax pattern)). little length-size 0 ++ entry o) no-bytes-no-tree
 
 -- ---- what is held is laid out
 
@@ -109,8 +127,7 @@ module _ (t : Bytes) (m : Map) (x y : Bytes) (f : allowed t ≡ true) where
   takes = take-at (slot t) (directory m ++ x) slot-size (length-slot t)
 
   sized : first-size d ≡ length t
-  unfolding slot
-  sized = ap number-in takes ∙ number-little (length t) (omega (arith, allowed-short t f))
+  sized = ap number-in (sym (take-take length-size slot-size d (omega arith)) ∙ ap (take length-size) takes ∙ slot-length t) ∙ number-little (length t) (omega (arith, allowed-short t f))
 
   here : first-table d s ≡ t
   here = ap (λ (n : ℕ). take n s) sized ∙ take-at t (tables m ++ y) (length t) refl

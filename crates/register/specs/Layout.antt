@@ -5,23 +5,38 @@ use mathlib.Core.List.{[], _∷_, _++_}
 use mathlib.Core.Option.{Option, none, some}
 use Prim.Native.Nat.{ℕ, zero, suc, _+_, _*_, _-_}
 use lib.Dec.{eqb}
-use lib.ListN.{length, take, drop}
+use lib.ListN.{length, take, drop, replicate}
 use Rattle.pattern.specs.Bytes.{Bytes, equal, le16, little, number-in, overwrite}
+use Rattle.pattern.specs.Syntax.{pattern, Syntax, size, top-size}
+use Rattle.pattern.specs.Decode.{decode}
+use Rattle.summary.specs.Summary.{summary-of, summary-bytes}
 use Rattle.register.specs.Maps.{numbers, Map, table-of, tables, is-table}
 
--- "mark MPR and version 1", and zeros up to 8 bytes
+-- "mark MPR" and version 2, and zeros up to 8 bytes
 abbrev pub preamble : Bytes
-preamble = 77 ∷ 80 ∷ 82 ∷ le16 1 (0 ∷ 0 ∷ 0 ∷ [])
+preamble = 77 ∷ 80 ∷ 82 ∷ le16 2 (0 ∷ 0 ∷ 0 ∷ [])
 
 abbrev pub preamble-size : ℕ
 preamble-size = 8
 
--- a slot has the length of its number's table
+abbrev pub length-size : ℕ
+length-size = 4
+
+-- "40 bytes for each of the 256 numbers"
+abbrev pub entry-size : ℕ
+entry-size = 40
+
+-- what is kept of a pattern beside its table: the paper's A and T, and its summary; zeros where there is none
+unfoldable pub entry : Option (Syntax pattern) → Bytes
+entry none = replicate entry-size 0
+entry (some t) = le16 (size t) (le16 (top-size t) (summary-bytes (summary-of t)))
+
+-- a slot has the length of its number's table, and the entry of its pattern
 abbrev pub slot-size : ℕ
-slot-size = 4
+slot-size = length-size + entry-size
 
 unfoldable pub slot : Bytes → Bytes
-slot t = little slot-size (length t)
+slot t = little length-size (length t) ++ entry (decode t)
 
 -- the slot of each number in turn
 abbrev pub directory-size : ℕ
@@ -38,7 +53,7 @@ section m = directory m ++ tables m
 unfoldable pub laid-out : Map → Bytes
 laid-out m = preamble ++ section m
 
--- "Capacity is the buffer length less 1,032"
+-- "Capacity is the buffer length less 1,032", and "less 40 bytes for each of the 256 numbers"
 abbrev pub overhead : ℕ
 overhead = preamble-size + directory-size
 
@@ -49,7 +64,7 @@ capacity lent = length lent - overhead
 unfoldable pub cut : (c : ℕ) → (slots bytes : Bytes) → Map
 cut zero slots bytes = []
 cut (suc c) slots bytes =
-    let n : ℕ = number-in (take slot-size slots) in
+    let n : ℕ = number-in (take length-size slots) in
     take n bytes ∷ cut c (drop slot-size slots) (drop n bytes)
 
 -- no table, or a good one
@@ -60,7 +75,7 @@ unfoldable pub all-allowed : Map → Bool
 all-allowed [] = true
 all-allowed (t ∷ m) = allowed t && all-allowed m
 
--- the map that lent bytes mean: "a buffer that doesn't meet" the layout, "or holds a bad table", means none
+-- the map that lent bytes mean: "a buffer that doesn't meet" the layout, "or holds a bad table", "a wrong summary", or "a version 1 register", means none
 unfoldable pub registerOf : Bytes → Option Map
 registerOf lent =
     let m : Map = cut numbers (drop preamble-size lent) (drop overhead lent) in

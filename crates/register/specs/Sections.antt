@@ -1,7 +1,7 @@
 -- The tables of a section one after the other, and where each lies. Private: a model for contracts inside the library.
 use mathlib.Core.Path.{_≡_}
 use mathlib.Core.Bool.{Bool, true, false, _&&_}
-use mathlib.Core.List.{[], _∷_}
+use mathlib.Core.List.{List, [], _∷_}
 use mathlib.Core.Option.{Option, none, some}
 use Prim.Native.Nat.{ℕ, zero, suc, _+_, _-_, _≤_, _<_}
 use lib.Dec.{leb}
@@ -13,16 +13,17 @@ use Rattle.register.specs.declared.locate.TablesEnd.the-variants as endi
 use Rattle.register.specs.declared.locate.Located.{Located}
 use Rattle.register.specs.declared.locate.Located.the-variants as location
 use Rattle.register.specs.Maps.{numbers, Map, table-of, total}
-use Rattle.register.specs.Layout.{preamble, preamble-size, slot-size, slot, directory-size, section, allowed}
+use Rattle.register.specs.Slots.{rows-room}
+use Rattle.register.specs.Layout.{preamble, preamble-size, length-size, slot-size, slot, directory-size, section, allowed}
 
 -- the length in the first of these slots, and the table that it cuts from bytes
 abbrev pub first-size : (slots : Bytes) → ℕ
-first-size slots = number-in (take slot-size slots)
+first-size slots = number-in (take length-size slots)
 
 abbrev pub first-table : (slots bytes : Bytes) → Bytes
 first-table slots bytes = take (first-size slots) bytes
 
--- it is all there, none or good, and the slot is that of its length
+-- it is all there, none or good, and the slot is its own
 unfoldable pub intact : (slots bytes : Bytes) → Bool
 intact slots bytes =
     leb (first-size slots) (length bytes) && (allowed (first-table slots bytes) && equal (take slot-size slots) (slot (first-table slots bytes)))
@@ -63,14 +64,27 @@ unfoldable pub located : (k : ℕ) → Option Map → Located
 located k none = location.Bad
 located k (some m) = location.At (location-in m k)
 
+-- there is a map
+unfoldable pub is-register : Option Map → Bool
+is-register none = false
+is-register (some m) = true
+
 -- a section with another table of number k, or none: bytes after the last table stay
 unfoldable pub placed : Option Map → (s : Bytes) → (k : ℕ) → (t : Bytes) → Bytes
 placed none s k t = s
 placed (some m) s k t = overwrite (section (set m k t)) s
 
--- the table of number k lies there, and t has room in its stead
-pub record PutTablePre (s : Bytes) (k : ℕ) (at : Location) (t : Bytes) : Type 0 where
+-- the table of number k lies there, t has room in its stead, and this is its slot
+pub record PutTablePre (s : Bytes) (k : ℕ) (at : Location) (t own : Bytes) : Type 0 where
   pub small : k < numbers
   pub lies : location.At at ≡ located k (section-of s)
   pub allows : allowed t ≡ true
   pub room : at .used + length t ≤ length s + (at .end - at .start)
+  pub slotted : own ≡ slot t
+
+-- the numbers below b are some, the first table lies within, and there are rows enough
+pub record PassPre (s : Bytes) (b at : ℕ) (rows : List ℕ) : Type 0 where
+  pub few : b ≤ numbers
+  pub long : directory-size ≤ length s
+  pub inside : at ≤ length s
+  pub room : rows-room ≤ length rows

@@ -1,6 +1,7 @@
 // A register of tables by number in one lent buffer, which answers as a plain map does.
-mod locate;
+pub mod locate;
 mod put;
+pub mod slot;
 
 use locate::DIRECTORY_SIZE;
 use locate::Located;
@@ -10,9 +11,12 @@ use matcher::match_label;
 use matcher::refused;
 use pattern::refusal;
 use put::put_table;
+use slot::SLOT_SIZE;
+use slot::slot_of;
 use stores::clear;
 use stores::copy;
 use stores::equal;
+use summary::ROWS;
 use table::Tested;
 ghost use mathlib.Core.Path.{_≡_};
 ghost use Prim.Native.Nat.{_≤_};
@@ -20,15 +24,15 @@ ghost use lib.ListN.{length, take};
 ghost use Rattle.pattern.specs.Bytes.{equal};
 ghost use Rattle.register.specs.Layout.{preamble, preamble-size, registerOf};
 ghost use Rattle.register.specs.Register.{initOf, storeOf, removeOf, matchNumberOf};
-ghost use Rattle.register.specs.Sections.{located};
+ghost use Rattle.register.specs.Sections.{is-register, located};
 
-const PREAMBLE_SIZE: usize = 8;
+pub const PREAMBLE_SIZE: usize = 8;
 
 // The mark, the version and zeros.
-const PREAMBLE: [u8; PREAMBLE_SIZE] = *b"MPR\x01\x00\x00\x00\x00";
+const PREAMBLE: [u8; PREAMBLE_SIZE] = *b"MPR\x02\x00\x00\x00\x00";
 
 // What the capacity leaves out.
-const OVERHEAD: usize = PREAMBLE_SIZE + DIRECTORY_SIZE;
+pub const OVERHEAD: usize = PREAMBLE_SIZE + DIRECTORY_SIZE;
 
 // The first bytes of every register.
 fn preamble() -> [u8; PREAMBLE_SIZE]
@@ -55,9 +59,20 @@ fn find(lent: &[u8], number: u8) -> Located
     }
     if has_preamble(lent) {
         let k = number as usize;
-        return locate(&lent[PREAMBLE_SIZE..], k);
+        let mut rows = [0u64; ROWS];
+        return locate(&lent[PREAMBLE_SIZE..], k, &mut rows);
     }
     Located::Bad
+}
+
+// Whether lent bytes are a register.
+pub fn is_register(lent: &[u8]) -> bool
+    ensures { λ r. ⌜ r ≡ is-register (registerOf (now (lent .entry))) ⌝ }
+{
+    match find(lent, 0) {
+        Located::Bad => false,
+        Located::At(_) => true,
+    }
 }
 
 // An empty register, whatever the lent bytes are.
@@ -81,12 +96,13 @@ pub fn store(lent: &mut [u8], number: u8, table: &[u8]) -> u32
         Located::Bad => refusal::REGISTER,
         Located::At(at) => match table::test(table) {
             Tested::Bad => refusal::TABLE,
-            Tested::Good(_) => {
+            Tested::Good(sizes) => {
                 if lent.len() - PREAMBLE_SIZE - at.used + (at.end - at.start) < table.len() {
                     return refusal::FULL;
                 }
+                let slot = slot_of(table, sizes);
                 let k = number as usize;
-                put_table(&mut lent[PREAMBLE_SIZE..], k, at, table);
+                put_table(&mut lent[PREAMBLE_SIZE..], k, at, table, &slot);
                 0
             }
         },
@@ -104,7 +120,8 @@ pub fn remove(lent: &mut [u8], number: u8) -> u32
                 return refusal::MISSING;
             }
             let k = number as usize;
-            put_table(&mut lent[PREAMBLE_SIZE..], k, at, &[]);
+            let slot = [0u8; SLOT_SIZE];
+            put_table(&mut lent[PREAMBLE_SIZE..], k, at, &[], &slot);
             0
         }
     }

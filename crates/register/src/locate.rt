@@ -1,17 +1,16 @@
-// The tables of a section: whether all are good, and where they lie.
+// The tables of a section: whether all are good and their slots right, and where they lie.
+use crate::slot::SLOT_SIZE;
+use crate::slot::is_intact;
 use stores::read32;
-use table::Tested;
 ghost use mathlib.Core.Path.{_≡_};
 ghost use Prim.Native.Nat.{_*_, _-_, _≤_, _<_};
 ghost use lib.ListN.{length, drop};
-ghost use Rattle.register.specs.Maps.{numbers, is-table};
-ghost use Rattle.register.specs.Layout.{slot-size, directory-size};
-ghost use Rattle.register.specs.Sections.{held, section-of, tables-end, located};
+ghost use Rattle.register.specs.Maps.{numbers};
+ghost use Rattle.register.specs.Layout.{slot-size};
+ghost use Rattle.register.specs.Slots.{rows-room};
+ghost use Rattle.register.specs.Sections.{held, section-of, tables-end, located, PassPre};
 
 pub const NUMBERS: usize = 256;
-
-// The bytes of a slot: the length of a table.
-pub const SLOT_SIZE: usize = 4;
 
 pub const DIRECTORY_SIZE: usize = SLOT_SIZE * NUMBERS;
 
@@ -33,58 +32,45 @@ pub enum Located {
     At(Location),
 }
 
-// A good table.
-fn is_table(bytes: &[u8]) -> bool
-    ensures { λ r. ⌜ r ≡ is-table (now (bytes .entry)) ⌝ }
-{
-    match table::test(bytes) {
-        Tested::Bad => false,
-        Tested::Good(_) => true,
-    }
-}
-
 // The tables of the numbers from a on and below b, the first one at a place.
-fn pass_tables(section: &[u8], a: usize, b: usize, at: usize) -> TablesEnd
-    requires { ⌜ (b ≤ numbers) × (directory-size ≤ length (now section)) × (at ≤ length (now section)) ⌝ }
+fn pass_tables(section: &[u8], a: usize, b: usize, at: usize, rows: &mut [u64]) -> TablesEnd
+    requires { ⌜ PassPre (now section) b at (now rows) ⌝ }
     ensures { λ r. ⌜ r ≡ tables-end at (held (b - a) (drop (slot-size * a) (now (section .entry))) (drop at (now (section .entry)))) ⌝ }
 {
     let mut k = a;
     let mut end = at;
     while k < b {
         let n = read32(section, SLOT_SIZE * k) as usize;
-        if n == 0 {
+        if section.len() - end < n {
+            return TablesEnd::Bad;
+        }
+        let slot = SLOT_SIZE * k;
+        let next = end + n;
+        if is_intact(&section[slot..slot + SLOT_SIZE], &section[end..next], rows) {
+            end = next;
             k += 1;
         } else {
-            if section.len() - end < n {
-                return TablesEnd::Bad;
-            }
-            let next = end + n;
-            if is_table(&section[end..next]) {
-                end = next;
-                k += 1;
-            } else {
-                return TablesEnd::Bad;
-            }
+            return TablesEnd::Bad;
         }
     }
     TablesEnd::At(end)
 }
 
 // Whether a section is good, and where a number's table lies.
-pub fn locate(section: &[u8], k: usize) -> Located
-    requires { ⌜ k < numbers ⌝ }
+pub fn locate(section: &[u8], k: usize, rows: &mut [u64]) -> Located
+    requires { ⌜ (k < numbers) × (rows-room ≤ length (now rows)) ⌝ }
     ensures { λ r. ⌜ r ≡ located k (section-of (now (section .entry))) ⌝ }
 {
     if section.len() < DIRECTORY_SIZE {
         return Located::Bad;
     }
-    let TablesEnd::At(start) = pass_tables(section, 0, k, DIRECTORY_SIZE) else {
+    let TablesEnd::At(start) = pass_tables(section, 0, k, DIRECTORY_SIZE, rows) else {
         return Located::Bad;
     };
-    let TablesEnd::At(end) = pass_tables(section, k, k + 1, start) else {
+    let TablesEnd::At(end) = pass_tables(section, k, k + 1, start, rows) else {
         return Located::Bad;
     };
-    let TablesEnd::At(used) = pass_tables(section, k + 1, NUMBERS, end) else {
+    let TablesEnd::At(used) = pass_tables(section, k + 1, NUMBERS, end, rows) else {
         return Located::Bad;
     };
     Located::At(Location { start, end, used })

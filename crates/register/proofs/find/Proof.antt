@@ -6,7 +6,9 @@ use Rattle.register.proofs.find.Statement.{statement}
 use Rattle.register.proofs.find.Tie as tie
 
 returns-2 : tie.Need-returns-2
-returns-2 c = find-on _ _ _ (sym (c .before .before .if2 .taken) ∙ c .before .before .before .has-preamble .ensures) (c .locate .ensures)
+returns-2 c =
+    let after-if2 = c .before .before .before .before in
+    find-on _ _ _ (sym (after-if2 .if2 .taken) ∙ after-if2 .before .has-preamble .ensures) (c .before .locate .ensures)
 
 returns-3 : tie.Need-returns-3
 returns-3 c = find-off _ _ (sym (c .if2 .left) ∙ c .before .has-preamble .ensures)
@@ -17,6 +19,7 @@ find-spec =
     (tie.spec
     (λ c. find-short _ _ (c .if1 .taken))
     (λ c κs. search needs)
+    (search needs)
     (search needs)
     (search needs)
     (search needs)

@@ -1,0 +1,104 @@
+-- What lies in a register under a number: its slot and its table. Assumes nothing.
+use mathlib.Core.Path.{_≡_, refl, sym, ap, _∙_}
+use mathlib.Core.Bool.{true, false}
+use mathlib.Core.List.{[], _∷_, _++_, append-assoc}
+use mathlib.Core.Option.{Option, none, some}
+use Prim.Native.Nat.{ℕ, suc, _+_, _*_, _-_, _≤_, _<_}
+use native.Mathlib.Omega.{arith}
+use lib.ListN.{length, getD, take, drop, set, length-drop}
+use lib.Seq.{take-at, drop-at, drop-drop, getD-drop}
+use Rattle.pattern.specs.Bytes.{Bytes, le16, little, number-in}
+use Rattle.pattern.specs.Syntax.{pattern, Syntax, size, top-size}
+use Rattle.pattern.specs.Decode.{field, decode}
+use Rattle.pattern.proofs.Rooms.{top-le}
+use Rattle.pattern.proofs.Calls.{good-limited}
+use Rattle.stores.proofs.Little.{length-little, number-field, number-little}
+use Rattle.summary.specs.Summary.{summary-of, summary-bytes, summary-size}
+use Rattle.register.specs.Maps.{numbers, Map, table-of, tables, total}
+use Rattle.register.specs.Layout.{preamble-size, length-size, entry, slot-size, slot, directory-size, directory, overhead, registerOf}
+use Rattle.register.specs.Slots.{atoms-place, top-place, summary-place, kept-at}
+use Rattle.register.specs.Sections.{section-of}
+use Rattle.register.proofs.Maps.{allowed-short, others-stay, total-suc, total-split}
+use Rattle.register.proofs.Sections.{length-slot}
+use Rattle.register.proofs.Slots.{length-summary}
+use Rattle.register.proofs.Meaning.{SectionIs, section-meant, found-split, found-is, meant}
+use Rattle.register.proofs.Putting.{directory-split, slot-place, old-is}
+
+by-slot : (u x w y : Bytes) → (u ++ (x ++ w)) ++ y ≡ u ++ (x ++ (w ++ y))
+by-slot u x w y = simp append-assoc
+
+-- the place of a number's slot
+abbrev pub slot-start : ℕ → ℕ
+slot-start k = preamble-size + slot-size * k
+
+module _ (lent : Bytes) (m : Map) (e : registerOf lent ≡ some m) where
+  abbrev rest : Bytes
+  rest = drop preamble-size lent
+
+  whole : SectionIs rest m
+  whole = section-meant rest m (found-split lent m (found-is lent ∙ e) .1)
+
+  module _ (k : ℕ) (small : k < numbers) where
+    there : k < length m
+    there = omega (arith, whole .proper .count)
+
+    -- the slot, and what follows it
+    slot-from : (after : Bytes) × (drop (slot-start k) lent ≡ slot (table-of m k) ++ after)
+    slot-from =
+        let behind : Bytes = tables m ++ drop (directory-size + total m) rest in
+        let after : Bytes = directory (drop (suc k) m) ++ behind in
+        let s : rest ≡ directory (take k m) ++ (slot (table-of m k) ++ after) =
+        whole .bytes ∙ ap (λ (x : Bytes). x ++ behind) (directory-split m k there) ∙ by-slot (directory (take k m)) (slot (table-of m k)) (directory (drop (suc k) m)) behind in
+        (after, sym (drop-drop (slot-size * k) preamble-size lent) ∙ ap (drop (slot-size * k)) s ∙ drop-at (directory (take k m)) (slot (table-of m k) ++ after) (slot-size * k) (slot-place m k there))
+
+    pub slot-is : take slot-size (drop (slot-start k) lent) ≡ slot (table-of m k)
+    slot-is = let (after, f) = slot-from in ap (take slot-size) f ∙ take-at (slot (table-of m k)) after slot-size (length-slot (table-of m k))
+
+    -- its numbers
+    pub kept-length : kept-at lent (slot-start k) .length ≡ length (table-of m k)
+    unfolding kept-at slot
+    kept-length =
+        let (after, f) = slot-from in
+        ap (λ (x : Bytes). number-in (take length-size x)) (f ∙ append-assoc (little length-size (length (table-of m k))) (entry (decode (table-of m k))) after)
+        ∙ ap number-in (take-at (little length-size (length (table-of m k))) _ length-size (length-little length-size (length (table-of m k))))
+        ∙ number-little (length (table-of m k)) (omega (arith, allowed-short (table-of m k) (whole .proper .each k)))
+
+    module _ (p : Syntax pattern) (d : decode (table-of m k) ≡ some p) where
+      entry-from : (after : Bytes) × (drop (slot-start k) lent ≡ little length-size (length (table-of m k)) ++ (le16 (size p) (le16 (top-size p) (summary-bytes (summary-of p) ++ after))))
+      unfolding slot entry
+      entry-from = let (after, f) = slot-from in (after, f ∙ append-assoc (little length-size (length (table-of m k))) (entry (decode (table-of m k))) after ∙ rw d)
+
+      pub kept-atoms : kept-at lent (slot-start k) .atoms ≡ size p
+      unfolding kept-at little number-in
+      kept-atoms =
+          let (after, f) = entry-from in
+          let g = good-limited (table-of m k) p d .atoms in
+          sym (number-field lent (slot-start k + atoms-place)) ∙ ap (λ (x : Bytes). number-in (take 2 x)) (sym (drop-drop atoms-place (slot-start k) lent) ∙ ap (drop atoms-place) f) ∙ omega (arith, g)
+
+      pub kept-top : kept-at lent (slot-start k) .top ≡ top-size p
+      unfolding kept-at little number-in
+      kept-top =
+          let (after, f) = entry-from in
+          let g = good-limited (table-of m k) p d .atoms in
+          sym (number-field lent (slot-start k + top-place)) ∙ ap (λ (x : Bytes). number-in (take 2 x)) (sym (drop-drop top-place (slot-start k) lent) ∙ ap (drop top-place) f) ∙ omega (arith, g, top-le p)
+
+      pub summary-is : take summary-size (drop (slot-start k + summary-place) lent) ≡ summary-bytes (summary-of p)
+      unfolding little
+      summary-is =
+          let (after, f) = entry-from in
+          ap (take summary-size) (sym (drop-drop summary-place (slot-start k) lent) ∙ ap (drop summary-place) f) ∙ take-at (summary-bytes (summary-of p)) after summary-size (length-summary (summary-of p))
+
+    -- its table
+    pub table-is : take (length (table-of m k)) (drop (overhead + total (take k m)) lent) ≡ table-of m k
+    table-is =
+        let a : overhead + total (take k m) ≡ preamble-size + (directory-size + total (take k m)) = omega arith in
+        let n : length (table-of m k) ≡ directory-size + total (take k m) + length (table-of m k) - (directory-size + total (take k m)) = omega arith in
+        ap (λ x. take (length (table-of m k)) (drop x lent)) a ∙ ap (take (length (table-of m k))) (sym (drop-drop (directory-size + total (take k m)) preamble-size lent)) ∙ ap (λ x. take x (drop (directory-size + total (take k m)) rest)) n ∙ old-is rest m whole k small
+
+    pub table-within : overhead + total (take (suc k) m) ≤ length lent
+    table-within = omega (arith, total-suc m k there, total-split m k there, whole .within, length-drop preamble-size lent)
+
+-- "Changing one pattern keeps all other summaries": the slot of every other number is as it was
+pub others-keep : (lent after : Bytes) (m : Map) (k j : ℕ) (t : Bytes) → registerOf lent ≡ some m → registerOf after ≡ some (set m k t) → j < numbers → (j ≡ k → ⊥)
+    → take slot-size (drop (slot-start j) after) ≡ take slot-size (drop (slot-start j) lent)
+others-keep lent after m k j t e f small n = slot-is after (set m k t) f j small ∙ ap slot (others-stay m k j t n) ∙ sym (slot-is lent m e j small)

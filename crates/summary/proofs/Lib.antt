@@ -1,0 +1,13 @@
+pub mod Exactness
+pub mod ClassBytes
+pub mod Summaries
+pub mod ByteStrings
+pub mod RulingOut
+pub mod Examples
+pub mod Words
+pub mod Packings
+pub mod ClassWords
+pub mod RowStores
+pub mod SettledRows
+pub mod SummaryBytes
+pub mod SummaryRead

@@ -1,0 +1,4 @@
+pub mod Summary
+pub mod Packing
+pub mod Rows
+pub mod Ruling
