@@ -1,0 +1,42 @@
+-- `look::look_at` meets its contract: 13 and 14, the skip test, the match. Assumes nothing.
+use mathlib.Core.Path.{sym, ap, subst, _∙_}
+use native.Mathlib.Omega.{arith}
+use Rattle.pattern.specs.Bytes.{Bytes}
+use Rattle.search.proofs.Looking.{look-tops, look-summary, look-work, look-parts, look-clear, look-fits, look-out, look-skipped, look-yes, look-no}
+use borrow.Author.Needs.{needs}
+use Rattle.search.proofs.look.look_at.Statement.{statement}
+use Rattle.search.proofs.look.look_at.Tie as tie
+
+returns-3 : tie.Need-returns-3
+returns-3 c =
+    let pre = c .before .before .before .before .before .before .before .before .before .before .before .before .before .pre in
+    look-skipped pre _ (c .before .before .before .before .before .before .before .if1 .left) (c .before .before .before .before .before .before .if2 .left) (sym (c .before .before .before .before .if3 .taken) ∙ look-out pre (c .before .before .before .before .before .rules-out .ensures)) _ (c .before .before .clear-from .ensures)
+
+returns-4 : tie.Need-returns-4
+returns-4 c =
+    let pre = c .before .before .before .before .before .before .before .before .before .before .before .before .before .before .before .before .before .pre in
+    look-yes pre _ (c .before .before .before .before .before .before .before .before .before .before .before .if1 .left) (c .before .before .before .before .before .before .before .before .before .before .if2 .left) (sym (c .before .before .before .before .before .before .before .before .if3 .left) ∙ look-out pre (c .before .before .before .before .before .before .before .before .before .rules-out .ensures)) _ _ (rw (c .if4 .taken) at (c .before .before .before .before .before .is-match .ensures))
+
+returns-5 : tie.Need-returns-5
+returns-5 c =
+    let pre = c .before .before .before .before .before .before .before .before .before .before .before .before .before .before .before .before .before .pre in
+    look-no pre _ (c .before .before .before .before .before .before .before .before .before .before .before .if1 .left) (c .before .before .before .before .before .before .before .before .before .before .if2 .left) (sym (c .before .before .before .before .before .before .before .before .if3 .left) ∙ look-out pre (c .before .before .before .before .before .before .before .before .before .rules-out .ensures)) _ _ (rw (c .if4 .left) at (c .before .before .before .before .before .is-match .ensures))
+
+pub look-at-spec : {M : Type 1} → statement M
+look-at-spec =
+    tie.close
+    (tie.spec
+    (λ c. look-work (c .before .before .before .before .before .before .pre) _ (c .if1 .taken))
+    (λ c. omega (arith, look-tops (c .before .before .before .before .before .before .pre)))
+    (λ c. look-parts (c .before .before .before .before .before .before .before .pre) _ (c .before .if1 .left) (c .if2 .taken))
+    (λ c κs. look-summary (c .before .before .before .before .before .before .before .pre))
+    (λ c κs. look-clear (c .before .before .before .before .before .before .before .before .before .before .pre) (c .before .before .before .before .if1 .left))
+    (search needs)
+    returns-3
+    (λ c κs. look-fits (c .before .before .before .before .before .before .before .before .before .before .before .pre) _ (c .before .before .before .before .before .if1 .left) (c .before .before .before .before .if2 .left))
+    (search needs)
+    (search needs)
+    returns-4
+    (search needs)
+    (search needs)
+    returns-5)
