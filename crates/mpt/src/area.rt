@@ -9,12 +9,12 @@ use stores::put64;
 pub const AREA_SIZE: usize = 32;
 
 // The numbers of an answer at the start of the area.
-pub fn put_answer(answer: &mut [u8], position: u64, value: u64, trials: u64)
+pub fn put_answer(answer: &mut [u8], position: u64, value: u64, trials: u64, extra: u64)
     requires { ⌜ area-size ≤ length (now answer) ⌝ }
-    ensures { λ r. ⌜ now (answer .exit) ≡ overwrite (area record { number = 0; position = position; value = value; trials = trials }) (now (answer .entry)) ⌝ }
+    ensures { λ r. ⌜ now (answer .exit) ≡ overwrite (area record { number = 0; position = position; value = value; trials = trials; extra = extra }) (now (answer .entry)) ⌝ }
 {
     let second = put64(answer, 0, position);
     let third = put64(answer, second, value);
     let fourth = put64(answer, third, trials);
-    put64(answer, fourth, 0);
+    put64(answer, fourth, extra);
 }

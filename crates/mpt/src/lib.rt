@@ -14,8 +14,9 @@ use register::init;
 use register::match_number;
 use register::remove;
 use register::store;
+use search::search;
 ghost use mathlib.Core.Path.{_≡_};
-ghost use Rattle.mpt.specs.Calls.{compile-call, write-call, match-call, batch-call, init-call, store-call, remove-call, match-number-call};
+ghost use Rattle.mpt.specs.Calls.{compile-call, write-call, match-call, batch-call, init-call, store-call, remove-call, match-number-call, search-call};
 
 #[no_mangle]
 pub extern "C" fn mpt_compile(source: &[u8], table: &mut [u8], answer: &mut [u8]) -> u32
@@ -26,11 +27,11 @@ pub extern "C" fn mpt_compile(source: &[u8], table: &mut [u8], answer: &mut [u8]
     }
     match compile(source, table) {
         Compiled::Table(length) => {
-            put_answer(answer, 0, length as u64, 0);
+            put_answer(answer, 0, length as u64, 0, 0);
             0
         }
         Compiled::Refused(number, position) => {
-            put_answer(answer, position as u64, 0, 0);
+            put_answer(answer, position as u64, 0, 0, 0);
             number
         }
     }
@@ -45,15 +46,15 @@ pub extern "C" fn mpt_write_back(table: &[u8], source: &mut [u8], answer: &mut [
     }
     match write_back(table, source) {
         Written::Length(length) => {
-            put_answer(answer, 0, length as u64, 0);
+            put_answer(answer, 0, length as u64, 0, 0);
             0
         }
         Written::Room => {
-            put_answer(answer, 0, 0, 0);
+            put_answer(answer, 0, 0, 0, 0);
             refusal::ROOM
         }
         Written::Table => {
-            put_answer(answer, 0, 0, 0);
+            put_answer(answer, 0, 0, 0, 0);
             refusal::TABLE
         }
     }
@@ -74,7 +75,7 @@ pub extern "C" fn mpt_match(
         return refusal::ANSWER;
     }
     let a = match_label(table, label, scratch, parts, budget).numbers(budget);
-    put_answer(answer, 0, a.value, a.trials);
+    put_answer(answer, 0, a.value, a.trials, 0);
     a.number
 }
 
@@ -95,7 +96,7 @@ pub extern "C" fn mpt_match_batch(
         return refusal::ANSWER;
     }
     let number = match_batch(table, labels, ends, scratch, verdicts, parts, budget);
-    put_answer(answer, 0, 0, 0);
+    put_answer(answer, 0, 0, 0, 0);
     number
 }
 
@@ -107,7 +108,7 @@ pub extern "C" fn mpt_register_init(reg: &mut [u8], answer: &mut [u8]) -> u32
         return refusal::ANSWER;
     }
     let refused = init(reg);
-    put_answer(answer, 0, 0, 0);
+    put_answer(answer, 0, 0, 0, 0);
     refused
 }
 
@@ -124,7 +125,7 @@ pub extern "C" fn mpt_register_store(
         return refusal::ANSWER;
     }
     let refused = store(reg, number, table);
-    put_answer(answer, 0, 0, 0);
+    put_answer(answer, 0, 0, 0, 0);
     refused
 }
 
@@ -136,7 +137,7 @@ pub extern "C" fn mpt_register_remove(reg: &mut [u8], number: u8, answer: &mut [
         return refusal::ANSWER;
     }
     let refused = remove(reg, number);
-    put_answer(answer, 0, 0, 0);
+    put_answer(answer, 0, 0, 0, 0);
     refused
 }
 
@@ -156,6 +157,24 @@ pub extern "C" fn mpt_register_match(
         return refusal::ANSWER;
     }
     let matched = match_number(reg, number, label, scratch, parts, budget);
-    put_answer(answer, 0, matched.value, matched.trials);
+    put_answer(answer, 0, matched.value, matched.trials, 0);
     matched.number
+}
+
+#[no_mangle]
+pub extern "C" fn mpt_register_search(
+    reg: &[u8],
+    label: &[u8],
+    scratch: &mut [u8],
+    parts: &mut [u8],
+    answer: &mut [u8],
+) -> u32
+    ensures { λ r. ⌜ record { number = r; lent = record { scratch = now (scratch .exit); parts = now (parts .exit) }; answer = now (answer .exit) } ≡ search-call (now (reg .entry)) (now (label .entry)) (now (scratch .entry)) (now (parts .entry)) (now (answer .entry)) ⌝ }
+{
+    if answer.len() < AREA_SIZE {
+        return refusal::ANSWER;
+    }
+    let searched = search(reg, label, scratch, parts);
+    put_answer(answer, 0, searched.verdict, searched.at, searched.skipped);
+    searched.number
 }
