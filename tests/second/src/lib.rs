@@ -6,15 +6,18 @@ pub mod line;
 mod matching;
 mod register;
 mod source;
+mod summary;
 mod table;
 mod version;
 
 pub use batch::{cut, match_batch, Batch};
-pub use matching::{match_label, part_bytes, Matched};
+pub use matching::{match_label, match_unlimited, part_bytes, Matched};
 pub use register::{
-    register_init, register_match, register_remove, register_store, Register, REGISTER_LEAST,
+    register_init, register_match, register_remove, register_search, register_store, slot,
+    Register, Searched, REGISTER_LEAST, SLOT,
 };
 pub use source::{compile, compile_to};
+pub use summary::Summary;
 pub use table::{good, write_back};
 pub use version::{Version, VERSION_1, VERSION_2};
 

@@ -92,7 +92,7 @@ impl Relation {
     }
 }
 
-fn in_codes(set: u16, byte: u8) -> bool {
+pub(crate) fn in_codes(set: u16, byte: u8) -> bool {
     let ranges: [&[(u8, u8)]; 7] = [
         &[(65, 90), (97, 122)],
         &[(0, 31), (127, 127)],
@@ -111,7 +111,7 @@ fn in_codes(set: u16, byte: u8) -> bool {
 }
 
 /// The index of the first atom after atom `r` and all that it holds.
-fn after(records: &[Record], r: usize) -> usize {
+pub(crate) fn after(records: &[Record], r: usize) -> usize {
     if records[r].kind == 3 {
         usize::from(records[r].b)
     } else {
@@ -120,7 +120,7 @@ fn after(records: &[Record], r: usize) -> usize {
 }
 
 /// The index of the first atom of each branch of group `r`.
-fn branches(records: &[Record], r: usize) -> Vec<usize> {
+pub(crate) fn branches(records: &[Record], r: usize) -> Vec<usize> {
     let mut starts = vec![r + 1];
     let mut at = r + 1;
     while at < usize::from(records[r].b) {
@@ -268,7 +268,7 @@ fn count_trials(records: &[Record], atoms: &[Atom], n: usize, budget: u64) -> Op
 }
 
 /// The indices of the top-level atoms.
-fn top_level(records: &[Record]) -> Vec<usize> {
+pub(crate) fn top_level(records: &[Record]) -> Vec<usize> {
     let mut tops = vec![0];
     while records[tops[tops.len() - 1]].last == 0 {
         tops.push(after(records, tops[tops.len() - 1]));
@@ -308,6 +308,26 @@ pub fn match_label(
     parts_len: usize,
     budget: u64,
 ) -> Matched {
+    matched(table, label, scratch_len, parts_len, Some(budget))
+}
+
+/// The same with unlimited budget: its trials aren't counted, and it has 0 for them.
+pub fn match_unlimited(
+    table: &[u8],
+    label: &[u8],
+    scratch_len: usize,
+    parts_len: usize,
+) -> Matched {
+    matched(table, label, scratch_len, parts_len, None)
+}
+
+fn matched(
+    table: &[u8],
+    label: &[u8],
+    scratch_len: usize,
+    parts_len: usize,
+    budget: Option<u64>,
+) -> Matched {
     if !good(table) {
         return Matched::refused(TABLE);
     }
@@ -324,20 +344,22 @@ pub fn match_label(
         return Matched::refused(PARTS);
     }
     let atoms = relations(&records, pool, label);
-    Matched {
-        clears,
-        ..verdict(&records, &atoms, label.len(), budget)
-    }
-}
-
-/// The verdict with its parts, or BUDGET; the scratch aside.
-fn verdict(records: &[Record], atoms: &[Atom], n: usize, budget: u64) -> Matched {
-    let Some(trials) = count_trials(records, atoms, n, budget) else {
-        return Matched {
+    let trials = match budget {
+        Some(budget) => count_trials(&records, &atoms, label.len(), budget).ok_or(budget),
+        None => Ok(0),
+    };
+    let matched = match trials {
+        Ok(trials) => verdict(&records, &atoms, label.len(), trials),
+        Err(budget) => Matched {
             trials: budget,
             ..Matched::refused(BUDGET)
-        };
+        },
     };
+    Matched { clears, ..matched }
+}
+
+/// The verdict with its parts; the scratch aside.
+fn verdict(records: &[Record], atoms: &[Atom], n: usize, trials: u64) -> Matched {
     let verdict = atoms[0].rest.has(0, n);
     let parts = verdict.then(|| {
         let ends = longest_first(&top_level(records), atoms, n);

@@ -1,4 +1,4 @@
-//! Registers: what request 3 and docs/REGISTER.md say of them.
+//! Registers: what requests 3 and 7 and docs/REGISTER.md say of them.
 
 use second::*;
 
@@ -29,43 +29,73 @@ fn store(buffer: &mut [u8], number: u8, table: &[u8]) {
     write(buffer, result);
 }
 
+/// The slot of a table: length, atoms, top-level atoms, shortest, longest and the first bytes.
+fn slot_of(numbers: [u16; 5], first: impl Fn(u8) -> bool) -> Vec<u8> {
+    let mut slot = u32::from(numbers[0]).to_le_bytes().to_vec();
+    slot.extend(numbers[1..].iter().flat_map(|number| number.to_le_bytes()));
+    let bit = |byte: u8| u8::from(first(byte)) << (byte % 8);
+    slot.extend((0..32).map(|at| (8 * at..=8 * at + 7).map(bit).sum::<u8>()));
+    slot
+}
+
 #[test]
 fn layout() {
-    let mut buffer = empty(1_100);
-    assert_eq!(buffer[..8], *b"MPR\x01\x00\x00\x00\x00");
-    assert_eq!(buffer[8..1_032], [0; 1_024]);
-    assert_eq!(buffer[1_032..], [7; 68]);
+    let mut buffer = empty(11_340);
+    assert_eq!(buffer[..8], *b"MPR\x02\x00\x00\x00\x00");
+    assert_eq!(buffer[8..11_272], [0; 11_264]);
+    assert_eq!(buffer[11_272..], [7; 68]);
     let (two, literal) = (table(b"2N"), table(b"1\"ab\""));
     store(&mut buffer, 255, &two);
     store(&mut buffer, 1, &literal);
-    let mut wanted = empty(1_100);
-    wanted[12] = 21;
-    wanted[1_028] = 19;
-    wanted[1_032..1_053].copy_from_slice(&literal);
-    wanted[1_053..1_072].copy_from_slice(&two);
+    let mut wanted = empty(11_340);
+    wanted[52..96].copy_from_slice(&slot_of([21, 1, 1, 2, 2], |byte| byte == b'a'));
+    wanted[11_228..11_272].copy_from_slice(&slot_of([19, 1, 1, 2, 2], |b| b.is_ascii_digit()));
+    wanted[11_272..11_293].copy_from_slice(&literal);
+    wanted[11_293..11_312].copy_from_slice(&two);
     assert_eq!(buffer, wanted);
+    // The same by its bytes.
+    assert_eq!(buffer[52..64], [21, 0, 0, 0, 1, 0, 1, 0, 2, 0, 2, 0]);
+    assert_eq!(buffer[64..96], [&[0; 12][..], &[2], &[0; 19]].concat());
+    assert_eq!(buffer[11_240..11_248], [0, 0, 0, 0, 0, 0, 255, 3]);
     // The last bytes of the longer register stay behind the shorter one.
     let result = register_remove(&buffer, 1);
     write(&mut buffer, result);
-    wanted[12] = 0;
-    wanted[1_032..1_051].copy_from_slice(&two);
+    wanted[52..96].fill(0);
+    wanted[11_272..11_291].copy_from_slice(&two);
     assert_eq!(buffer, wanted);
+}
+
+#[test]
+fn slots() {
+    let slot = |source: &[u8]| slot(&table(source)).to_vec();
+    let letter = |byte: u8| byte.is_ascii_alphabetic();
+    assert_eq!(
+        slot(b".2(1N,1\"c\")1A"),
+        slot_of([50, 4, 2, 1, 3], |b| b.is_ascii_digit() || letter(b))
+    );
+    assert_eq!(slot(b".E"), slot_of([19, 1, 1, 0, 256], |_| true));
+    let many = slot(&b".1N".repeat(256));
+    assert_eq!(many[..12], [9, 10, 0, 0, 0, 1, 0, 1, 0, 0, 0, 1]);
+    let old = compile_to(VERSION_1, b"1A1(1N,2N)", usize::MAX).unwrap();
+    assert_eq!(second::slot(&old)[..], slot_of([48, 4, 2, 2, 3], letter));
+    assert_eq!(second::slot(&[]), [0; SLOT]);
 }
 
 #[test]
 fn lengths_of_buffers() {
     let two = table(b"2N");
-    for len in [0, 1, 8, 1_031] {
-        let short = &empty(1_032)[..len];
+    for len in [0, 1, 8, 1_031, 1_032, 11_271] {
+        let short = &empty(11_272)[..len];
         assert_eq!(number(register_init(short)), REGISTER);
         assert_eq!(number(register_store(short, 0, &two)), REGISTER);
         assert_eq!(number(register_remove(short, 0)), REGISTER);
         let matched = register_match(short, 0, b"", 0, 0, 0);
         assert_eq!(matched.number, REGISTER);
+        assert_eq!(register_search(short, &[0; 256], 0, 0).number, REGISTER);
     }
-    assert_eq!(number(register_init(&[9; 1_032])), 0);
-    assert_eq!(number(register_store(&empty(1_050), 0, &two)), FULL);
-    assert_eq!(number(register_store(&empty(1_051), 0, &two)), 0);
+    assert_eq!(number(register_init(&[9; 11_272])), 0);
+    assert_eq!(number(register_store(&empty(11_290), 0, &two)), FULL);
+    assert_eq!(number(register_store(&empty(11_291), 0, &two)), 0);
 }
 
 #[test]
@@ -117,7 +147,7 @@ fn order_of_refusals() {
 #[test]
 fn good_buffers() {
     let two = table(b"2N");
-    let mut buffer = empty(1_092);
+    let mut buffer = empty(11_332);
     store(&mut buffer, 0, &two);
     store(&mut buffer, 1, &two);
     let good = |change: &dyn Fn(&mut Vec<u8>)| {
@@ -126,28 +156,90 @@ fn good_buffers() {
         Register::read(&changed).is_some()
     };
     assert!(good(&|_| ()));
-    for at in 0..8 {
-        assert!(!good(&|buffer| buffer[at] ^= 1));
+    // Each bit of the mark, the version, the zeros and of every slot, with a table or without.
+    for at in 0..11_272 {
+        assert!((0..8).all(|bit| !good(&|buffer| buffer[at] ^= 1 << bit)));
     }
-    for at in 8..1_032 {
-        assert!(!good(&|buffer| buffer[at] ^= 1));
-    }
-    assert!(good(&|buffer| buffer.truncate(1_070)));
-    assert!(!good(&|buffer| buffer.truncate(1_069)));
-    assert!(good(&|buffer| buffer[1_070..].fill(0)));
-    assert!(!good(&|buffer| buffer[1_051] = 0));
-    // Two lengths of 19 for 0 and 1, or for 0 and 7, mean other maps.
-    assert!(good(&|buffer| buffer.swap(12, 36)));
+    assert!(good(&|buffer| buffer.truncate(11_310)));
+    assert!(!good(&|buffer| buffer.truncate(11_309)));
+    assert!(good(&|buffer| buffer[11_310..].fill(0)));
+    assert!(!good(&|buffer| buffer[11_291] = 0));
+    // The slots of 0 and 1, or of 0 and 7, mean other maps.
+    let moved = |len: usize| {
+        good(&move |buffer: &mut Vec<u8>| {
+            let slot = buffer[52..52 + len].to_vec();
+            buffer[52..52 + len].fill(0);
+            buffer[316..316 + len].copy_from_slice(&slot);
+        })
+    };
+    assert!(moved(44) && moved(20) && !moved(19) && !moved(4));
     // Lengths whose sum wraps to the right one, and lengths past the end.
     let lens = |lens: [u32; 2]| {
         good(&move |buffer: &mut Vec<u8>| {
-            buffer[8..12].copy_from_slice(&lens[0].to_le_bytes());
-            buffer[12..16].copy_from_slice(&lens[1].to_le_bytes());
+            for (at, len) in [(8, lens[0]), (52, lens[1])] {
+                if len == 0 {
+                    buffer[at..at + SLOT].fill(0);
+                }
+                buffer[at..at + 4].copy_from_slice(&len.to_le_bytes());
+            }
         })
     };
     assert!(lens([19, 19]) && lens([19, 0]) && lens([0, 19]) && lens([0, 0]));
     assert!(!lens([18, 20]) && !lens([38, 0]) && !lens([19, 41]) && !lens([19, 42]));
     assert!(!lens([u32::MAX, 39]) && !lens([19, u32::MAX]) && !lens([1 << 31, (1 << 31) + 38]));
+}
+
+#[test]
+fn version_1_registers() {
+    let old = |tables: &[(usize, Vec<u8>)]| {
+        let mut buffer = b"MPR\x01\x00\x00\x00\x00".to_vec();
+        buffer.resize(1_032, 0);
+        for (number, table) in tables {
+            buffer[8 + 4 * number] = table.len() as u8;
+            buffer.extend(table);
+        }
+        buffer.resize(20_000, 0);
+        buffer
+    };
+    for buffer in [old(&[]), old(&[(0, table(b"2N"))])] {
+        assert_eq!(number(register_store(&buffer, 0, &table(b"1N"))), REGISTER);
+        assert_eq!(number(register_remove(&buffer, 0)), REGISTER);
+        assert_eq!(
+            register_match(&buffer, 0, b"42", 999, 9, 99).number,
+            REGISTER
+        );
+        assert_eq!(register_search(&buffer, b"42", 999, 9).number, REGISTER);
+        assert_eq!(number(register_init(&buffer)), 0);
+        let mut named_2 = buffer.clone();
+        named_2[3] = 2;
+        assert_eq!(Register::read(&named_2).is_some(), buffer == old(&[]));
+    }
+}
+
+#[test]
+fn other_summaries_stay() {
+    let mut buffer = empty(12_000);
+    store(&mut buffer, 3, &table(b"1A"));
+    store(&mut buffer, 9, &table(b"2.5N"));
+    let kept = buffer.clone();
+    let others = |buffer: &[u8], number: usize| {
+        [
+            &buffer[..8 + 44 * number],
+            &buffer[52 + 44 * number..11_272],
+        ]
+        .concat()
+    };
+    for (number, source) in [(3, b"1\"x\"1.U"), (6, b"1\"x\"1.U"), (9, b".4NA1.U")] {
+        let mut changed = kept.clone();
+        store(&mut changed, number, &table(source));
+        let at = usize::from(number);
+        assert_eq!(others(&changed, at), others(&kept, at));
+        assert_ne!(changed[8 + 44 * at..][..44], kept[8 + 44 * at..][..44]);
+    }
+    let mut changed = kept.clone();
+    let result = register_remove(&changed, 9);
+    write(&mut changed, result);
+    assert_eq!(others(&changed, 9), others(&kept, 9));
 }
 
 #[test]
@@ -191,5 +283,5 @@ fn both_versions() {
     // By the old limits a version 1 table isn't good, here either.
     let mut bad = table(&b"1N".repeat(65));
     bad.splice(..9, *b"MPT\x01\x00\x41\x00\x00");
-    assert_eq!(number(register_store(&empty(2_000), 0, &bad)), TABLE);
+    assert_eq!(number(register_store(&empty(20_000), 0, &bad)), TABLE);
 }
