@@ -5,7 +5,7 @@
 use std::path::PathBuf;
 use std::process::Command;
 
-const FUNCTIONS: [&str; 8] = [
+const FUNCTIONS: [&str; 9] = [
     "mpt_compile",
     "mpt_write_back",
     "mpt_match",
@@ -14,6 +14,7 @@ const FUNCTIONS: [&str; 8] = [
     "mpt_register_store",
     "mpt_register_remove",
     "mpt_register_match",
+    "mpt_register_search",
 ];
 
 fn run(command: &mut Command) {

@@ -22,7 +22,11 @@ pub(crate) unsafe fn output<'a>(start: *mut u8, len: usize) -> &'a mut [u8] {
 
 /// Writes the answer area and gives the refusal number.
 pub(crate) fn answer(area: &mut [u8], number: u32, values: [u64; 3]) -> u32 {
-    for (at, value) in values.into_iter().chain([0]).enumerate() {
+    answer_four(area, number, [values[0], values[1], values[2], 0])
+}
+
+pub(crate) fn answer_four(area: &mut [u8], number: u32, values: [u64; 4]) -> u32 {
+    for (at, value) in values.into_iter().enumerate() {
         area[8 * at..8 * at + 8].copy_from_slice(&value.to_le_bytes());
     }
     number

@@ -4,8 +4,10 @@
 mod calls;
 mod pattern;
 mod registers;
+mod summary;
 
 pub use calls::{mpt_compile, mpt_match, mpt_match_batch, mpt_write_back};
 pub use registers::{
-    mpt_register_init, mpt_register_match, mpt_register_remove, mpt_register_store,
+    mpt_register_init, mpt_register_match, mpt_register_remove, mpt_register_search,
+    mpt_register_store,
 };

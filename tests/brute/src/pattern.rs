@@ -501,7 +501,7 @@ impl<'a> Matcher<'a> {
 }
 
 /// The set of the codes a byte belongs to, a bit each for A C E L N P U.
-fn classes(byte: u8) -> u16 {
+pub fn classes(byte: u8) -> u16 {
     match byte {
         b'A'..=b'Z' => 0b1000101,
         b'a'..=b'z' => 0b0001101,

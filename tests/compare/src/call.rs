@@ -53,6 +53,12 @@ pub enum Call {
         parts_len: usize,
         budget: u64,
     },
+    Search {
+        register: Vec<u8>,
+        label: Vec<u8>,
+        scratch_len: usize,
+        parts_len: usize,
+    },
 }
 
 impl Call {
@@ -66,6 +72,7 @@ impl Call {
             Call::Store { .. } => "store",
             Call::Remove { .. } => "remove",
             Call::MatchNumber { .. } => "match_number",
+            Call::Search { .. } => "search",
         }
     }
 
@@ -88,6 +95,9 @@ impl Call {
                 register, table, ..
             } => vec![("register", register), ("table", table)],
             Call::MatchNumber {
+                register, label, ..
+            }
+            | Call::Search {
                 register, label, ..
             } => vec![("register", register), ("label", label)],
         }
@@ -120,6 +130,11 @@ impl Call {
                 ..
             }
             | Call::MatchNumber {
+                scratch_len,
+                parts_len,
+                ..
+            }
+            | Call::Search {
                 scratch_len,
                 parts_len,
                 ..
@@ -258,6 +273,12 @@ impl Words<'_> {
                 scratch_len: self.number()?,
                 parts_len: self.number()?,
                 budget: self.number()?,
+            },
+            "search" => Call::Search {
+                register,
+                label: self.bytes()?,
+                scratch_len: self.number()?,
+                parts_len: self.number()?,
             },
             _ => return None,
         })

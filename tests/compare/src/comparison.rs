@@ -3,9 +3,14 @@
 use crate::call::{Batch, Call, Case};
 use crate::expected::{expected, Expected};
 use crate::lent::Lent;
-use crate::tables::turned_to;
-use second::VERSION_2;
+use crate::tables::{search_trials, turned_to};
+use second::{Register, VERSION_2};
 use std::fmt;
+
+/// The most register bytes that the matches beside a search look over, all together, and the most
+/// trials that they may make.
+const DEAREST_IN_TURN: usize = 2_000_000;
+const TRIALS_IN_TURN: u64 = 3_000_000;
 
 fn same<T: PartialEq + fmt::Display>(name: &str, found: T, wanted: T) -> Result<(), String> {
     if found == wanted {
@@ -75,6 +80,13 @@ fn make_on_register(
                 answer,
             )
         }
+        (Call::Search { .. }, [register, label], [scratch, parts]) => library::register_search(
+            register.bytes(),
+            label.bytes(),
+            scratch.bytes(),
+            parts.bytes(),
+            answer,
+        ),
         _ => unreachable!("other slices than the call's"),
     }
 }
@@ -89,7 +101,7 @@ fn check_answer(answer: &mut Lent, wanted: &Expected) -> Result<(), String> {
         return answer.check(&Vec::new());
     }
     let values = wanted.values();
-    let names = ["position", "result", "trials", "fourth number"];
+    let names = ["position", "result", "third number", "fourth number"];
     for (at, name) in names.iter().enumerate() {
         same(name, field(answer.bytes(), at), values[at])?;
     }
@@ -137,6 +149,63 @@ fn check_in_turn(case: &Case, number: u32, left: &[Lent], margin: usize) -> Resu
         .try_for_each(|(left, single)| left.check_beside(single))
 }
 
+/// Makes matches of the library in turn, the numbers upwards with unlimited budget, and compares
+/// what they answer and leave with what a search did; none where they would take long.
+fn check_search(
+    case: &Case,
+    wanted: &Expected,
+    left: &[Lent],
+    margin: usize,
+) -> Result<(), String> {
+    let Call::Search {
+        register, label, ..
+    } = &case.call
+    else {
+        return Ok(());
+    };
+    let ended = [0, second::WORK, second::PARTS].contains(&wanted.number);
+    let Some(kept) = Register::read(register).filter(|_| ended) else {
+        return Ok(());
+    };
+    let all = wanted.number == 0 && wanted.result == 0;
+    let numbers = kept.tables.keys().map(|&number| u64::from(number));
+    let calls = numbers
+        .filter(|&number| all || number <= wanted.third)
+        .count();
+    if calls * register.len() > DEAREST_IN_TURN || search_trials(&kept, label) > TRIALS_IN_TURN {
+        return Ok(());
+    }
+    let mut outputs = outputs_of(case, margin);
+    let [scratch, parts] = &mut outputs[..] else {
+        unreachable!("other outputs than a search's")
+    };
+    let mut area = [0; 32];
+    // The refusal, the verdict and the number that ended the calls.
+    let mut found = (0, 0, 0);
+    for &at in kept.tables.keys() {
+        let number = library::register_match(
+            register,
+            at,
+            label,
+            scratch.bytes(),
+            parts.bytes(),
+            u64::MAX,
+            &mut area,
+        );
+        if number > 0 || field(&area, 1) == 1 {
+            found = (number, field(&area, 1), u64::from(at));
+            break;
+        }
+    }
+    same("number in turn", wanted.number, found.0)?;
+    same("verdict in turn", wanted.result, found.1)?;
+    same("number of the pattern in turn", wanted.third, found.2)?;
+    let pairs = left.iter().zip(&outputs);
+    pairs
+        .into_iter()
+        .try_for_each(|(left, single)| left.check_beside(single))
+}
+
 /// Compiles what was written back: the result is the version 2 table of the same pattern.
 fn check_compiled_again(case: &Case, written: usize, left: &mut [Lent]) -> Result<(), String> {
     let (Call::WriteBack { table, .. }, [source]) = (&case.call, left) else {
@@ -174,6 +243,7 @@ pub fn compare(case: &Case, margin: usize) -> Result<Expected, String> {
     }
     if number != second::ANSWER {
         check_in_turn(case, number, &outputs, margin)?;
+        check_search(case, &wanted, &outputs, margin)?;
     }
     if number == 0 {
         check_compiled_again(case, wanted.result as usize, &mut outputs)?;

@@ -10,7 +10,10 @@ pub struct Expected {
     pub position: usize,
     /// Table length, source length or verdict.
     pub result: u64,
-    pub trials: u64,
+    /// Trials; of a search the number of a pattern.
+    pub third: u64,
+    /// How many patterns a search skipped.
+    pub fourth: u64,
     /// What is written to each output, in their order; none for those that aren't named.
     pub writes: Vec<Writes>,
     /// What is written to the register.
@@ -22,7 +25,7 @@ pub struct Expected {
 impl Expected {
     /// The numbers of the answer area.
     pub fn values(&self) -> [u64; 4] {
-        [self.position as u64, self.result, self.trials, 0]
+        [self.position as u64, self.result, self.third, self.fourth]
     }
 
     fn refused(refusal: second::Refusal) -> Self {
@@ -55,18 +58,33 @@ impl Expected {
         }
     }
 
-    pub fn of_match(matched: second::Matched) -> Self {
-        let parts = matched.parts.map(|parts| (0, parts));
-        let writes = match matched.clears {
+    /// What is written to scratch and parts.
+    fn writes(clears: usize, parts: Option<Vec<u8>>) -> Vec<Writes> {
+        let parts = parts.map(|parts| (0, parts));
+        match clears {
             0 => Vec::new(),
             len => vec![zeros(len), parts.into_iter().collect()],
-        };
+        }
+    }
+
+    pub fn of_match(matched: second::Matched) -> Self {
         Expected {
             number: matched.number,
             position: matched.position,
             result: u64::from(matched.verdict),
-            trials: matched.trials,
-            writes,
+            third: matched.trials,
+            writes: Self::writes(matched.clears, matched.parts),
+            ..Self::default()
+        }
+    }
+
+    pub fn of_search(searched: second::Searched) -> Self {
+        Expected {
+            number: searched.number,
+            result: u64::from(searched.verdict),
+            third: u64::from(searched.at),
+            fourth: searched.skipped,
+            writes: Self::writes(searched.clears, searched.parts),
             ..Self::default()
         }
     }
@@ -157,6 +175,17 @@ fn on_register(call: &Call) -> Expected {
             *scratch_len,
             *parts_len,
             *budget,
+        )),
+        Call::Search {
+            register,
+            label,
+            scratch_len,
+            parts_len,
+        } => Expected::of_search(second::register_search(
+            register,
+            label,
+            *scratch_len,
+            *parts_len,
         )),
         _ => unreachable!("not a call on a register"),
     }

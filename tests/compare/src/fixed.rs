@@ -4,6 +4,7 @@ use crate::batches::{areas, batches};
 use crate::call::{Call, Case};
 use crate::long::{each_set, long_labels, wide_counts, wrapped_inputs, wrapped_rooms};
 use crate::registers::{register_areas, registers};
+use crate::searches::searches;
 use crate::tables::{table_in, ONE_ATOM};
 use crate::versions::versions;
 use generate::{Atom, Body};
@@ -99,9 +100,9 @@ fn each_digit() -> Vec<Call> {
 }
 
 /// The examples of the papers and what is made of every byte, set, count, digit, short source and
-/// changed table, of both versions, the long calls, the batches and the registers; a quick run has fewer short sources
+/// changed table, of both versions, the long calls, the batches, the registers and the searches; a quick run has fewer short sources
 /// and no count past 32 bits.
-pub fn fixed(quick: bool) -> Vec<Case> {
+pub fn fixed(quick: bool) -> impl Iterator<Item = Case> {
     let short = short_sources(if quick { 4 } else { 5 })
         .into_iter()
         .map(|source| Call::Compile {
@@ -121,6 +122,7 @@ pub fn fixed(quick: bool) -> Vec<Case> {
         .chain(wrapped_inputs())
         .chain(batches())
         .chain(registers())
+        .chain(searches())
         .chain(if quick { Vec::new() } else { wide_counts() });
     calls
         .map(|call| Case {
@@ -131,7 +133,6 @@ pub fn fixed(quick: bool) -> Vec<Case> {
         .chain(wrapped_rooms())
         .chain(areas())
         .chain(register_areas())
-        .collect()
 }
 
 /// A changed table written back and matched.
@@ -209,13 +210,15 @@ fn short_sources(most: usize) -> Vec<Vec<u8>> {
     all
 }
 
+/// The source of the tables that are changed.
+pub const CHANGED: &[u8] = b"2.(1\"a\"\"\",3.5AN.(.E,1\"\"))1\"bc\".9999L";
+
 /// A table of each version with one byte changed to each other value, at each place; every cut; a
 /// byte more.
 pub fn changed_tables() -> Vec<Vec<u8>> {
-    let source = b"2.(1\"a\"\"\",3.5AN.(.E,1\"\"))1\"bc\".9999L";
     let mut all = Vec::new();
     for version in [VERSION_1, VERSION_2] {
-        let table = second::compile_to(version, source, usize::MAX).unwrap();
+        let table = second::compile_to(version, CHANGED, usize::MAX).unwrap();
         for at in 0..table.len() {
             for byte in 0..=255 {
                 let mut changed = table.clone();

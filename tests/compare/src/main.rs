@@ -13,6 +13,7 @@ mod fixed;
 mod lent;
 mod long;
 mod registers;
+mod searches;
 mod sequences;
 mod tables;
 mod versions;
@@ -21,10 +22,12 @@ use call::{Batch, Call, Case};
 use comparison::compare;
 use expected::Expected;
 use generate::Random;
+use second::Register;
 use sequences::Sequence;
 use std::collections::BTreeMap;
 use std::io::read_to_string;
 use std::process::exit;
+use tables::search_trials;
 
 /// Odd, so that no lent slice is aligned.
 const MARGIN: usize = 61;
@@ -108,6 +111,8 @@ struct Tally {
     calls: BTreeMap<(&'static str, u32), u64>,
     /// How often a label of a batch got each byte.
     verdicts: BTreeMap<u8, u64>,
+    /// How many patterns the searches skipped.
+    skipped: u64,
 }
 
 impl Tally {
@@ -122,6 +127,7 @@ impl Tally {
         for verdict in &answered.verdicts {
             *self.verdicts.entry(*verdict).or_default() += 1;
         }
+        self.skipped += answered.fourth;
         answered
     }
 
@@ -135,11 +141,12 @@ impl Tally {
             "labels of batches",
             verdicts.map(|(verdict, count)| (u32::from(*verdict), *count)),
         );
+        println!("patterns skipped by searches: {}", self.skipped);
         println!("{} calls, no difference", self.calls.values().sum::<u64>());
     }
 }
 
-const KINDS: [&str; 12] = [
+const KINDS: [&str; 15] = [
     "compile",
     "write back",
     "match yes",
@@ -152,6 +159,9 @@ const KINDS: [&str; 12] = [
     "match by number yes",
     "match by number no",
     "match by number refused",
+    "search yes",
+    "search no",
+    "search refused",
 ];
 
 fn kind_of(call: &Call, answered: &Expected) -> &'static str {
@@ -169,6 +179,7 @@ fn kind_of(call: &Call, answered: &Expected) -> &'static str {
         Call::Store { .. } => 7,
         Call::Remove { .. } => 8,
         Call::MatchNumber { .. } => 9 + ending,
+        Call::Search { .. } => 12 + ending,
     }]
 }
 
@@ -184,8 +195,15 @@ fn print_counts(name: &str, counts: impl Iterator<Item = (u32, u64)>) {
     println!("{name}: {}", text.join(", "));
 }
 
-/// Whether a call makes more trials than `most` on a label.
+/// Whether a call makes more trials than `most` on a label; of a search whether it might.
 fn exceeds(case: &Case, most: u64) -> bool {
+    if let Call::Search {
+        register, label, ..
+    } = &case.call
+    {
+        let over = |kept: Register| label.len() <= 255 && search_trials(&kept, label) > most;
+        return Register::read(register).is_some_and(over);
+    }
     if case.call.budget().is_none_or(|budget| budget <= most) {
         return false;
     }
@@ -228,8 +246,8 @@ fn main() {
     let mut tally = Tally::default();
     if !options.generated {
         let affordable = |case: &Case| options.dearest.is_none_or(|most| !exceeds(case, most));
-        for case in fixed::fixed(options.quick).iter().filter(|c| affordable(c)) {
-            tally.make(case, &options);
+        for case in fixed::fixed(options.quick).filter(affordable) {
+            tally.make(&case, &options);
         }
     }
     let usual = if options.quick { 2_000_000 } else { 40_000_000 };

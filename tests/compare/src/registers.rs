@@ -1,25 +1,26 @@
 //! Fixed calls on registers: every length about the least one, tables that just fit, each byte of
-//! the layout changed, tables of both versions, all 256 numbers, what is lent to a match at each limit.
+//! the layout changed, wrong summaries, registers of version 1, tables of both versions, all 256 numbers,
+//! what is lent to a match at each limit.
 
 use crate::call::{Call, Case};
 use crate::expected::expected;
-use crate::fixed::changed_tables;
+use crate::fixed::{changed_tables, CHANGED};
 use crate::tables::{table_of_len, turned_to, work, ONE_ATOM, PARTS_MOST, RECORD};
-use second::{Register, Version, REGISTER_LEAST, VERSION_1, VERSION_2};
+use second::{Register, Version, REGISTER_LEAST, SLOT, VERSION_1, VERSION_2};
 
 /// The bytes behind the tables.
 const SPARE: u8 = 165;
 
-fn table(source: &[u8]) -> Vec<u8> {
+pub fn table(source: &[u8]) -> Vec<u8> {
     second::compile(source, usize::MAX).unwrap()
 }
 
-fn old_table(source: &[u8]) -> Vec<u8> {
+pub fn old_table(source: &[u8]) -> Vec<u8> {
     second::compile_to(VERSION_1, source, usize::MAX).unwrap()
 }
 
 /// A register that keeps some tables and has some bytes to spare.
-fn register_of(tables: &[(u8, Vec<u8>)], spare: usize) -> Vec<u8> {
+pub fn register_of(tables: &[(u8, Vec<u8>)], spare: usize) -> Vec<u8> {
     let map = Register {
         capacity: usize::MAX,
         tables: tables.iter().cloned().collect(),
@@ -27,9 +28,14 @@ fn register_of(tables: &[(u8, Vec<u8>)], spare: usize) -> Vec<u8> {
     [map.laid_out(), vec![SPARE; spare]].concat()
 }
 
+/// Where the slot of a number begins.
+pub fn slot_at(number: u8) -> usize {
+    8 + SLOT * usize::from(number)
+}
+
 /// Six tables of different lengths and of both versions, the least and the greatest number among
 /// theirs.
-fn six() -> Vec<(u8, Vec<u8>)> {
+pub fn six() -> Vec<(u8, Vec<u8>)> {
     vec![
         (0, table(b"1N")),
         (1, old_table(b"1\"ab\"")),
@@ -45,7 +51,7 @@ fn init(register: &[u8]) -> Call {
     Call::Init { register }
 }
 
-fn store(register: &[u8], number: u8, table: &[u8]) -> Call {
+pub fn store(register: &[u8], number: u8, table: &[u8]) -> Call {
     Call::Store {
         register: register.to_vec(),
         number,
@@ -70,7 +76,18 @@ fn matched(register: &[u8], number: u8, label: &[u8]) -> Call {
     }
 }
 
-/// A store, a replacement, two removals and two matches, of numbers that six tables have or not.
+/// A search under what each of the six tables needs.
+fn searched(register: &[u8], label: &[u8]) -> Call {
+    Call::Search {
+        register: register.to_vec(),
+        label: label.to_vec(),
+        scratch_len: 400,
+        parts_len: 4,
+    }
+}
+
+/// A store, a replacement, two removals, two matches, of numbers that six tables have or not, and
+/// two searches.
 fn each_call(register: &[u8]) -> Vec<Call> {
     let (good, longer) = (table(b"2N"), table(b"1\"abcdef\""));
     vec![
@@ -82,69 +99,178 @@ fn each_call(register: &[u8]) -> Vec<Call> {
         remove(register, 6),
         matched(register, 2, b"1ca"),
         matched(register, 6, b"1"),
+        searched(register, b"1ca"),
+        searched(register, b"\x80"),
     ]
 }
 
 /// One of the calls that look at a register, each in its turn.
 fn call_in_turn(turn: usize, register: &[u8]) -> Call {
-    match turn % 3 {
+    match turn % 4 {
         0 => store(register, 3, &table(b"2N")),
         1 => remove(register, 1),
-        _ => matched(register, 255, b"a1"),
+        2 => matched(register, 255, b"a1"),
+        _ => searched(register, b"c1a"),
     }
 }
 
-/// Buffers of every length about the least, zero, dirty or cut from a register; and lengths that
-/// 16 bits wrap to one too short.
+/// Buffers of every length about the least, zero, dirty or cut from a register; lengths about the
+/// least one of version 1, and lengths that 16 bits wrap to one too short.
 fn lengths() -> Vec<Call> {
     let empty = register_of(&[], 200);
+    let least = REGISTER_LEAST;
     let mut calls = Vec::new();
-    for len in [
-        0, 1, 3, 7, 8, 9, 1_030, 1_031, 1_032, 1_033, 1_049, 1_050, 1_051, 1_052,
-    ] {
+    for len in [0, 1, 3, 7, 8, 9, 1_031, 1_032, 1_033, 1_050, 1_051]
+        .into_iter()
+        .chain(least - 45..least + 2)
+        .chain(least + 17..least + 21)
+    {
         for register in [&empty[..len], &vec![0; len], &vec![255; len]] {
             calls.extend(each_call(register));
         }
     }
-    for more in [0, 1, 1_031, 1_032, 1_050] {
-        calls.extend(each_call(&register_of(&[], 65_536 + more - REGISTER_LEAST)));
+    for more in [0, 1, 1_032, least - 1, least, least + 18] {
+        calls.extend(each_call(&register_of(&[], 65_536 + more - least)));
         calls.push(init(&vec![SPARE; 65_536 + more]));
     }
     calls
 }
 
-/// Every cut of a register.
+/// Cuts of a register: every one after the directory, and some before.
 fn cuts() -> Vec<Call> {
     let register = register_of(&six(), 3);
     let mut calls = Vec::new();
-    for len in 0..register.len() {
-        for turn in 0..3 {
+    for len in (0..REGISTER_LEAST)
+        .step_by(199)
+        .chain(REGISTER_LEAST..register.len())
+    {
+        for turn in 0..4 {
             calls.push(call_in_turn(turn, &register[..len]));
         }
     }
     calls
 }
 
-/// Each byte of the opening with each value; each byte of the directory and of the tables with
-/// some others.
-fn changed_bytes() -> Vec<Call> {
+/// What is changed at a place: each byte of the opening to each value; each byte of the tables, and
+/// of the slots that have one or lie beside such a slot, to some others; the other slots' bytes once.
+fn changed_at(at: usize) -> Vec<Call> {
+    let register = register_of(&six(), 30);
+    let old = register[at];
+    let near = [old.wrapping_add(1), old.wrapping_sub(1), old ^ 128];
+    let some = [&near[..], &[0, 1, 2, 18, 19, 127, 255]].concat();
+    let number = at.wrapping_sub(8) / SLOT;
+    let values: Vec<u8> = match at {
+        0..8 => (0..=255).collect(),
+        _ if at >= REGISTER_LEAST => some,
+        _ if [0, 1, 2, 3, 6, 7, 8, 128, 254, 255].contains(&number) => some,
+        _ => vec![old + 1 + (at % 255) as u8],
+    };
+    let mut calls = Vec::new();
+    for (turn, &value) in values.iter().enumerate() {
+        let mut changed = register.clone();
+        changed[at] = value;
+        calls.push(call_in_turn(at + turn, &changed));
+        if turn == 0 && values.len() > 1 {
+            calls.extend(each_call(&changed));
+        }
+    }
+    calls
+}
+
+fn changed_bytes() -> impl Iterator<Item = Call> {
+    (0..register_of(&six(), 30).len()).flat_map(changed_at)
+}
+
+/// The numbers of a slot after the length.
+const NUMBERS: [usize; 4] = [4, 6, 8, 10];
+
+/// In the slot of each of the six tables another number for the atoms, the top-level atoms, the
+/// shortest and the longest, each bit of the set changed, and the slots of two tables exchanged.
+fn wrong_summaries() -> Vec<Call> {
     let register = register_of(&six(), 30);
     let mut calls = Vec::new();
-    for at in 0..register.len() {
-        let old = register[at];
-        let near = [old.wrapping_add(1), old.wrapping_sub(1), old ^ 128];
-        let values: Vec<u8> = match at {
-            0..8 => (0..=255).collect(),
-            _ => [&near[..], &[0, 1, 2, 18, 19, 127, 255]].concat(),
-        };
-        for (turn, &value) in values.iter().enumerate() {
-            let mut changed = register.clone();
-            changed[at] = value;
-            calls.push(call_in_turn(at + turn, &changed));
-            if turn == 0 {
-                calls.extend(each_call(&changed));
+    let mut change = |changed: Vec<u8>| {
+        let turn = calls.len();
+        calls.push(call_in_turn(turn, &changed));
+        calls.push(searched(&changed, b"\x00"));
+    };
+    for (number, _) in six() {
+        let slot = slot_at(number);
+        for at in NUMBERS.map(|field| slot + field) {
+            let old = u16::from_le_bytes([register[at], register[at + 1]]);
+            let near = [old.wrapping_add(1), old.wrapping_sub(1), old + 256];
+            for value in [&near[..], &[0, 1, 2, 3, 255, 256, 257, 65_535]].concat() {
+                let mut changed = register.clone();
+                changed[at..at + 2].copy_from_slice(&value.to_le_bytes());
+                change(changed);
             }
         }
+        for byte in 0..=255 {
+            let mut changed = register.clone();
+            changed[slot + 12 + byte / 8] ^= 1 << (byte % 8);
+            change(changed);
+        }
+        for fill in [0, 255] {
+            let mut changed = register.clone();
+            changed[slot + 12..slot + SLOT].fill(fill);
+            change(changed);
+        }
+        // What lies between the lengths, of another table.
+        for (other, _) in six() {
+            let mut changed = register.clone();
+            changed.copy_within(slot_at(other) + 4..slot_at(other) + SLOT, slot + 4);
+            change(changed);
+        }
+    }
+    calls
+}
+
+/// Bytes in the slots of numbers without a table.
+fn slots_without_tables() -> Vec<Call> {
+    let (full, empty) = (register_of(&six(), 30), register_of(&[], 90));
+    let two = second::slot(&table(b"2N"));
+    let mut calls = Vec::new();
+    for (register, number) in [(&full, 3), (&full, 254), (&empty, 0), (&empty, 255)] {
+        for at in 4..SLOT {
+            for value in [1, 128, 255] {
+                let mut changed = register.clone();
+                changed[slot_at(number) + at] = value;
+                calls.push(call_in_turn(at, &changed));
+                calls.push(searched(&changed, b"12"));
+            }
+        }
+        // The slot of a table without its length.
+        let mut changed = register.clone();
+        changed[slot_at(number) + 4..slot_at(number) + SLOT].copy_from_slice(&two[4..]);
+        calls.extend(each_call(&changed));
+    }
+    calls
+}
+
+/// Registers of version 1, under their own version, under 2 and under others.
+fn old_registers() -> Vec<Call> {
+    let mut calls = Vec::new();
+    for tables in [Vec::new(), six(), vec![(0, table(b"2N"))]] {
+        let mut old = b"MPR\x01\x00\x00\x00\x00".to_vec();
+        old.resize(1_032, 0);
+        for (number, table) in tables {
+            old[8 + 4 * usize::from(number)] = table.len() as u8;
+            old.extend(table);
+        }
+        for len in [old.len(), 1_300, REGISTER_LEAST, REGISTER_LEAST + 500] {
+            for version in [1u16, 2, 0, 3, 257, 258] {
+                let mut register = old.clone();
+                register.resize(len, 0);
+                register[3..5].copy_from_slice(&version.to_le_bytes());
+                calls.extend(each_call(&register));
+            }
+        }
+    }
+    // The layout of version 2 under other versions.
+    for version in [1u16, 0, 3, 257, 258, 513] {
+        let mut register = register_of(&six(), 30);
+        register[3..5].copy_from_slice(&version.to_le_bytes());
+        calls.extend(each_call(&register));
     }
     calls
 }
@@ -158,12 +284,19 @@ fn summed_lengths() -> Vec<Call> {
     let lens = [&small[..], &large, &wrapped, &[65_536, 1 << 31, 1 << 24]].concat();
     let register = register_of(&[(0, old_table(b"1N")), (255, table(b"2N"))], 4);
     let mut calls = Vec::new();
-    let mut with = |fields: &[(usize, u32)]| {
+    let mut with = |fields: &[(u8, u32)]| {
         let mut changed = register.clone();
-        for (number, len) in fields {
-            changed[8 + 4 * number..][..4].copy_from_slice(&len.to_le_bytes());
+        for &(number, len) in fields {
+            // The slot of a table, or of none.
+            let slot = slot_at(number);
+            changed[slot..slot + SLOT].copy_from_slice(&match (len, number) {
+                (0, _) => [0; SLOT],
+                (_, 255) => second::slot(&table(b"2N")),
+                _ => second::slot(&old_table(b"1N")),
+            });
+            changed[slot..slot + 4].copy_from_slice(&len.to_le_bytes());
         }
-        (0..3).for_each(|turn| calls.push(call_in_turn(turn, &changed)));
+        (0..4).for_each(|turn| calls.push(call_in_turn(turn, &changed)));
     };
     for &first in &lens {
         for &last in &lens {
@@ -174,7 +307,7 @@ fn summed_lengths() -> Vec<Call> {
     }
     // 256 times 2^24 is 2^32.
     for len in [1 << 24, u32::MAX, 18, 19, 1] {
-        let all: Vec<(usize, u32)> = (0..256).map(|number| (number, len)).collect();
+        let all: Vec<(u8, u32)> = (0..=255).map(|number| (number, len)).collect();
         with(&all);
         with(&all[1..]);
     }
@@ -184,10 +317,15 @@ fn summed_lengths() -> Vec<Call> {
 /// Tables that aren't good or are others, stored and lying in a register.
 fn tables() -> Vec<Call> {
     let mut calls = Vec::new();
+    let unchanged = table(CHANGED);
     for (turn, table) in changed_tables().into_iter().step_by(13).enumerate() {
         calls.push(store(&register_of(&six(), 100), 4, &table));
-        // A length of 0 stands for no table.
-        let register = register_of(&[six(), vec![(4, table)]].concat(), 20);
+        // The slot of the table before the change, the length aside.
+        let mut register = register_of(&[six(), vec![(4, table.clone())]].concat(), 20);
+        if !second::good(&table) {
+            let slot = slot_at(4) + 4;
+            register[slot..slot + SLOT - 4].copy_from_slice(&second::slot(&unchanged)[4..]);
+        }
         calls.push(call_in_turn(turn, &register));
     }
     let register = register_of(&six(), 70_000);
@@ -462,19 +600,22 @@ pub fn register_areas() -> Vec<Case> {
     cases
 }
 
-pub fn registers() -> Vec<Call> {
-    let lists = [
-        lengths(),
-        cuts(),
-        changed_bytes(),
-        summed_lengths(),
-        tables(),
-        fits(),
-        versions(),
-        large_tables(),
-        freed_room(),
-        all_numbers(),
-        limits_of_matches(),
+/// The lists one after the other, each made when it is reached.
+pub fn registers() -> impl Iterator<Item = Call> {
+    let lists: [fn() -> Vec<Call>; 13] = [
+        lengths,
+        cuts,
+        wrong_summaries,
+        slots_without_tables,
+        old_registers,
+        summed_lengths,
+        tables,
+        fits,
+        versions,
+        large_tables,
+        freed_room,
+        all_numbers,
+        limits_of_matches,
     ];
-    lists.concat()
+    changed_bytes().chain(lists.into_iter().flat_map(|list| list()))
 }

@@ -4,10 +4,10 @@ use crate::call::{Call, Case};
 use crate::cases::{about, budget_about, long_label, near_label};
 use crate::expected::Expected;
 use crate::tables::{any_pattern, any_version, atom_count, generated_table, table};
-use crate::tables::{table_of_len, work, RECORD};
+use crate::tables::{search_trials, table_of_len, work, RECORD};
 use generate::patterns::{codes, repeat};
 use generate::{Atom, Body, Random};
-use second::{Register, REGISTER_LEAST, VERSION_2};
+use second::{Register, REGISTER_LEAST, SLOT, VERSION_2};
 use std::collections::BTreeMap;
 
 /// The most trials of a label that is made for a pattern.
@@ -41,7 +41,7 @@ fn lens(random: &mut Random, index: u64) -> (usize, u64) {
         3 => (random.between(400, 3_000), 2_000),
         5 => (random.between(3_000, 20_000), 2_000),
         7 => (random.pick(&[5_000, 20_000, NEVER_FULL]), 600),
-        _ if random.once_in(4) => return (random.pick(&[0, 1, 8, 1_031]), 10),
+        _ if random.once_in(4) => return (random.pick(&[0, 1, 8, 1_032, 11_271]), 10),
         _ => (random.pick(&[0, 17, 18, 19, 20, 37, 100, 700, 5_000]), 50),
     };
     (REGISTER_LEAST + capacity, calls)
@@ -53,25 +53,29 @@ fn one_atom(random: &mut Random) -> Vec<Atom> {
     vec![Atom { low, high, body }]
 }
 
-/// Changes a byte of the opening, of a length or of a table, or the length of the whole.
+/// Changes a byte of the opening, of a slot or of a table, or the length of the whole.
 fn damage_register(random: &mut Random, register: &mut Vec<u8>, numbers: &[u8]) {
     if register.len() < REGISTER_LEAST {
-        return register.resize(random.below(1_100), 0);
+        return register.resize(random.below(11_300), 0);
     }
-    let field = 8 + 4 * usize::from(random.pick(numbers));
+    let slot = 8 + SLOT * usize::from(random.pick(numbers));
     let at = random.below(register.len());
-    match random.below(10) {
+    match random.below(14) {
         0 => register[random.between(0, 7)] = random.bits() as u8,
-        1..=2 => register[field + random.below(4)] ^= 1 << random.below(8),
+        1..=2 => register[slot + random.below(4)] ^= 1 << random.below(8),
         3 => {
+            let field = slot + random.pick(&[0, 4, 6, 8, 10]);
             let step = random.pick(&[1, 255]);
             register[field] = register[field].wrapping_add(step);
         }
-        4 => register[field..field + 4].fill(random.pick(&[0, 255])),
-        5 => register.swap(field, random.between(8, REGISTER_LEAST - 1)),
+        4 => register[slot..slot + 4].fill(random.pick(&[0, 255])),
+        5 => register.swap(slot, random.between(8, REGISTER_LEAST - 1)),
         6 => register[at] = random.bits() as u8,
         7 => register.truncate(at),
         8 => register.resize(register.len() + random.between(1, 60), 165),
+        9..=10 => register[slot + random.between(4, SLOT - 1)] ^= 1 << random.below(8),
+        11 => register[slot..slot + SLOT].fill(random.pick(&[0, 255])),
+        12 => register[3] = 1,
         _ => {
             let end = register.len().min(at + random.between(1, 20));
             register[at..end].rotate_left(1);
@@ -227,6 +231,62 @@ impl Sequence {
         }
     }
 
+    /// A label for a search: near a pattern that is kept, of any bytes, empty or too long. It is cut
+    /// until all patterns together make at most `most` trials on it.
+    fn searched_label(&mut self, kept: &Register, most: u64) -> Vec<u8> {
+        let number = self.kept_number(12);
+        let mut label = match self.random.below(24) {
+            0 => Vec::new(),
+            1 => b"x".repeat(self.random.between(254, 300)),
+            2 => long_label(&mut self.random),
+            3..=4 => (0..self.random.below(5))
+                .map(|_| self.random.bits() as u8)
+                .collect(),
+            _ => self.label(number),
+        };
+        while label.len() <= 255 && search_trials(kept, &label) > most {
+            label.truncate(label.len() / 2);
+        }
+        label
+    }
+
+    /// A search with scratch and parts for all patterns, or about what one of them needs.
+    fn search(&mut self, register: Vec<u8>) -> Call {
+        let kept = Register {
+            capacity: 0,
+            tables: self.map.clone().unwrap_or_default(),
+        };
+        let most = if self.random.once_in(60) {
+            10_000_000
+        } else {
+            400_000
+        };
+        let label = self.searched_label(&kept, most);
+        let random = &mut self.random;
+        let needs = |table: &Vec<u8>| {
+            let scratch = work(atom_count(table), label.len().min(255));
+            [scratch, second::part_bytes(table).unwrap_or(2)]
+        };
+        let all: Vec<[usize; 2]> = kept.tables.values().map(needs).collect();
+        let mut lens = [0, 1].map(|at| all.iter().map(|need| need[at]).max().unwrap_or(0));
+        for (at, len) in lens.iter_mut().enumerate() {
+            if !all.is_empty() && random.once_in(4) {
+                let one = all[random.below(all.len())][at];
+                *len = random.pick(&[one, one, one - 1, one - 1, one + 1, 0]);
+            }
+        }
+        // The largest scratch takes too long to be lent often.
+        if lens[0] > 1_000_000 && !random.once_in(20) {
+            lens[0] = random.below(10_000);
+        }
+        Call::Search {
+            register,
+            label,
+            scratch_len: lens[0],
+            parts_len: lens[1],
+        }
+    }
+
     fn call(&mut self) -> Call {
         let mut register = self.register.clone();
         if self.map.is_none() && self.random.once_in(4) {
@@ -249,6 +309,7 @@ impl Sequence {
                 let number = self.kept_number(5);
                 Call::Remove { register, number }
             }
+            320..=389 => self.search(register),
             _ => self.match_number(register),
         }
     }
@@ -300,6 +361,16 @@ impl Sequence {
                 )),
                 None => numbered(second::MISSING),
             },
+            Call::Search {
+                label,
+                scratch_len,
+                parts_len,
+                ..
+            } => {
+                let tables = map.clone();
+                let map = Register { capacity, tables };
+                Expected::of_search(map.search(label, *scratch_len, *parts_len))
+            }
             _ => numbered(0),
         }
     }

@@ -3,7 +3,7 @@
 use generate::patterns::{branch, large_pattern, pattern};
 use generate::sources::random_bytes;
 use generate::{Atom, Body, Random};
-use second::{Version, VERSION_1, VERSION_2};
+use second::{Register, Version, VERSION_1, VERSION_2};
 
 pub const RECORD: usize = 10;
 /// The length of a version 2 table of one atom without a literal.
@@ -55,6 +55,26 @@ pub fn header(version: Version, atoms: usize, pool_len: usize) -> Vec<u8> {
     header.truncate(version.header_len() - 2);
     put(&mut header, pool_len);
     header
+}
+
+/// At most this many trials are made with a table of the right form.
+fn most_trials(table: &[u8], len: usize) -> u64 {
+    let stretches = ((len + 1) * (len + 2) * (len + 3) / 6) as u64;
+    let header_len = Version::of(table).map_or(0, |version| version.header_len());
+    let records = table[header_len..]
+        .chunks_exact(RECORD)
+        .take(atom_count(table));
+    let repeats =
+        records.map(|record| len.min(usize::from(record[4]) + 256 * usize::from(record[5])));
+    repeats.map(|most| (most as u64 + 1) * stretches).sum()
+}
+
+/// At most this many trials are made with all patterns of a register.
+pub fn search_trials(register: &Register, label: &[u8]) -> u64 {
+    let tables = register.tables.values();
+    tables
+        .map(|table| most_trials(table, label.len().min(255)))
+        .sum()
 }
 
 /// The table of a pattern, which may pass the version's limits.

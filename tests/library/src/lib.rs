@@ -2,7 +2,9 @@
 
 mod registers;
 
-pub use registers::{register_init, register_match, register_remove, register_store};
+pub use registers::{
+    register_init, register_match, register_remove, register_search, register_store,
+};
 
 extern "C" {
     fn mpt_compile(

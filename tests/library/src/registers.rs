@@ -39,6 +39,18 @@ extern "C" {
         answer: *mut u8,
         answer_len: usize,
     ) -> u32;
+    fn mpt_register_search(
+        register: *const u8,
+        register_len: usize,
+        label: *const u8,
+        label_len: usize,
+        scratch: *mut u8,
+        scratch_len: usize,
+        parts: *mut u8,
+        parts_len: usize,
+        answer: *mut u8,
+        answer_len: usize,
+    ) -> u32;
 }
 
 /// Starts an empty register through C; gives the refusal number.
@@ -107,6 +119,31 @@ pub fn register_match(
             start_mut(parts),
             parts_len,
             budget,
+            start_mut(answer),
+            answer_len,
+        )
+    }
+}
+
+/// Searches a register through C; gives the refusal number.
+pub fn register_search(
+    register: &[u8],
+    label: &[u8],
+    scratch: &mut [u8],
+    parts: &mut [u8],
+    answer: &mut [u8],
+) -> u32 {
+    let (scratch_len, parts_len, answer_len) = (scratch.len(), parts.len(), answer.len());
+    unsafe {
+        mpt_register_search(
+            start(register),
+            register.len(),
+            start(label),
+            label.len(),
+            start_mut(scratch),
+            scratch_len,
+            start_mut(parts),
+            parts_len,
             start_mut(answer),
             answer_len,
         )
