@@ -1,9 +1,9 @@
 /* M patterns: compile a pattern to a table, match a label or a batch of them against it within a budget, write a table
- * back as source, keep tables by number in a register and match by number.
+ * back as source, keep tables by number in a register, match by number and search a register for the pattern of a label.
  *
  * Each call returns its refusal number, 0 for none (enum mpt_refusal). No input needs checking first: any bytes may be
  * handed over, and every call ends. A refused call writes nothing but its answer, save MPT_BUDGET, which clears the scratch
- * bytes used as a verdict does.
+ * bytes used as a verdict does, and a search ended by MPT_WORK or MPT_PARTS, which leaves those of the patterns before cleared.
  *
  * Each slice is lent with its true length; a length of 0 may come with a null pointer. Nothing that a call writes (table,
  * source, scratch, verdicts, parts, register, answer) may share bytes with anything else lent to that call. Nothing is
@@ -11,9 +11,9 @@
  * slices to write.
  *
  * The answer area is MPT_ANSWER_SIZE bytes: four little-endian 64-bit numbers, position; table or source length, or verdict
- * (1 yes, 0 no); trials (with MPT_BUDGET the budget); 0. A batch and the calls on a register other than a match answer 0
- * in all four. A shorter area gives MPT_ANSWER, looked at before all else, and nothing is written; the bytes after the 32 stay
- * as they were.
+ * (1 yes, 0 no); trials (with MPT_BUDGET the budget), or the number that a search found; the patterns that a search skipped,
+ * else 0. A batch and the calls on a register other than a match and a search answer 0 in all four. A shorter area gives
+ * MPT_ANSWER, looked at before all else, and nothing is written; the bytes after the 32 stay as they were.
  *
  * docs/C.md has the order of refusals, what to do about each, and what is left in the lent slices.
  */
@@ -49,14 +49,14 @@ enum mpt_refusal {
 };
 
 enum {
-    MPT_ANSWER_SIZE = 32,   /* the answer area */
-    MPT_SOURCE_MAX = 2048,  /* a source, also one written back */
-    MPT_ATOMS_MAX = 256,    /* atoms of a pattern, groups counted */
-    MPT_TABLE_MAX = 4617,   /* a table: 9 + 256 * 10 + 2048 */
-    MPT_PARTS_MAX = 512,    /* the parts of 256 atoms */
-    MPT_LABEL_MAX = 255,    /* a label */
-    MPT_BATCH_MAX = 96,     /* labels in a batch */
-    MPT_REGISTER_MIN = 1032 /* a register without tables */
+    MPT_ANSWER_SIZE = 32,    /* the answer area */
+    MPT_SOURCE_MAX = 2048,   /* a source, also one written back */
+    MPT_ATOMS_MAX = 256,     /* atoms of a pattern, groups counted */
+    MPT_TABLE_MAX = 4617,    /* a table: 9 + 256 * 10 + 2048 */
+    MPT_PARTS_MAX = 512,     /* the parts of 256 atoms */
+    MPT_LABEL_MAX = 255,     /* a label */
+    MPT_BATCH_MAX = 96,      /* labels in a batch */
+    MPT_REGISTER_MIN = 11272 /* a register without tables: 8 + 256 * 44 */
 };
 
 /* Scratch for a table of A atoms (mpt_table_atoms) and a label of n bytes, n at most MPT_LABEL_MAX: a longer label is refused
@@ -69,7 +69,7 @@ enum {
 #define MPT_BUDGET_ENOUGH(A, n) \
     ((uint64_t)(A) * ((uint64_t)(n) + 1) * ((uint64_t)(n) + 1) * ((uint64_t)(n) + 2) * ((uint64_t)(n) + 3) / 6)
 
-/* A register that always has room for n tables, n at most 256, whatever their patterns. MPT_REGISTER_MAX, 1,182,984 bytes, is
+/* A register that always has room for n tables, n at most 256, whatever their patterns. MPT_REGISTER_MAX, 1,193,224 bytes, is
  * never full. */
 #define MPT_REGISTER_SIZE(n) (MPT_REGISTER_MIN + (size_t)(n) * MPT_TABLE_MAX)
 #define MPT_REGISTER_MAX MPT_REGISTER_SIZE(256)
@@ -98,8 +98,8 @@ uint32_t mpt_match_batch(const uint8_t *table, size_t table_len, const uint8_t *
                          size_t verdicts_len, uint8_t *parts, size_t parts_len, uint64_t budget, uint8_t *answer,
                          size_t answer_len);
 
-/* A register keeps tables by number, 0 to 255, all of them in the buffer reg. This call starts an empty one there, whatever
- * its bytes are: it looks at the length only and writes the first MPT_REGISTER_MIN bytes. */
+/* A register keeps tables by number, 0 to 255, each with a summary of its pattern, all of them in the buffer reg. This call
+ * starts an empty one there, whatever its bytes are: it looks at the length only and writes the first MPT_REGISTER_MIN bytes. */
 uint32_t mpt_register_init(uint8_t *reg, size_t reg_len, uint8_t *answer, size_t answer_len);
 
 /* Keeps a copy of the table under the number, in place of the one that stood there. MPT_FULL exactly when the lengths of all
@@ -115,6 +115,15 @@ uint32_t mpt_register_match(const uint8_t *reg, size_t reg_len, uint8_t number, 
                             uint8_t *scratch, size_t scratch_len, uint8_t *parts, size_t parts_len, uint64_t budget,
                             uint8_t *answer, size_t answer_len);
 
+/* The lowest number whose pattern matches the label: mpt_answer_value is 1, mpt_answer_pattern the number, and parts has its
+ * parts. If none matches, both are 0 and no parts are written. The numbers that have a table are looked at upwards, none after
+ * the first that matches, as by mpt_register_match with a budget that is always enough; so there is no budget, no trials are
+ * answered, and the call may take long. A pattern whose summary rules out the label's length, or its first byte, is skipped,
+ * which leaves scratch as its match would; mpt_answer_skipped counts these. Scratch or parts too short for a pattern that is
+ * looked at, also for one to be skipped, end the search with MPT_WORK or MPT_PARTS, and mpt_answer_pattern is its number. */
+uint32_t mpt_register_search(const uint8_t *reg, size_t reg_len, const uint8_t *label, size_t label_len, uint8_t *scratch,
+                             size_t scratch_len, uint8_t *parts, size_t parts_len, uint8_t *answer, size_t answer_len);
+
 /* Number k of the answer area, k from 0 to 3. After MPT_ANSWER the area has no answer. */
 static inline uint64_t mpt_answer_number(const uint8_t *answer, size_t k)
 {
@@ -127,11 +136,17 @@ static inline uint64_t mpt_answer_number(const uint8_t *answer, size_t k)
 /* Where the source is at fault, counted from 0; 0 for all else. */
 static inline uint64_t mpt_answer_position(const uint8_t *answer) { return mpt_answer_number(answer, 0); }
 
-/* The length of the table or source written; of a match 1 for yes, 0 for no. */
+/* The length of the table or source written; of a match or search 1 for yes, 0 for no. */
 static inline uint64_t mpt_answer_value(const uint8_t *answer) { return mpt_answer_number(answer, 1); }
 
 /* The trials of a match; with MPT_BUDGET the budget. */
 static inline uint64_t mpt_answer_trials(const uint8_t *answer) { return mpt_answer_number(answer, 2); }
+
+/* Of a search, the number that matched, or at which MPT_WORK or MPT_PARTS ended it; else 0. */
+static inline uint64_t mpt_answer_pattern(const uint8_t *answer) { return mpt_answer_number(answer, 2); }
+
+/* Of a search that is not refused, how many patterns it skipped. */
+static inline uint64_t mpt_answer_skipped(const uint8_t *answer) { return mpt_answer_number(answer, 3); }
 
 /* The atoms of a table that compiling wrote or that a call took, groups counted. */
 static inline size_t mpt_table_atoms(const uint8_t *table)

@@ -1,5 +1,5 @@
-/* A C client of libmpt.a: compiles, matches labels one by one, in batches and by numbers of a register, writes back, and
- * exits 1 on any surprise.
+/* A C client of libmpt.a: compiles, matches labels one by one, in batches and by numbers of a register, searches it, writes
+ * back, and exits 1 on any surprise.
  * cc -std=c99 -pedantic -Wall -Wextra -Wconversion -Werror -I../../include client.c \
  *    ../../target/staticlib/libmpt.a -o client
  * A C++11 compiler takes it too. */
@@ -25,7 +25,7 @@ static void expect(int holds, const char *what)
     }
 }
 
-/* The four numbers of the answer area; the fourth is always 0. */
+/* The four numbers of the answer area; the fourth is 0 but for a search. */
 static void answered(uint64_t position, uint64_t value, uint64_t trials, const char *what)
 {
     expect(mpt_answer_position(answer) == position, what);
@@ -140,6 +140,31 @@ static int fits_number(uint8_t number, const char *label)
     return mpt_answer_value(answer) == 1;
 }
 
+/* A search; the register stays as it is. */
+static uint32_t search(const char *label, size_t scratch_len, size_t parts_len)
+{
+    memset(scratch, DIRT, sizeof scratch);
+    memset(parts, DIRT, sizeof parts);
+    memcpy(reg_before, reg, sizeof reg);
+    uint32_t found = mpt_register_search(reg, sizeof reg, (const uint8_t *)label, strlen(label), scratch, scratch_len, parts,
+                                         parts_len, answer, sizeof answer);
+    printf("search %.60s: %s, verdict %u, number %u, skipped %u\n", label, mpt_refusal_name(found),
+           (unsigned)mpt_answer_value(answer), (unsigned)mpt_answer_pattern(answer), (unsigned)mpt_answer_skipped(answer));
+    expect(memcmp(reg, reg_before, sizeof reg) == 0, "a register written by a search");
+    expect(mpt_answer_position(answer) == 0, "position of a search");
+    return found;
+}
+
+/* The verdict, number and skipped patterns of a search, and the scratch bytes that are zero after it. */
+static void searched(uint64_t verdict, uint64_t number, uint64_t skipped, size_t zeros, const char *what)
+{
+    expect(mpt_answer_value(answer) == verdict && mpt_answer_pattern(answer) == number, what);
+    expect(mpt_answer_skipped(answer) == skipped, what);
+    expect(all_are(scratch, zeros, 0) && all_are(scratch + zeros, sizeof scratch - zeros, DIRT), what);
+    if (verdict == 0)
+        expect(all_are(parts, sizeof parts, DIRT), what);
+}
+
 /* The header's readers, names and sizes on bytes that no call made. */
 static void reading(void)
 {
@@ -147,8 +172,8 @@ static void reading(void)
                                                   0, 128, 0, 0, 0, 0, 0, 0, 255, 255, 255, 255, 255, 255, 255, 255};
     expect(mpt_answer_position(area) == UINT64_C(0x0807060504030201), "a position");
     expect(mpt_answer_value(area) == UINT64_C(0xFF0F0E0D0C0B0A09), "a value");
-    expect(mpt_answer_trials(area) == 32768, "trials");
-    expect(mpt_answer_number(area, 3) == UINT64_MAX, "the fourth number");
+    expect(mpt_answer_trials(area) == 32768 && mpt_answer_pattern(area) == 32768, "trials or a number");
+    expect(mpt_answer_number(area, 3) == UINT64_MAX && mpt_answer_skipped(area) == UINT64_MAX, "the fourth number");
     static const uint8_t three[6] = {6, 0, 255, 0, 0xCD, 0xAB};
     expect(mpt_part_begin(three, 0) == 0 && mpt_part_end(three, 0) == 6, "the first part");
     expect(mpt_part_begin(three, 1) == 6 && mpt_part_end(three, 1) == 255, "the second part");
@@ -166,7 +191,7 @@ static void reading(void)
     expect(enough[0] == 1 && enough[1] == 1920, "small budgets");
     expect(enough[2] == UINT64_C(46351253504) && enough[3] == UINT64_C(185405014016), "the largest budgets");
     expect(MPT_SCRATCH_MAX == 33816576, "the largest scratch");
-    expect(MPT_REGISTER_SIZE(0) == MPT_REGISTER_MIN && MPT_REGISTER_MAX == 1182984, "sizes of registers");
+    expect(MPT_REGISTER_SIZE(0) == MPT_REGISTER_MIN && MPT_REGISTER_MAX == 1193224, "sizes of registers");
 }
 
 static void compiling(void)
@@ -322,14 +347,16 @@ static void starting_empty(void)
     memset(reg, DIRT, sizeof reg);
     memcpy(reg_before, reg, sizeof reg);
     const size_t len = compile("2N", 0, 0);
-    refused_on_register(mpt_register_init(reg, MPT_REGISTER_MIN - 1, answer, sizeof answer), MPT_REGISTER, "1,031 bytes");
+    refused_on_register(mpt_register_init(reg, MPT_REGISTER_MIN - 1, answer, sizeof answer), MPT_REGISTER, "11,271 bytes");
     refused_on_register(mpt_register_store(reg, sizeof reg, 0, table, len, answer, sizeof answer), MPT_REGISTER,
                         "a store before the start");
     refused_on_register(mpt_register_remove(reg, sizeof reg, 0, answer, sizeof answer), MPT_REGISTER,
                         "a removal before the start");
     expect(match_number(0, "42", 0, 0, 0) == MPT_REGISTER, "a match before the start");
+    expect(search("42", 0, 0) == MPT_REGISTER, "a search before the start");
+    searched(0, 0, 0, 0, "answer of a search before the start");
     on_register(mpt_register_init(reg, sizeof reg, answer, sizeof answer), 0, "the start");
-    expect(memcmp(reg, "MPR\1\0\0\0", 8) == 0 && all_are(reg + 8, MPT_REGISTER_MIN - 8, 0), "an empty register");
+    expect(memcmp(reg, "MPR\2\0\0\0", 8) == 0 && all_are(reg + 8, MPT_REGISTER_MIN - 8, 0), "an empty register");
     expect(all_are(reg + MPT_REGISTER_MIN, sizeof reg - MPT_REGISTER_MIN, DIRT), "bytes after an empty register");
 }
 
@@ -362,6 +389,57 @@ static void registers(void)
     expect(match_number(7, "1234567", 0, 0, 0) == MPT_MISSING, "a match of a number that was removed");
     answered(0, 0, 0, "answer of a missing number");
     expect(fits_number(0, "421.") && fits_number(255, "S24-012345"), "the patterns that are left");
+}
+
+/* The slot of 2N: 19 bytes, 1 atom, 1 top-level atom, 2 bytes at least and at most, the digits. */
+static const uint8_t slot_of_2n[44] = {19, 0, 0, 0, 1, 0, 1, 0, 2, 0, 2, 0, 0, 0, 0, 0, 0, 0, 0xFF, 0x03};
+
+/* Four patterns: the lowest number that matches, what is skipped, and what is too short for one of them. */
+static void searches(void)
+{
+    const size_t one = MPT_SCRATCH_SIZE(1, 3), two = MPT_SCRATCH_SIZE(2, 3), three = MPT_SCRATCH_SIZE(3, 3);
+    char label[MPT_LABEL_MAX + 2];
+    starting_empty();
+    expect(search("421", 0, 0) == 0, "a search in an empty register");
+    searched(0, 0, 0, 0, "nothing in an empty register");
+    store(250, ".E");
+    store(9, "1A1N1.2N");
+    store(0, "2N");
+    store(10, "1.6N1.2N");
+    expect(memcmp(reg + 8, slot_of_2n, sizeof slot_of_2n) == 0, "the slot of number 0");
+    expect(all_are(reg + 8 + 44, 8 * 44, 0), "the slots of numbers 1 to 8");
+
+    expect(search("421", three, 6) == 0, "number of a search");
+    searched(1, 10, 2, three, "the third pattern");
+    expect(memcmp(parts, "\2\0\3\0", 4) == 0 && all_are(parts + 4, sizeof parts - 4, DIRT), "parts of a search");
+    expect(search("42", three, 6) == 0, "a search that ends at 0");
+    searched(1, 0, 0, MPT_SCRATCH_SIZE(1, 2), "number 0");
+    expect(search("4-1", three, 6) == 0, "a search up to the last number");
+    searched(1, 250, 2, three, "the last pattern");
+    expect(search("", MPT_SCRATCH_SIZE(3, 0), 6) == 0, "a search for an empty label");
+    searched(1, 250, 3, MPT_SCRATCH_SIZE(3, 0), "the last pattern for an empty label");
+
+    expect(search("421", one - 1, 6) == MPT_WORK, "scratch one short of the first pattern's");
+    searched(0, 0, 0, 0, "ended at number 0");
+    expect(search("421", two, 6) == MPT_WORK, "scratch too short for a pattern to be skipped");
+    searched(0, 9, 0, one, "ended by scratch at number 9");
+    expect(search("421", three, 5) == MPT_PARTS, "parts too short for a pattern to be skipped");
+    searched(0, 9, 0, one, "ended by parts at number 9");
+    memset(label, '1', sizeof label);
+    label[MPT_LABEL_MAX + 1] = 0;
+    expect(search(label, 0, 0) == MPT_LABEL, "a search for a label of 256 bytes");
+    searched(0, 0, 0, 0, "answer of a label of 256 bytes");
+
+    on_register(mpt_register_remove(reg, sizeof reg, 250, answer, sizeof answer), 0, "a removal");
+    expect(all_are(reg + 8 + 250 * 44, 44, 0), "the slot of a number that was removed");
+    expect(search("4-1", three, 6) == 0, "a search that finds nothing");
+    searched(0, 0, 2, three, "nothing found");
+    reg[8 + 8]++;
+    expect(search("42", three, 6) == MPT_REGISTER, "a wrong summary");
+    reg[8 + 8]--;
+    reg[3] = 1;
+    expect(search("42", three, 6) == MPT_REGISTER, "a register of version 1");
+    searched(0, 0, 0, 0, "answer of a register of version 1");
 }
 
 /* A register with no byte to spare, and one that isn't good. */
@@ -487,6 +565,8 @@ static void short_answers(void)
         expect(mpt_register_remove(reg, sizeof reg, 0, answer, len) == MPT_ANSWER, "a short answer area");
         expect(mpt_register_match(reg, sizeof reg, 0, NULL, 0, scratch, 6, parts, 2, 0, answer, len) == MPT_ANSWER,
                "a short answer area");
+        expect(mpt_register_search(reg, sizeof reg, NULL, 0, scratch, 6, parts, 2, answer, len) == MPT_ANSWER,
+               "a short answer area");
         expect(mpt_compile((const uint8_t *)"2N", 2, table, 19, answer, len) == MPT_ANSWER, "a short answer area");
         expect(mpt_write_back(table, 19, source, 2, answer, len) == MPT_ANSWER, "a short answer area");
         expect(mpt_match(table, 19, NULL, 0, scratch, 6, parts, 2, 0, answer, len) == MPT_ANSWER,
@@ -534,7 +614,12 @@ static void null_pointers(void)
     expect(mpt_register_remove(NULL, 0, 0, answer, sizeof answer) == MPT_REGISTER, "no register");
     expect(mpt_register_match(NULL, 0, 0, NULL, 0, NULL, 0, NULL, 0, 0, answer, sizeof answer) == MPT_REGISTER,
            "no register");
+    expect(mpt_register_search(NULL, 0, NULL, 0, NULL, 0, NULL, 0, answer, sizeof answer) == MPT_REGISTER, "no register");
+    on_register(mpt_register_init(reg, sizeof reg, answer, sizeof answer), 0, "the start");
+    expect(mpt_register_search(reg, sizeof reg, NULL, 0, NULL, 0, NULL, 0, answer, sizeof answer) == 0, "a search for nothing");
+    answered(0, 0, 0, "answer of a search for nothing");
     expect(mpt_register_init(NULL, 0, NULL, 0) == MPT_ANSWER, "no answer area");
+    expect(mpt_register_search(NULL, 0, NULL, 0, NULL, 0, NULL, 0, NULL, 0) == MPT_ANSWER, "no answer area");
     expect(mpt_compile(NULL, 0, NULL, 0, NULL, 0) == MPT_ANSWER, "no answer area");
     expect(mpt_write_back(NULL, 0, NULL, 0, NULL, 0) == MPT_ANSWER, "no answer area");
     expect(mpt_match(NULL, 0, NULL, 0, NULL, 0, NULL, 0, 0, NULL, 0) == MPT_ANSWER, "no answer area");
@@ -550,6 +635,7 @@ int main(void)
     batches();
     refused_batches();
     registers();
+    searches();
     refused_registers();
     version_1();
     largest();
