@@ -143,14 +143,30 @@ fn check_in_turn(case: &Case, number: u32, left: &[Lent], margin: usize) -> Resu
             _ => refusal as u8,
         };
     }
-    let pairs = left.iter().zip(&outputs);
-    pairs
-        .into_iter()
-        .try_for_each(|(left, single)| left.check_beside(single))
+    check_beside(left, &outputs)
 }
 
-/// Makes matches of the library in turn, the numbers upwards with unlimited budget, and compares
-/// what they answer and leave with what a search did; none where they would take long.
+/// Makes matches of the library in turn with unlimited budget, the numbers upwards, until one says
+/// yes or is refused; its refusal, its verdict and its number.
+fn match_in_turn(
+    kept: &Register,
+    register: &[u8],
+    label: &[u8],
+    scratch: &mut [u8],
+    parts: &mut [u8],
+) -> (u32, u64, u64) {
+    let mut area = [0; 32];
+    for &at in kept.tables.keys() {
+        let number =
+            library::register_match(register, at, label, scratch, parts, u64::MAX, &mut area);
+        if number > 0 || field(&area, 1) == 1 {
+            return (number, field(&area, 1), u64::from(at));
+        }
+    }
+    (0, 0, 0)
+}
+
+/// Compares what a search answered and left with what matches in turn do, where these are cheap.
 fn check_search(
     case: &Case,
     wanted: &Expected,
@@ -168,10 +184,8 @@ fn check_search(
         return Ok(());
     };
     let all = wanted.number == 0 && wanted.result == 0;
-    let numbers = kept.tables.keys().map(|&number| u64::from(number));
-    let calls = numbers
-        .filter(|&number| all || number <= wanted.third)
-        .count();
+    let looked_at = |number: &&u8| all || u64::from(**number) <= wanted.third;
+    let calls = kept.tables.keys().filter(looked_at).count();
     if calls * register.len() > DEAREST_IN_TURN || search_trials(&kept, label) > TRIALS_IN_TURN {
         return Ok(());
     }
@@ -179,31 +193,16 @@ fn check_search(
     let [scratch, parts] = &mut outputs[..] else {
         unreachable!("other outputs than a search's")
     };
-    let mut area = [0; 32];
-    // The refusal, the verdict and the number that ended the calls.
-    let mut found = (0, 0, 0);
-    for &at in kept.tables.keys() {
-        let number = library::register_match(
-            register,
-            at,
-            label,
-            scratch.bytes(),
-            parts.bytes(),
-            u64::MAX,
-            &mut area,
-        );
-        if number > 0 || field(&area, 1) == 1 {
-            found = (number, field(&area, 1), u64::from(at));
-            break;
-        }
-    }
-    same("number in turn", wanted.number, found.0)?;
-    same("verdict in turn", wanted.result, found.1)?;
-    same("number of the pattern in turn", wanted.third, found.2)?;
-    let pairs = left.iter().zip(&outputs);
-    pairs
-        .into_iter()
-        .try_for_each(|(left, single)| left.check_beside(single))
+    let found = match_in_turn(&kept, register, label, scratch.bytes(), parts.bytes());
+    same("number in turn", found.0, wanted.number)?;
+    same("verdict in turn", found.1, wanted.result)?;
+    same("number of the pattern in turn", found.2, wanted.third)?;
+    check_beside(left, &outputs)
+}
+
+fn check_beside(left: &[Lent], single: &[Lent]) -> Result<(), String> {
+    let mut pairs = left.iter().zip(single);
+    pairs.try_for_each(|(left, single)| left.check_beside(single))
 }
 
 /// Compiles what was written back: the result is the version 2 table of the same pattern.

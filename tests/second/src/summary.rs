@@ -97,23 +97,25 @@ impl Lengths {
     }
 }
 
-/// The lengths of each atom of a good table with all that follow it in its branch.
-struct Rests {
+/// A good table with the lengths of what satisfies its atoms.
+struct Measured {
     records: Vec<Record>,
     pool: Vec<u8>,
-    rests: Vec<Lengths>,
+    /// Of each atom.
     wholes: Vec<Lengths>,
+    /// Of each atom and all that follow it in its branch.
+    rests: Vec<Lengths>,
 }
 
-impl Rests {
+impl Measured {
     fn of(table: &[u8]) -> Option<Self> {
         let (records, pool) = decode(table).filter(|_| good(table))?;
         let count = records.len();
-        let mut all = Rests {
+        let mut all = Measured {
             records,
             pool: pool.to_vec(),
-            rests: vec![Lengths::NONE; count],
             wholes: vec![Lengths::NONE; count],
+            rests: vec![Lengths::NONE; count],
         };
         for r in (0..count).rev() {
             let record = all.records[r];
@@ -152,11 +154,11 @@ impl Rests {
         // Without any string nothing begins one.
         while self.rests[r] != Lengths::NONE {
             let record = self.records[r];
+            let literal = usize::from(record.a)..usize::from(record.a) + usize::from(record.b);
             match record.kind {
                 _ if record.high == 0 => (),
                 1 => *codes |= record.a,
-                2 => bytes
-                    .extend(self.pool[usize::from(record.a)..][..usize::from(record.b)].first()),
+                2 => bytes.extend(self.pool[literal].first()),
                 _ => {
                     for start in branches(&self.records, r) {
                         self.begin(start, codes, bytes);
@@ -187,10 +189,10 @@ pub struct Summary {
 impl Summary {
     /// None if the table isn't good.
     pub fn of(table: &[u8]) -> Option<Self> {
-        let rests = Rests::of(table)?;
-        let lengths = rests.rests[0];
+        let measured = Measured::of(table)?;
+        let lengths = measured.rests[0];
         let (mut codes, mut bytes) = (0, Vec::new());
-        rests.begin(0, &mut codes, &mut bytes);
+        measured.begin(0, &mut codes, &mut bytes);
         let mut first = [0; 32];
         for byte in 0..=255 {
             if in_codes(codes, byte) || bytes.contains(&byte) {
