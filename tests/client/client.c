@@ -616,8 +616,9 @@ static void null_pointers(void)
            "no register");
     expect(mpt_register_search(NULL, 0, NULL, 0, NULL, 0, NULL, 0, answer, sizeof answer) == MPT_REGISTER, "no register");
     on_register(mpt_register_init(reg, sizeof reg, answer, sizeof answer), 0, "the start");
-    expect(mpt_register_search(reg, sizeof reg, NULL, 0, NULL, 0, NULL, 0, answer, sizeof answer) == 0, "a search for nothing");
-    answered(0, 0, 0, "answer of a search for nothing");
+    expect(mpt_register_search(reg, sizeof reg, NULL, 0, NULL, 0, NULL, 0, answer, sizeof answer) == 0,
+           "a search for an empty label in an empty register");
+    answered(0, 0, 0, "answer of a search in an empty register");
     expect(mpt_register_init(NULL, 0, NULL, 0) == MPT_ANSWER, "no answer area");
     expect(mpt_register_search(NULL, 0, NULL, 0, NULL, 0, NULL, 0, NULL, 0) == MPT_ANSWER, "no answer area");
     expect(mpt_compile(NULL, 0, NULL, 0, NULL, 0) == MPT_ANSWER, "no answer area");
