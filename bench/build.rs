@@ -1,9 +1,12 @@
-//! Links four more copies of the library's object, for sections (c) and (f): their matching
+//! Links four more copies of the library's object, for sections (c), (f) and (i): their matching
 //! functions, mpt_match_0 and so on, lie 0, 16, 32 and 48 bytes after a multiple of 64, and those
-//! of a batch, mpt_match_batch_0 and so on, with them.
+//! of a batch, mpt_match_batch_0 and so on, and of a search with them. Sets cfg(search) if the
+//! library has a search.
 
 use std::path::{Path, PathBuf};
 use std::process::Command;
+
+const SEARCH: &str = "mpt_register_search";
 
 fn run(command: &mut Command) {
     let status = command
@@ -26,13 +29,24 @@ fn place(object: &Path, offset: usize, out: &Path) -> PathBuf {
         .arg("-o")
         .arg(&copy));
     let mut rename = Command::new("objcopy");
-    for function in ["mpt_match", "mpt_match_batch"] {
+    for function in ["mpt_match", "mpt_match_batch", SEARCH] {
         rename
             .arg(format!("--redefine-sym={function}={function}_{offset}"))
             .arg(format!("--keep-global-symbol={function}_{offset}"));
     }
     run(rename.arg(&copy));
     copy
+}
+
+/// Whether an object defines a function.
+fn has(object: &Path, function: &str) -> bool {
+    let mut names = Command::new("nm");
+    names.arg("--defined-only").arg(object);
+    let listed = names.output().unwrap_or_else(|e| panic!("{names:?}: {e}"));
+    assert!(listed.status.success(), "{names:?}");
+    String::from_utf8_lossy(&listed.stdout)
+        .lines()
+        .any(|line| line.ends_with(&format!(" {function}")))
 }
 
 fn main() {
@@ -42,6 +56,10 @@ fn main() {
     for offset in [0, 16, 32, 48] {
         let copy = place(&object, offset, &out);
         println!("cargo:rustc-link-arg={}", copy.display());
+    }
+    println!("cargo:rustc-check-cfg=cfg(search)");
+    if has(&object, SEARCH) {
+        println!("cargo:rustc-cfg=search");
     }
     println!("cargo:rerun-if-changed=build.rs");
     println!("cargo:rerun-if-changed={}", object.display());

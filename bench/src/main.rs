@@ -9,10 +9,12 @@
 //! bench [--quick] --tables    (a) and (b) alone
 //! bench [--quick] --batches    (f) alone
 //! bench [--quick] --registers    (g) alone
+//! bench [--quick] --searches    (i) alone
 //! bench --lines    the line tool in plain Rust, for the comparison
 //!
 //! Two libraries are compared by two builds, each with its own MPT_LIB and CARGO_TARGET_DIR, run in
-//! turn. A library from before version 2 gets its own tables, and no rows of more than 64 atoms.
+//! turn. A library from before version 2 gets its own tables, and no rows of more than 64 atoms; its
+//! register has the version that it starts one with, and without a search it has no rows in (i).
 
 mod batches;
 mod clock;
@@ -21,11 +23,15 @@ mod matches;
 mod naive;
 mod plain;
 mod plain_registers;
+mod plain_summaries;
 #[cfg(test)]
 mod plain_tests;
 mod proved;
 mod registers;
 mod rounds;
+#[cfg(test)]
+mod search_tests;
+mod searches;
 mod tables;
 
 fn main() {
@@ -41,6 +47,9 @@ fn main() {
     }
     if given("--registers") {
         return registers::registers(rounds);
+    }
+    if given("--searches") {
+        return searches::searches(rounds);
     }
     tables::compiling(rounds);
     tables::writing_back(rounds);
@@ -58,4 +67,5 @@ fn main() {
     lines::lines(rounds);
     batches::batches(rounds);
     registers::registers(rounds);
+    searches::searches(rounds);
 }

@@ -3,7 +3,7 @@
 /// Refusal number and position.
 pub type Refusal = (u32, usize);
 
-const OPEN: u16 = 65_535;
+pub const OPEN: u16 = 65_535;
 
 /// The most atoms and bytes of source.
 const ATOMS: usize = 256;
@@ -29,7 +29,7 @@ const LETTER_BITS: [u8; 256] = {
 };
 
 /// The codes that each byte satisfies, a bit each.
-const CLASSES: [u8; 256] = {
+pub const CLASSES: [u8; 256] = {
     let mut classes = [0; 256];
     let mut byte = 0;
     while byte < 256 {
@@ -232,13 +232,13 @@ pub fn compile(source: &[u8], table: &mut [u8]) -> Result<usize, Refusal> {
 // ---- testing and writing back ----
 
 #[derive(Clone, Copy)]
-struct Record {
-    kind: u8,
-    last: bool,
-    low: u16,
-    high: u16,
-    a: usize,
-    b: usize,
+pub struct Record {
+    pub kind: u8,
+    pub last: bool,
+    pub low: u16,
+    pub high: u16,
+    pub a: usize,
+    pub b: usize,
 }
 
 /// What a header says, and the limits of its version.
@@ -282,19 +282,19 @@ pub fn work(table: &[u8], label_len: usize) -> usize {
     work_of(atoms(table), label_len)
 }
 
-fn work_of(atoms: usize, label_len: usize) -> usize {
+pub fn work_of(atoms: usize, label_len: usize) -> usize {
     (2 * atoms + 4) * (label_len + 1) * (label_len + 1)
 }
 
 /// A table by its atom count, records and pool.
 pub struct Table<'a> {
-    atoms: usize,
+    pub atoms: usize,
     records: &'a [[u8; 10]],
-    pool: &'a [u8],
+    pub pool: &'a [u8],
 }
 
 impl Table<'_> {
-    fn record(&self, r: usize) -> Record {
+    pub fn record(&self, r: usize) -> Record {
         let bytes = &self.records[r];
         let field = |at: usize| u16::from_le_bytes([bytes[at], bytes[at + 1]]);
         Record {
@@ -373,7 +373,7 @@ fn count_len(low: u16, high: u16) -> Option<usize> {
 }
 
 /// A table as its header and length allow, records untested, and its version's limit of source.
-fn split(bytes: &[u8]) -> Option<(Table<'_>, usize)> {
+pub fn split(bytes: &[u8]) -> Option<(Table<'_>, usize)> {
     let header = header(bytes)?;
     let atoms = header.atoms;
     let rest = &bytes[header.len..];
@@ -585,6 +585,35 @@ impl Trials for Safe {
     }
 }
 
+/// For calls that take no budget and report no trials.
+pub struct Uncounted;
+
+impl Trials for Uncounted {
+    #[inline]
+    fn join(
+        left: &[u8],
+        right: &[u8],
+        w: usize,
+        trials: u64,
+        _: u64,
+        mut put: impl FnMut(usize, usize, u8),
+    ) -> Option<u64> {
+        for (i, left) in left.chunks_exact(w).enumerate() {
+            for (j, right) in right.chunks_exact(w).enumerate().skip(i) {
+                let mut found = 0;
+                for (&first, &second) in left[i..=j].iter().zip(&right[i..=j]).rev() {
+                    if first & second != 0 {
+                        found = 1;
+                        break;
+                    }
+                }
+                put(i, j, found);
+            }
+        }
+        Some(trials)
+    }
+}
+
 pub struct Unchecked;
 
 impl Trials for Unchecked {
@@ -684,7 +713,6 @@ pub fn match_tested<T: Trials, const PLACE: usize>(
     if label.len() > 255 {
         return Err((12, 0));
     }
-    let w = label.len() + 1;
     let work = work_of(table.atoms, label.len());
     if scratch.len() < work {
         return Err((13, 0));
@@ -693,17 +721,28 @@ pub fn match_tested<T: Trials, const PLACE: usize>(
         return Err((14, 0));
     }
     let scratch = &mut scratch[..work];
-    let trials = fill_planes::<T, PLACE>(table, label, scratch, budget);
-    let verdict = trials.map(|trials| {
-        let atoms = &scratch[4 * w * w..];
-        let yes = atoms[w * w + (w - 1) * w] != 0;
-        if yes {
-            put_parts(table, atoms, w, parts);
-        }
-        (yes, trials)
-    });
+    let verdict = judge::<T, PLACE>(table, label, scratch, parts, budget);
     scratch.fill(0);
     verdict.ok_or((15, 0))
+}
+
+/// The same with lent bytes that suffice; scratch isn't cleared afterwards. None at the end of the budget.
+#[inline]
+pub fn judge<T: Trials, const PLACE: usize>(
+    table: &Table,
+    label: &[u8],
+    scratch: &mut [u8],
+    parts: &mut [u8],
+    budget: u64,
+) -> Option<Verdict> {
+    let w = label.len() + 1;
+    let trials = fill_planes::<T, PLACE>(table, label, scratch, budget)?;
+    let atoms = &scratch[4 * w * w..];
+    let yes = atoms[w * w + (w - 1) * w] != 0;
+    if yes {
+        put_parts(table, atoms, w, parts);
+    }
+    Some((yes, trials))
 }
 
 /// The ends of a batch's labels, or its refusal.

@@ -1,6 +1,7 @@
 //! The library's calls, answered as plain Rust answers, and its matching functions at four placements.
 
 use crate::plain;
+use crate::plain_registers::Searched;
 
 /// A call of the library as plain Rust gives it: the result and trials, or the refusal.
 fn answered(number: u32, answer: &[u8; 32]) -> Result<(usize, u64), plain::Refusal> {
@@ -137,12 +138,110 @@ copies!(
     mpt_match_48 mpt_match_batch_48
 );
 
-/// Copy k lies 16 k bytes after a multiple of 64, and its batch as far from that of copy 0.
+/// A search of a register.
+pub type Search = fn(&[u8], &[u8], &mut [u8], &mut [u8]) -> Searched;
+
+/// The library's search at four placements, if it has one.
+#[cfg(not(search))]
+pub const SEARCHES: Option<[Search; 4]> = None;
+#[cfg(search)]
+pub const SEARCHES: Option<[Search; 4]> = Some([
+    searches::at::<0>,
+    searches::at::<1>,
+    searches::at::<2>,
+    searches::at::<3>,
+]);
+
+#[cfg(search)]
+mod searches {
+    use crate::plain_registers::Searched;
+
+    /// The type of mpt_register_search.
+    type RegisterSearch = unsafe extern "C" fn(
+        *const u8,
+        usize,
+        *const u8,
+        usize,
+        *mut u8,
+        usize,
+        *mut u8,
+        usize,
+        *mut u8,
+        usize,
+    ) -> u32;
+
+    /// Declares the copies of mpt_register_search that build.rs links, by their placements.
+    macro_rules! copies {
+        ($($name:ident),*) => {
+            extern "C" {
+                $(fn $name(
+                    register: *const u8,
+                    register_len: usize,
+                    label: *const u8,
+                    label_len: usize,
+                    scratch: *mut u8,
+                    scratch_len: usize,
+                    parts: *mut u8,
+                    parts_len: usize,
+                    answer: *mut u8,
+                    answer_len: usize,
+                ) -> u32;)*
+            }
+            pub const COPIES: [RegisterSearch; 4] = [$($name),*];
+        };
+    }
+
+    copies!(
+        mpt_register_search_0,
+        mpt_register_search_16,
+        mpt_register_search_32,
+        mpt_register_search_48
+    );
+
+    pub fn at<const PLACE: usize>(
+        register: &[u8],
+        label: &[u8],
+        scratch: &mut [u8],
+        parts: &mut [u8],
+    ) -> Searched {
+        let mut answer = [0_u64; 4];
+        let refusal = unsafe {
+            COPIES[PLACE](
+                register.as_ptr(),
+                register.len(),
+                label.as_ptr(),
+                label.len(),
+                scratch.as_mut_ptr(),
+                scratch.len(),
+                parts.as_mut_ptr(),
+                parts.len(),
+                answer.as_mut_ptr().cast(),
+                32,
+            )
+        };
+        let [position, verdict, number, skipped] = answer.map(u64::from_le);
+        assert!(position == 0 && verdict < 2 && number < 256);
+        Searched {
+            refusal,
+            yes: verdict == 1,
+            number: number as u8,
+            skipped,
+        }
+    }
+}
+
+/// Copy k lies 16 k bytes after a multiple of 64, its batch as far from that of copy 0, and its search
+/// too.
 pub fn assert_placed() {
     let first = BATCH_COPIES[0] as usize;
     for (place, copy) in COPIES.iter().enumerate() {
         let batch = BATCH_COPIES[place] as usize;
         assert_eq!(*copy as usize % 64, 16 * place);
         assert_eq!((batch - first) % 64, 16 * place);
+    }
+    #[cfg(search)]
+    for (place, copy) in searches::COPIES.iter().enumerate() {
+        let first = searches::COPIES[0] as usize;
+        assert_eq!((*copy as usize - first) % 64, 16 * place);
     }
 }

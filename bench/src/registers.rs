@@ -1,7 +1,8 @@
 //! (g): a register with 1, 16 and 256 patterns kept, beside one match without a register and
-//! beside plain Rust.
+//! beside plain Rust with a register of the same version.
 
 use crate::plain::{Refusal, Verdict};
+use crate::plain_registers::{tables_at, SLOT_1, SLOT_2};
 use crate::rounds::Rounds;
 use crate::tables::table_of;
 use crate::{plain, plain_registers, proved};
@@ -13,26 +14,47 @@ type Remove = fn(&mut [u8], u8) -> Result<(), Refusal>;
 type Match = fn(&[u8], u8, &[u8], &mut [u8], &mut [u8], u64) -> Result<Verdict, Refusal>;
 
 /// The calls of the library or of plain Rust.
-struct Calls {
+pub struct Calls {
     init: Init,
     store: Store,
     remove: Remove,
     match_number: Match,
 }
 
-const LIBRARY: Calls = Calls {
+pub const LIBRARY: Calls = Calls {
     init: proved::register_init,
     store: proved::register_store,
     remove: proved::register_remove,
     match_number: proved::register_match,
 };
 
-const PLAIN: Calls = Calls {
-    init: plain_registers::init,
-    store: plain_registers::store,
-    remove: plain_registers::remove,
-    match_number: plain_registers::match_number,
-};
+/// Plain Rust's calls on registers with slots of so many bytes.
+const fn plain_calls<const SLOT: usize>() -> Calls {
+    Calls {
+        init: plain_registers::init::<SLOT>,
+        store: plain_registers::store::<SLOT>,
+        remove: plain_registers::remove::<SLOT>,
+        match_number: plain_registers::match_number::<SLOT>,
+    }
+}
+
+/// The bytes of a slot in a register that the library starts.
+fn own_slot() -> usize {
+    let mut register = [0; tables_at(SLOT_2)];
+    assert_eq!(proved::register_init(&mut register), Ok(()));
+    match register[3] {
+        1 => SLOT_1,
+        _ => SLOT_2,
+    }
+}
+
+/// Plain Rust's calls on registers of the library's version.
+pub fn own_plain() -> Calls {
+    match own_slot() {
+        SLOT_1 => plain_calls::<SLOT_1>(),
+        _ => plain_calls::<SLOT_2>(),
+    }
+}
 
 /// Bytes to spare, enough for a longer table in place of one.
 const SPARE: usize = 100;
@@ -64,23 +86,27 @@ impl Kept {
         tables
     }
 
-    /// The register as a side makes it.
     fn filled(&self, calls: &Calls) -> Vec<u8> {
-        let tables = self.tables();
-        let mut register = vec![0; 1_032 + tables.concat().len() + SPARE];
-        assert_eq!((calls.init)(&mut register), Ok(()));
-        for (number, table) in tables.iter().enumerate() {
-            let stored = (calls.store)(&mut register, number as u8, table);
-            assert_eq!(stored, Ok(()));
-        }
-        register
+        filled(calls, &self.tables())
     }
+}
+
+/// A register of these tables, by their numbers, as a side makes it.
+pub fn filled(calls: &Calls, tables: &[Vec<u8>]) -> Vec<u8> {
+    let mut register = vec![0; tables_at(own_slot()) + tables.concat().len() + SPARE];
+    assert_eq!((calls.init)(&mut register), Ok(()));
+    for (number, table) in tables.iter().enumerate() {
+        let stored = (calls.store)(&mut register, number as u8, table);
+        assert_eq!(stored, Ok(()));
+    }
+    register
 }
 
 /// A match by number in the library and in plain Rust, and one of the library with the same table.
 fn match_row(kept: Kept, label: &[u8], rounds: usize) {
+    let own_plain = own_plain();
     let register = kept.filled(&LIBRARY);
-    assert!(register == kept.filled(&PLAIN));
+    assert!(register == kept.filled(&own_plain));
     let work = plain::work(&kept.table, label.len());
     let mut outputs = [(); 3].map(|()| (vec![0; work], [255; 128]));
     let [library, plain, single] = &mut outputs;
@@ -98,7 +124,7 @@ fn match_row(kept: Kept, label: &[u8], rounds: usize) {
         rounds,
         [
             &mut || by_number(&LIBRARY, library),
-            &mut || by_number(&PLAIN, plain),
+            &mut || by_number(&own_plain, plain),
             &mut || by_table(single),
         ],
     );
@@ -130,12 +156,13 @@ fn remove_and_store(calls: &Calls, register: &mut [u8], number: u8, [table, _]: 
 fn change_row(name: &str, change: Change, kept: Kept, rounds: usize) {
     let longer = table_of(b"1U2N1\"-\"1.6N1\"-\"1(1N,2A)");
     let tables: [&[u8]; 2] = [&kept.table, &longer];
-    let (mut library, mut plain) = (kept.filled(&LIBRARY), kept.filled(&PLAIN));
+    let own_plain = own_plain();
+    let (mut library, mut plain) = (kept.filled(&LIBRARY), kept.filled(&own_plain));
     let timed = Rounds::of(
         rounds,
         [
             &mut || change(&LIBRARY, &mut library, kept.used, tables),
-            &mut || change(&PLAIN, &mut plain, kept.used, tables),
+            &mut || change(&own_plain, &mut plain, kept.used, tables),
         ],
     );
     let before = kept.filled(&LIBRARY);

@@ -5,16 +5,29 @@ use crate::clock;
 /// The times of each call in each round, in nanoseconds.
 pub struct Rounds<const CALLS: usize>([Vec<f64>; CALLS]);
 
+/// Nanoseconds of a call that is made so many times in turn.
+fn time(call: &mut dyn FnMut(), repeats: u64) -> f64 {
+    let start = clock::nanoseconds();
+    (0..repeats).for_each(|_| call());
+    (clock::nanoseconds() - start) as f64 / repeats as f64
+}
+
+/// How often a call of so many nanoseconds is repeated.
+fn repeats(time: f64) -> u64 {
+    (2e7 / time.max(1.0)).clamp(1.0, 1e6) as u64
+}
+
 impl<const CALLS: usize> Rounds<CALLS> {
     /// Makes all calls once a round. They do the same work; if it is short, they are repeated.
     pub fn of(rounds: usize, mut calls: [&mut dyn FnMut(); CALLS]) -> Self {
-        let mut time = |at: usize, repeats: u64| {
-            let start = clock::nanoseconds();
-            (0..repeats).for_each(|_| calls[at]());
-            (clock::nanoseconds() - start) as f64 / repeats as f64
-        };
-        let repeats = (2e7 / time(0, 1).max(1.0)).clamp(1.0, 1e6) as u64;
-        Self::by(rounds, |at| time(at, repeats))
+        let repeats = repeats(time(calls[0], 1));
+        Self::by(rounds, |at| time(calls[at], repeats))
+    }
+
+    /// The same with calls of unlike work, each repeated by its own time.
+    pub fn of_unlike(rounds: usize, mut calls: [&mut dyn FnMut(); CALLS]) -> Self {
+        let repeats = calls.each_mut().map(|call| repeats(time(*call, 1)));
+        Self::by(rounds, |at| time(calls[at], repeats[at]))
     }
 
     /// Takes the time of each call once a round; the call that is first changes from round to round.
