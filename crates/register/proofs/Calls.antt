@@ -10,7 +10,7 @@ use borrow.Rule.Slice.PartMut.{putMid}
 use lib.ListN.{length, take, drop, set, replicate, length-drop, length-replicate, replicate-append-replicate, drop-of-length-le}
 use lib.Seq.{take-all, drop-drop}
 use Rattle.pattern.specs.Numbers.{TABLE, FULL, REGISTER, MISSING}
-use Rattle.pattern.specs.Bytes.{Bytes, equal, little, overwrite, zeroed}
+use Rattle.pattern.specs.Bytes.{Bytes, equal, overwrite, zeroed}
 use Rattle.pattern.specs.Stores.{store-at}
 use Rattle.pattern.specs.Scan.{refuse}
 use Rattle.pattern.specs.Answers.{Answer, MatchOutput, untried, ended, matchOf}

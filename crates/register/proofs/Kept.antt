@@ -1,27 +1,25 @@
 -- What lies in a register under a number: its slot and its table. Assumes nothing.
-use mathlib.Core.Path.{_≡_, refl, sym, ap, _∙_}
-use mathlib.Core.Bool.{true, false}
-use mathlib.Core.List.{[], _∷_, _++_, append-assoc}
-use mathlib.Core.Option.{Option, none, some}
+use mathlib.Core.Path.{_≡_, sym, ap, _∙_}
+use mathlib.Core.List.{[], _++_, append-assoc}
+use mathlib.Core.Option.{some}
 use Prim.Native.Nat.{ℕ, suc, _+_, _*_, _-_, _≤_, _<_}
 use native.Mathlib.Omega.{arith}
-use lib.ListN.{length, getD, take, drop, set, length-drop}
-use lib.Seq.{take-at, drop-at, drop-drop, getD-drop}
+use lib.ListN.{length, take, drop, set, length-drop}
+use lib.Seq.{take-at, drop-at, drop-drop}
 use Rattle.pattern.specs.Bytes.{Bytes, le16, little, number-in}
 use Rattle.pattern.specs.Syntax.{pattern, Syntax, size, top-size}
-use Rattle.pattern.specs.Decode.{field, decode}
+use Rattle.pattern.specs.Decode.{decode}
 use Rattle.pattern.proofs.Rooms.{top-le}
 use Rattle.pattern.proofs.Calls.{good-limited}
 use Rattle.stores.proofs.Little.{length-little, number-field, number-little}
 use Rattle.summary.specs.Summary.{summary-of, summary-bytes, summary-size}
+use Rattle.summary.proofs.SummaryBytes.{length-summary-bytes}
 use Rattle.register.specs.Maps.{numbers, Map, table-of, tables, total}
 use Rattle.register.specs.Layout.{preamble-size, length-size, entry, slot-size, slot, directory-size, directory, overhead, registerOf}
 use Rattle.register.specs.Slots.{atoms-place, top-place, summary-place, kept-at}
-use Rattle.register.specs.Sections.{section-of}
 use Rattle.register.proofs.Maps.{allowed-short, others-stay, total-suc, total-split}
 use Rattle.register.proofs.Sections.{length-slot}
-use Rattle.register.proofs.Slots.{length-summary}
-use Rattle.register.proofs.Meaning.{SectionIs, section-meant, found-split, found-is, meant}
+use Rattle.register.proofs.Meaning.{SectionIs, section-meant, found-split, found-is}
 use Rattle.register.proofs.Putting.{directory-split, slot-place, old-is}
 
 by-slot : (u x w y : Bytes) → (u ++ (x ++ w)) ++ y ≡ u ++ (x ++ (w ++ y))
@@ -86,7 +84,7 @@ module _ (lent : Bytes) (m : Map) (e : registerOf lent ≡ some m) where
       unfolding little
       summary-is =
           let (after, f) = entry-from in
-          ap (take summary-size) (sym (drop-drop summary-place (slot-start k) lent) ∙ ap (drop summary-place) f) ∙ take-at (summary-bytes (summary-of p)) after summary-size (length-summary (summary-of p))
+          ap (take summary-size) (sym (drop-drop summary-place (slot-start k) lent) ∙ ap (drop summary-place) f) ∙ take-at (summary-bytes (summary-of p)) after summary-size (length-summary-bytes (summary-of p))
 
     -- its table
     pub table-is : take (length (table-of m k)) (drop (overhead + total (take k m)) lent) ≡ table-of m k

@@ -16,7 +16,8 @@ use Rattle.pattern.proofs.Agree.{equal-decides}
 use Rattle.pattern.proofs.Tests.{true-T, and-both, passed}
 use Rattle.stores.proofs.Little.{length-little, number-little}
 use Rattle.register.specs.Maps.{Map, tables, total}
-use Rattle.summary.specs.Summary.{summary-bytes, set-bytes}
+use Rattle.summary.specs.Summary.{summary-of}
+use Rattle.summary.proofs.SummaryBytes.{length-summary-bytes}
 use Rattle.register.specs.Layout.{length-size, entry-size, entry, slot-size, slot, directory, allowed}
 use Rattle.register.specs.Sections.{first-size, first-table, intact, cons-if, held}
 use Rattle.register.proofs.Maps.{AllAllowed, allowed-short, no-bytes-no-tree}
@@ -24,9 +25,9 @@ use Rattle.register.proofs.Maps.{AllAllowed, allowed-short, no-bytes-no
 -- ---- the parts of a layout
 
 length-entry : (o : Option (Syntax pattern)) → length (entry o) ≡ entry-size
-unfolding entry summary-bytes set-bytes
+unfolding entry
 length-entry none = refl
-length-entry (some t) = refl
+length-entry (some t) = omega (arith, length-summary-bytes (summary-of t))
 
 pub length-slot : (t : Bytes) → length (slot t) ≡ slot-size
 unfolding slot

@@ -2,26 +2,25 @@
 use mathlib.Core.Path.{_≡_, refl, sym, ap, _∙_}
 use mathlib.Core.Bool.{Bool, true, false, _&&_, _||_}
 use mathlib.Core.List.{[], _∷_, _++_, append-nil}
-use mathlib.Core.Option.{Option, none, some}
 use Prim.Native.Nat.{ℕ, _+_, _*_, _-_, _≤_, _<_}
 use native.Mathlib.Omega.{arith}
-use borrow.Author.Tests.{eq-eqb, ne-eqb}
+use borrow.Author.Tests.{ne-eqb}
 use borrow.Rule.Slice.PartMut.{putMid}
-use lib.ListN.{length, take, drop, replicate, length-append, length-replicate, replicate-append-replicate, drop-of-length-le, length-drop}
-use lib.Seq.{length-take-le, take-add, take-at, take-all, drop-at, drop-drop}
+use lib.ListN.{length, take, drop, replicate, drop-of-length-le, length-drop}
+use lib.Seq.{length-take-le, take-add, take-at, take-all, drop-at}
 use Rattle.pattern.specs.Versions.{table-room}
 use Rattle.pattern.specs.Bytes.{Bytes, equal, le16, little, number-in, overwrite}
 use Rattle.pattern.specs.Stores.{store-at}
-use Rattle.pattern.specs.Syntax.{pattern, Syntax, size, top-size}
 use Rattle.pattern.specs.Decode.{tree-of, decode}
 use Rattle.pattern.proofs.Agree.{equal-decides}
 use Rattle.pattern.proofs.Tests.{true-T, passed}
 use Rattle.pattern.proofs.Stores.{store-at-then, store-at-overwrite}
-use Rattle.stores.proofs.Little.{Octets, octets-take, octets-drop, length-little, little-number}
+use Rattle.stores.proofs.Little.{Octets, octets-take, octets-drop, little-number}
 use Rattle.table.specs.declared.Sizes.{Sizes}
 use Rattle.table.specs.declared.Tested.the-variants.{Good}
 use Rattle.table.specs.Tested.{tested}
-use Rattle.summary.specs.Summary.{Summary, summary-of, summary-bytes, set-bytes, summary-size}
+use Rattle.summary.specs.Summary.{summary-of, summary-bytes, summary-size}
+use Rattle.summary.proofs.SummaryBytes.{length-summary-bytes}
 use Rattle.atoms.proofs.Goods.{GoodSizes}
 use Rattle.register.specs.Maps.{is-table}
 use Rattle.register.specs.Layout.{length-size, entry, slot-size, slot, allowed}
@@ -29,61 +28,48 @@ use Rattle.register.proofs.Maps.{allowed-short, table-allowed}
 use Rattle.register.proofs.Testing.{good-table}
 use Rattle.register.proofs.Sections.{slot-none}
 
--- ---- the slot of no table
+-- ---- two slots
 
--- four bytes of zeros from a place on
-four-zeros : (at : ℕ) → at + length-size ≤ slot-size → take {A = ℕ} length-size (drop at (replicate slot-size 0)) ≡ replicate length-size 0
-four-zeros at h =
-    let n : ℕ = slot-size - at - length-size in
-    let e : at + (length-size + n) ≡ slot-size = omega arith in
-    let front : Bytes = replicate at 0 in
-    let four : Bytes = replicate length-size 0 in
-    let a : front ++ (four ++ replicate n 0) ≡ replicate slot-size 0 =
-    ap (λ (x : Bytes). replicate at 0 ++ x) (replicate-append-replicate {A = ℕ} length-size n 0) ∙ replicate-append-replicate {A = ℕ} at (length-size + n) 0 ∙ ap (λ j. replicate j 0) e in
-    ap (λ (x : Bytes). take length-size (drop at x)) (sym a) ∙ ap (take length-size) (drop-at (replicate at 0) _ at (length-replicate {A = ℕ} at 0)) ∙ take-at {A = ℕ} (replicate length-size 0) (replicate n 0) length-size refl
-
--- the bytes before a place are zero, four at a time
-pub record ZerosTo (bytes : Bytes) (at : ℕ) : Type 0 where
+-- their bytes before a place are the same, four at a time
+pub record SameTo (a b : Bytes) (at : ℕ) : Type 0 where
   pub count : ℕ
   pub place : at ≡ length-size * count
   pub within : at ≤ slot-size
-  pub zeros : take at bytes ≡ replicate at 0
+  pub same : take at a ≡ take at b
 
-pub zeros-start : (bytes : Bytes) → ZerosTo bytes 0
-zeros-start bytes = record { count = 0; place = refl; within = omega arith; zeros = refl }
+pub same-start : (a b : Bytes) → SameTo a b 0
+same-start a b = record { count = 0; place = refl; within = omega arith; same = refl }
 
-module _ {bytes : Bytes} {at : ℕ} (w : ZerosTo bytes at) where
-  pub zeros-room : at < slot-size → at + length-size ≤ slot-size
-  zeros-room h = omega (arith, w .place)
+module _ {a b : Bytes} {at : ℕ} (w : SameTo a b at) where
+  pub same-room : at < slot-size → at + length-size ≤ slot-size
+  same-room h = omega (arith, w .place)
 
-  pub zeros-next : at < slot-size → Octets bytes → length bytes ≡ slot-size → 0 ≡ number-in (take length-size (drop at bytes)) → ZerosTo bytes (at + length-size)
-  unfolding little
-  zeros-next h f l e =
-      let v : Bytes = take length-size (drop at bytes) in
-      let n : length v ≡ length-size = length-take-le length-size (drop at bytes) (omega (arith, zeros-room h, length-drop at bytes)) in
-      let z : v ≡ replicate length-size 0 = sym (little-number v (octets-take length-size (drop at bytes) (octets-drop at bytes f))) ∙ ap (λ j. little j (number-in v)) n ∙ ap (little length-size) (sym e) in
+  pub same-next : at < slot-size → Octets a → Octets b → (length a ≡ slot-size) × (length b ≡ slot-size) → number-in (take length-size (drop at a)) ≡ number-in (take length-size (drop at b)) → SameTo a b (at + length-size)
+  same-next h f g (l, k) e =
+      let u : Bytes = take length-size (drop at a) in
+      let v : Bytes = take length-size (drop at b) in
+      let m : length u ≡ length-size = length-take-le length-size (drop at a) (omega (arith, same-room h, length-drop at a)) in
+      let n : length v ≡ length-size = length-take-le length-size (drop at b) (omega (arith, same-room h, length-drop at b)) in
+      let z : u ≡ v =
+      sym (little-number u (octets-take length-size (drop at a) (octets-drop at a f))) ∙ ap (λ j. little j (number-in u)) (m ∙ sym n) ∙ ap (little (length v)) e ∙ little-number v (octets-take length-size (drop at b) (octets-drop at b g)) in
       record {
         count = w .count + 1;
         place = omega (arith, w .place);
-        within = zeros-room h;
-        zeros = take-add at length-size bytes ∙ ap (λ (x : Bytes). x ++ v) (w .zeros) ∙ ap (λ (x : Bytes). replicate at 0 ++ x) z ∙ replicate-append-replicate at length-size 0;
+        within = same-room h;
+        same = take-add at length-size a ∙ ap (λ (x : Bytes). x ++ u) (w .same) ∙ ap (λ (x : Bytes). take at b ++ x) z ∙ sym (take-add at length-size b);
       }
 
-  pub zeros-not : at < slot-size → (0 ≡ number-in (take length-size (drop at bytes)) → ⊥) → false ≡ equal bytes (replicate slot-size 0)
-  unfolding number-in
-  zeros-not h n = go (equal bytes (replicate slot-size 0)) refl
-    where
-      go : (b : Bool) → equal bytes (replicate slot-size 0) ≡ b → false ≡ b
-      go false e = refl
-      go true e =
-          let same : bytes ≡ replicate slot-size 0 = equal-decides bytes (replicate slot-size 0) .sound (true-T _ e) in
-          absurd (n (sym (ap (λ (x : Bytes). number-in (take length-size (drop at x))) same ∙ ap number-in (four-zeros at (zeros-room h)))))
+  pub same-all : slot-size ≤ at → (length a ≡ slot-size) × (length b ≡ slot-size) → true ≡ equal a b
+  same-all h (l, k) =
+      let e : a ≡ b = sym (take-all at a (omega arith)) ∙ w .same ∙ take-all at b (omega arith) in
+      sym (passed _ (equal-decides a b .complete e))
 
-  pub zeros-all : slot-size ≤ at → length bytes ≡ slot-size → true ≡ equal bytes (replicate slot-size 0)
-  zeros-all h l =
-      let e : at ≡ slot-size = omega (arith, w .within) in
-      let z : bytes ≡ replicate slot-size 0 = sym (take-all slot-size bytes (omega arith)) ∙ ap (λ n. take n bytes) (sym e) ∙ w .zeros ∙ ap (λ n. replicate n 0) e in
-      sym (passed _ (equal-decides bytes (replicate slot-size 0) .complete z))
+pub not-same : (a b : Bytes) (at : ℕ) → (number-in (take length-size (drop at a)) ≡ number-in (take length-size (drop at b)) → ⊥) → false ≡ equal a b
+not-same a b at n = go (equal a b) refl
+  where
+    go : (r : Bool) → equal a b ≡ r → false ≡ r
+    go false e = refl
+    go true e = absurd (n (ap (λ (x : Bytes). number-in (take length-size (drop at x))) (equal-decides a b .sound (true-T _ e))))
 
 -- ---- whether a slot is a table's own
 
@@ -100,11 +86,8 @@ module _ (bytes table : Bytes) where
   unfolding allowed
   intact-bad n g = rw (ne-eqb (length table) 0 n, g)
 
-  pub intact-good : (r : Bool) (own : Bytes) → length bytes ≡ slot-size → own ≡ slot table → is-table table ≡ true → r ≡ equal (take slot-size bytes) (take slot-size own) → length own ≡ slot-size
-      → r ≡ (allowed table && equal bytes (slot table))
-  intact-good r own l o g e k =
-      let f : equal (take slot-size bytes) (take slot-size own) ≡ equal bytes own = rw (take-all slot-size bytes (omega arith), take-all slot-size own (omega arith)) in
-      e ∙ f ∙ rw (o, table-allowed table g)
+  pub intact-good : (r : Bool) (own : Bytes) → own ≡ slot table → is-table table ≡ true → r ≡ equal bytes own → r ≡ (allowed table && equal bytes (slot table))
+  intact-good r own o g e = e ∙ rw (o, table-allowed table g)
 
 -- ---- the slot of a good table
 
@@ -114,10 +97,6 @@ table-fits table s e = allowed-short table (table-allowed table (good-table tabl
 
 pub summary-room : (l : Bytes) → length l ≡ slot-size → summary-size ≤ length (take summary-size (drop 8 l))
 summary-room l h = omega (arith, length-take-le summary-size (drop 8 l) (omega (arith, length-drop 8 l)))
-
-pub length-summary : (m : Summary) → length (summary-bytes m) ≡ summary-size
-unfolding summary-bytes set-bytes
-length-summary m = refl
 
 -- bytes after others are filled
 mid-filled : (v r w l x : Bytes) (k n : ℕ) → k ≡ length v → length r ≡ n → length w ≡ n → l ≡ v ++ r → x ≡ overwrite w (take n (drop k l)) → putMid k n l x ≡ v ++ w
@@ -142,5 +121,5 @@ slot-written {table} {s} g l l₁ l₂ l₃ x h a b c e =
     let v : Bytes = u ++ le16 (s .top) [] in
     let y : l₂ ≡ store-at l 0 u = b ∙ ap (λ (z : Bytes). store-at z 4 (le16 (s .atoms) [])) a ∙ store-at-then l 0 4 n (le16 (s .atoms) []) refl in
     let z : l₃ ≡ store-at l 0 v = c ∙ ap (λ (z : Bytes). store-at z 6 (le16 (s .top) [])) y ∙ store-at-then l 0 6 u (le16 (s .top) []) refl in
-    mid-filled v (drop 8 l) (summary-bytes (summary-of (tree-of table))) l₃ x 8 summary-size refl (omega (arith, length-drop 8 l)) (length-summary (summary-of (tree-of table))) (z ∙ store-at-overwrite l v (omega arith)) e
+    mid-filled v (drop 8 l) (summary-bytes (summary-of (tree-of table))) l₃ x 8 summary-size refl (omega (arith, length-drop 8 l)) (length-summary-bytes (summary-of (tree-of table))) (z ∙ store-at-overwrite l v (omega arith)) e
     ∙ rw (g .atoms-is, g .top-is, g .good .decoded)

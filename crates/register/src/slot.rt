@@ -1,5 +1,4 @@
 // The slot of a number: the length of its table, and what is kept of its pattern.
-use stores::equal;
 use stores::put16;
 use stores::put32;
 use stores::read16;
@@ -11,7 +10,7 @@ use table::Tested;
 ghost use mathlib.Core.Path.{_≡_};
 ghost use mathlib.Core.Bool.{_&&_};
 ghost use Prim.Native.Nat.{_+_, _≤_};
-ghost use lib.ListN.{length, replicate};
+ghost use lib.ListN.{length};
 ghost use Rattle.pattern.specs.Bytes.{equal};
 ghost use Rattle.pattern.specs.Decode.{decode};
 ghost use Rattle.table.specs.declared.Tested.the-variants.{Good};
@@ -72,14 +71,14 @@ pub fn slot_of(table: &[u8], sizes: Sizes) -> [u8; SLOT_SIZE]
     slot_in(table, sizes, &mut rows)
 }
 
-// Whether a slot is that of no table.
-fn is_empty(bytes: &[u8]) -> bool
-    requires { ⌜ length (now bytes) ≡ slot-size ⌝ }
-    ensures { λ r. ⌜ r ≡ equal (now (bytes .entry)) (replicate slot-size 0) ⌝ }
+// Whether two slots are the same, four bytes at a time.
+fn is_same(a: &[u8], b: &[u8]) -> bool
+    requires { ⌜ (length (now a) ≡ slot-size) × (length (now b) ≡ slot-size) ⌝ }
+    ensures { λ r. ⌜ r ≡ equal (now (a .entry)) (now (b .entry)) ⌝ }
 {
     let mut at = 0;
     while at < SLOT_SIZE {
-        if read32(bytes, at) != 0 {
+        if read32(a, at) != read32(b, at) {
             return false;
         }
         at += LENGTH_SIZE;
@@ -93,13 +92,14 @@ pub fn is_intact(bytes: &[u8], table: &[u8], rows: &mut [u64]) -> bool
     ensures { λ r. ⌜ r ≡ (allowed (now (table .entry)) && equal (now (bytes .entry)) (slot (now (table .entry)))) ⌝ }
 {
     if table.len() == 0 {
-        return is_empty(bytes);
+        let none = [0u8; SLOT_SIZE];
+        return is_same(bytes, &none);
     }
     match table::test(table) {
         Tested::Bad => false,
         Tested::Good(sizes) => {
             let own = slot_in(table, sizes, rows);
-            equal(bytes, 0, &own, 0, SLOT_SIZE)
+            is_same(bytes, &own)
         }
     }
 }

@@ -2,32 +2,28 @@
 use mathlib.Core.Path.{_≡_, refl, sym, ap, subst, _∙_}
 use mathlib.Core.Logic.{⊎-elim}
 use mathlib.Core.Bool.{Bool, true, false, cond}
-use mathlib.Core.List.{List, [], _∷_, _++_, append-assoc, append-nil}
+use mathlib.Core.List.{List, [], _++_, append-assoc, append-nil}
 use mathlib.Core.Option.{Option, none, some}
-use Prim.Native.Nat.{ℕ, suc, _+_, _*_, _-_, _≤_, _<_, max}
+use Prim.Native.Nat.{ℕ, _+_, _*_, _-_, _≤_, _<_, max}
 use native.Mathlib.Omega.{arith}
-use borrow.Author.Tests.{eq-eqb}
 use borrow.Rule.Slice.PartMut.{putMid}
 use lib.Dec.{eqb}
-use lib.ListN.{length, take, drop, replicate, length-append, length-drop, length-replicate, replicate-append-replicate, take-append-drop, drop-of-length-le}
+use lib.ListN.{length, take, drop, replicate, length-drop, length-replicate, replicate-append-replicate, take-append-drop, drop-of-length-le}
 use lib.Seq.{length-take-le, take-at, take-take, take-all, drop-drop}
-use Rattle.pattern.specs.Numbers.{atom-limit, label-limit, WORK, PARTS}
+use Rattle.pattern.specs.Numbers.{atom-limit, WORK, PARTS}
 use Rattle.pattern.specs.Bytes.{Bytes, zeroed}
-use Rattle.pattern.specs.Syntax.{pattern, Syntax, top-size}
 use Rattle.pattern.specs.Parts.{verdict}
 use Rattle.pattern.specs.Trials.{trials}
-use Rattle.pattern.specs.Decode.{decode}
-use Rattle.pattern.specs.Answers.{Answer, MatchOutput, scratch-needed, lent-fault, decided, ended, matchOf}
+use Rattle.pattern.specs.Answers.{Answer, MatchOutput, scratch-needed, decided, ended, matchOf}
 use Rattle.pattern.proofs.Tests.{le-or-lt}
 use Rattle.pattern.proofs.Stores.{length-zeroed}
 use Rattle.pattern.proofs.Calls.{good-limited}
 use Rattle.pattern.proofs.Rooms.{top-le}
 use Rattle.summary.specs.Summary.{rules-out, summary-of, summary-size}
+use Rattle.summary.proofs.SummaryBytes.{length-summary-bytes}
 use Rattle.summary.specs.Ruling.{RulesOut}
-use Rattle.register.specs.Maps.{Map}
-use Rattle.register.proofs.Slots.{length-summary}
 use Rattle.search.specs.declared.look.Looked.the-variants.{Refused, Yes, No, Skipped}
-use Rattle.search.specs.Search.{unlimited, search-refused, search-from}
+use Rattle.search.specs.Search.{unlimited}
 use Rattle.search.specs.Looking.{Zeros, ClearPre, MatchPre, IsMatchPost, LookAtPre, looked, LookAtPost}
 use Rattle.search.proofs.Steps.{fault-none, match-decided, step-work, step-parts, step-skipped, step-found, step-passed}
 
@@ -116,10 +112,10 @@ module _ {summary table label scratch : Bytes} {needed top cleared : ℕ} (p : L
   look-tops = omega (arith, p .tops, top-le (p .tree), good-limited table (p .tree) (p .good) .atoms)
 
   pub look-summary : summary-size ≤ length summary
-  look-summary = omega (arith, ap length (p .summary-is), length-summary (summary-of (p .tree)))
+  look-summary = omega (arith, ap length (p .summary-is), length-summary-bytes (summary-of (p .tree)))
 
   pub look-out : {r : Bool} → RulesOut summary label r → r ≡ rules-out (summary-of (p .tree)) label
-  look-out o = o .by (summary-of (p .tree)) (take-all summary-size summary (omega (arith, ap length (p .summary-is), length-summary (summary-of (p .tree)))) ∙ p .summary-is)
+  look-out o = o .by (summary-of (p .tree)) (take-all summary-size summary (omega (arith, ap length (p .summary-is), length-summary-bytes (summary-of (p .tree)))) ∙ p .summary-is)
 
   pub look-clear : needed ≤ length scratch → ClearPre scratch cleared needed
   look-clear room = record { zeros = p .zeros; inside = room }

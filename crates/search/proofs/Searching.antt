@@ -2,7 +2,7 @@
 use mathlib.Core.Path.{_≡_, refl, sym, ap, subst, _∙_}
 use mathlib.Core.Logic.{⊎-elim}
 use mathlib.Core.Bool.{true, false}
-use mathlib.Core.List.{List, [], _∷_}
+use mathlib.Core.List.{[], _∷_}
 use mathlib.Core.Option.{Option, none, some}
 use Prim.Native.Nat.{ℕ, suc, _+_, _*_, _-_, _≤_, _<_, max}
 use native.Mathlib.Nat.{mul-le-mul}
@@ -12,14 +12,13 @@ use lib.ListN.{length, take, drop, drop-of-length-le}
 use lib.Seq.{drop-cons}
 use Rattle.pattern.specs.Numbers.{atom-limit, label-limit}
 use Rattle.pattern.specs.Bytes.{Bytes}
-use Rattle.pattern.specs.Syntax.{pattern, Syntax, size, top-size}
+use Rattle.pattern.specs.Syntax.{pattern, Syntax}
 use Rattle.pattern.specs.Decode.{decode}
-use Rattle.pattern.specs.Answers.{scratch-needed}
 use Rattle.pattern.proofs.Calls.{good-limited}
 use Rattle.pattern.proofs.Rooms.{top-le}
-use Rattle.summary.specs.Summary.{summary-of, summary-bytes, summary-size}
+use Rattle.summary.specs.Summary.{summary-size}
 use Rattle.register.specs.Maps.{numbers, Map, table-of, tables, total}
-use Rattle.register.specs.Layout.{slot-size, overhead, registerOf}
+use Rattle.register.specs.Layout.{slot-size, overhead}
 use Rattle.register.specs.declared.slot.Kept.{Kept}
 use Rattle.register.specs.Sections.{is-register}
 use Rattle.register.specs.Slots.{summary-place, kept-at}
@@ -29,7 +28,7 @@ use Rattle.register.proofs.Kept.{slot-start, kept-length, kept-atoms, kept-top,
 use Rattle.search.specs.declared.Searched.{Searched}
 use Rattle.search.specs.declared.look.Looked.{Looked}
 use Rattle.search.specs.declared.look.Looked.the-variants.{Refused, Yes, No, Skipped}
-use Rattle.search.specs.Search.{SearchOutput, search-refused, search-from, searchOf}
+use Rattle.search.specs.Search.{search-refused, search-from, searchOf}
 use Rattle.search.specs.Looking.{search-output, Zeros, LookAtPre, looked, LookAtPost, LookPre}
 use Rattle.search.proofs.Steps.{step-missing, search-goes}
 use Rattle.search.proofs.Passing.{table-cases}

@@ -9,8 +9,8 @@ use Rattle.pattern.specs.Numbers.{label-limit}
 use Rattle.pattern.specs.Bytes.{Bytes}
 use Rattle.pattern.specs.Syntax.{pattern, Syntax, top-size}
 use Rattle.pattern.specs.Decode.{decode}
-use Rattle.pattern.specs.Answers.{MatchOutput, scratch-needed, lent-fault, matchOf}
-use Rattle.summary.specs.Summary.{summary-of, summary-bytes, summary-size}
+use Rattle.pattern.specs.Answers.{scratch-needed, lent-fault, matchOf}
+use Rattle.summary.specs.Summary.{summary-of, summary-bytes}
 use Rattle.register.specs.Maps.{Map}
 use Rattle.register.specs.Layout.{registerOf}
 use Rattle.search.specs.declared.Searched.{Searched}

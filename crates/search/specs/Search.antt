@@ -1,7 +1,7 @@
 -- What a search of a register answers, and every lent byte afterwards. To be believed.
 use mathlib.Core.Bool.{Bool, true, false, cond}
 use mathlib.Core.List.{[], _∷_}
-use mathlib.Core.Option.{Option, none, some}
+use mathlib.Core.Option.{none, some}
 use Prim.Native.Nat.{ℕ, suc, _+_, _-_, _^_}
 use lib.Dec.{eqb, ltb}
 use lib.ListN.{length}

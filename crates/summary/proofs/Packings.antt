@@ -186,7 +186,8 @@ module _ (s : Bytes) (from len : ℕ) where
       packed-equal refl refl (w 0) (w 1) (w 2) (w 3) ∙ ap (λ (v : Bytes). packed-of (of-literal v)) (sym (slice-empty from s)) ∙ ap (λ k. packed-of (of-literal (slice from k s))) (sym z)
 
   -- a literal begins with its first byte
-  pub literal-some : ¬ (len ≡ 0) → from + len ≤ length s → (n : ℕ) → n ≡ min len length-cap → {a b c d : ℕ} → a ≡ word-of (eqb (getD s from 0)) 0 → b ≡ word-of (eqb (getD s from 0)) 1 → c ≡ word-of (eqb (getD s from 0)) 2 → d ≡ word-of (eqb (getD s from 0)) 3
+  pub literal-some : ¬ (len ≡ 0) → from + len ≤ length s → (n : ℕ) → n ≡ min len length-cap → {a b c d : ℕ}
+      → a ≡ word-of (eqb (getD s from 0)) 0 → b ≡ word-of (eqb (getD s from 0)) 1 → c ≡ word-of (eqb (getD s from 0)) 2 → d ≡ word-of (eqb (getD s from 0)) 3
       → _≡_ {A = Packed} (record { shortest = n; longest = n; a = a; b = b; c = c; d = d }) (packed-of (of-literal (slice from (from + len) s)))
   unfolding of-literal packed-of
   literal-some k h n e p q r z =

@@ -1,5 +1,6 @@
 -- A row after its six stores. Assumes nothing.
 use mathlib.Core.Path.{_≡_, refl, sym, ap, _∙_}
+use mathlib.Core.Logic.{_⊎_, inl, inr, ⊎-elim}
 use mathlib.Core.List.{List, [], _∷_}
 use Prim.Native.Nat.{ℕ, zero, suc, _+_, _*_, _≤_, _<_}
 use native.Mathlib.Omega.{arith}
@@ -9,21 +10,18 @@ use Rattle.summary.specs.Rows.{row-size, row, RowSet}
 use Rattle.summary.specs.declared.packed.Packed.{Packed}
 use Rattle.summary.proofs.Packings.{packed-equal}
 
--- what stands before and after what is stored
-sets-before : (vs l : List ℕ) (i j : ℕ) → j < i → getD (sets l i vs) j 0 ≡ getD l j 0
-sets-before [] l i j h = refl
-sets-before (a ∷ vs) l i j h = sets-before vs (set l i a) (suc i) j (omega arith) ∙ getD-set-other l i j a 0 (λ e. omega arith)
-
-sets-after : (vs l : List ℕ) (i j : ℕ) → i + length vs ≤ j → getD (sets l i vs) j 0 ≡ getD l j 0
-sets-after [] l i j h = refl
-sets-after (a ∷ vs) l i j h = sets-after vs (set l i a) (suc i) j (omega arith) ∙ getD-set-other l i j a 0 (λ e. omega arith)
+-- what a store doesn't reach stays
+sets-other : (vs l : List ℕ) (i j : ℕ) → (j < i) ⊎ (i + length vs ≤ j) → getD (sets l i vs) j 0 ≡ getD l j 0
+sets-other [] l i j h = refl
+sets-other (a ∷ vs) l i j h =
+    sets-other vs (set l i a) (suc i) j (⊎-elim (λ b. inl (omega arith)) (λ b. inr (omega arith)) h) ∙ getD-set-other l i j a 0 (⊎-elim (λ b e. omega arith) (λ b e. omega arith) h)
 
 -- what is stored
 sets-at : (vs l : List ℕ) (i k : ℕ) → k < length vs → i + length vs ≤ length l → getD (sets l i vs) (i + k) 0 ≡ getD vs k 0
 sets-at [] l i k h n = absurd (omega arith)
 sets-at (a ∷ vs) l i zero h n =
     let z : i + 0 ≡ i = omega arith in
-    ap (λ (j : ℕ). getD (sets (set l i a) (suc i) vs) j 0) z ∙ sets-before vs (set l i a) (suc i) i (omega arith) ∙ getD-set-same l i a 0 (omega arith)
+    ap (λ (j : ℕ). getD (sets (set l i a) (suc i) vs) j 0) z ∙ sets-other vs (set l i a) (suc i) i (inl (omega arith)) ∙ getD-set-same l i a 0 (omega arith)
 sets-at (a ∷ vs) l i (suc k) h n =
     let z : i + suc k ≡ suc i + k = omega arith in
     ap (λ (j : ℕ). getD (sets (set l i a) (suc i) vs) j 0) z ∙ sets-at vs (set l i a) (suc i) k (omega arith) (omega (arith, length-set l i a))
@@ -50,7 +48,7 @@ pub row-set : (s : List ℕ) (x : ℕ) (m : Packed) → row-size * x + row-size 
 unfolding row six
 row-set s x m h =
     let at : (k : ℕ) → k < 6 → getD (stores s x m) (6 * x + k) 0 ≡ getD (six m) k 0 = λ k l. ap (λ (z : List ℕ). getD z (6 * x + k) 0) (stores-sets s x m) ∙ sets-at (six m) s (6 * x) k l h in
-    let later : (j : ℕ) → 6 * x + 6 ≤ j → getD (stores s x m) j 0 ≡ getD s j 0 = λ j l. ap (λ (z : List ℕ). getD z j 0) (stores-sets s x m) ∙ sets-after (six m) s (6 * x) j l in
+    let later : (j : ℕ) → 6 * x + 6 ≤ j → getD (stores s x m) j 0 ≡ getD s j 0 = λ j l. ap (λ (z : List ℕ). getD z j 0) (stores-sets s x m) ∙ sets-other (six m) s (6 * x) j (inr l) in
     let z : 6 * x + 0 ≡ 6 * x = omega arith in
     let first : getD (stores s x m) (6 * x) 0 ≡ m .shortest = ap (λ (j : ℕ). getD (stores s x m) j 0) (sym z) ∙ at 0 (omega arith) in
     record {

@@ -10,7 +10,7 @@ use lib.Seq.{slice}
 use Rattle.pattern.specs.Numbers.{codes-kind}
 use Rattle.pattern.specs.Bytes.{Bytes}
 use Rattle.pattern.specs.Codes.{in-set}
-use Rattle.pattern.specs.Syntax.{pattern, atom, body, branches, Syntax, only, or, size}
+use Rattle.pattern.specs.Syntax.{pattern, atom, body, branches, Syntax, size}
 use Rattle.pattern.specs.Decode.{high-of, tree-of}
 use Rattle.pattern.proofs.RoundTrip.{some-pattern, some-atom}
 use Rattle.table.specs.declared.record.Record.{Record}

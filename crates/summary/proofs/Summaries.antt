@@ -1,5 +1,5 @@
 -- The summary of a tree is exact. Assumes nothing.
-use mathlib.Core.Path.{_≡_, refl, ap, _∙_}
+use mathlib.Core.Path.{_≡_, refl, ap}
 use mathlib.Core.Logic.{_↔_, _⊎_, inl, inr, ⊎-elim}
 use mathlib.Core.Bool.{Bool, true, false, cond, _&&_, _||_}
 use mathlib.Core.List.{[], _∷_, _++_}
@@ -7,7 +7,7 @@ use mathlib.Core.Option.{Option, none, some}
 use Prim.Native.Nat.{ℕ, zero, suc, _+_, _*_, _-_, _≤_, _<_, min, max}
 use native.Mathlib.Nat.{mul-le-mul-left, mul-le-mul-right, suc-mul, mul-zero}
 use native.Mathlib.Omega.{arith}
-use lib.Dec.{T, leb, eqb}
+use lib.Dec.{T, eqb}
 use lib.ListN.{length, length-append}
 use Rattle.pattern.specs.Bytes.{Bytes}
 use Rattle.pattern.specs.Codes.{in-set}
@@ -16,18 +16,18 @@ use Rattle.pattern.specs.Meaning.{Cut, Power, UpTo, Satisfies}
 use Rattle.pattern.specs.Decision.{any}
 use Rattle.pattern.specs.Within.{Ordered}
 use Rattle.pattern.proofs.Tests.{Decides, via, both, either, leb-decides, eqb-decides, any-decides, le-or-lt}
-use Rattle.summary.specs.Summary.{length-cap, byte-count, Summary, IsShortest, IsLongest, Exact, possible, of-class, of-literal, of-both, of-either, often, once, of-repeat, summary-of}
-use Rattle.summary.proofs.Exactness.{Same, exact-unique, same-exact, possible-decides, long, empty-decides, first-decides, first-by}
+use Rattle.summary.specs.Summary.{length-cap, byte-count, Summary, IsShortest, IsLongest, Exact, possible, of-class, of-literal, of-both, of-either, often, once, of-repeat, summary-of, summary-bytes}
+use Rattle.summary.proofs.Exactness.{Same, same-equal, exact-unique, same-exact, possible-decides, long, empty-decides, first-decides, first-by}
 use Rattle.summary.proofs.ClassBytes.{set-small}
 
 -- ---- one byte of a class
 
 module _ (f : ℕ → Bool) (small : (b : ℕ) → T (f b) → b < byte-count) where
-  One : Bytes → Type 0
-  One s = (b : ℕ) × (s ≡ b ∷ []) × T (f b)
+  OneOf : Bytes → Type 0
+  OneOf s = (b : ℕ) × (s ≡ b ∷ []) × T (f b)
 
-  class-full : (full : Bool) → Decides full ((b : ℕ) × T (f b)) → Exact One (record { shortest = cond full 1 length-cap; longest = cond full 1 0; first = f })
-  unfolding One
+  class-full : (full : Bool) → Decides full ((b : ℕ) × T (f b)) → Exact OneOf (record { shortest = cond full 1 length-cap; longest = cond full 1 0; first = f })
+  unfolding OneOf
   class-full true d =
       let (c, t) = d .sound tt in
       record {
@@ -41,7 +41,7 @@ module _ (f : ℕ → Bool) (small : (b : ℕ) → T (f b) → b < byte-count) w
     first = record { sound = λ b u. absurd (d .complete (b, u)); complete = λ b s (a, e, u). absurd (d .complete (a, u)) };
   }
 
-  class-exact : Exact One (of-class f)
+  class-exact : Exact OneOf (of-class f)
   unfolding of-class
   class-exact =
       class-full (any byte-count f)
@@ -148,6 +148,7 @@ upto-zero none low u = tt
 upto-zero (some h) low u = omega arith
 
 module _ {P : Bytes → Type 0} {m : Summary} (x : Exact P m) where
+  -- k bodies are at least k times the shortest, and at most k times the longest, as long
   power-least : (k : ℕ) (s : Bytes) → Power P k s → k * m .shortest ≤ length s
   unfolding Power Cut
   power-least zero s e = omega arith
@@ -160,7 +161,7 @@ module _ {P : Bytes → Type 0} {m : Summary} (x : Exact P m) where
   power-most (suc k) s (a, b, e, p, d) =
       omega (arith, x .longest .most a p, power-most k b d, suc-mul k (m .longest), simp length-append at (ap length e))
 
-  -- the first body that is not empty-decides
+  -- the first body that is not empty
   power-first : (k b : ℕ) (s : Bytes) → Power P k (b ∷ s) → (0 < k) × ((t : Bytes) × P (b ∷ t))
   unfolding Power Cut
   power-first zero b s e = absurd (omega (arith, ap length e))
@@ -168,10 +169,10 @@ module _ {P : Bytes → Type 0} {m : Summary} (x : Exact P m) where
   power-first (suc k) b s (a ∷ c, d, e, p, q) = (omega arith, (c, let f : b ≡ a = cc in rw f p))
 
   module _ (low : ℕ) where
-    abbrev Rep : Option ℕ → Bytes → Type 0
-    Rep high s = (k : ℕ) × (low ≤ k) × UpTo high k × Power P k s
+    abbrev Repeated : Option ℕ → Bytes → Type 0
+    Repeated high s = (k : ℕ) × (low ≤ k) × UpTo high k × Power P k s
 
-    repeat-shortest : (high : Option ℕ) → UpTo high low → IsShortest (Rep high) (min (low * m .shortest) length-cap)
+    repeat-shortest : (high : Option ℕ) → UpTo high low → IsShortest (Repeated high) (min (low * m .shortest) length-cap)
     unfolding Power
     repeat-shortest high o = record {
       capped = omega arith;
@@ -184,7 +185,7 @@ module _ {P : Bytes → Type 0} {m : Summary} (x : Exact P m) where
           (le-or-lt low 0);
     }
 
-    open-longest : (b : Bool) → Decides b (m .longest ≡ 0) → IsLongest (Rep none) (cond b 0 length-cap)
+    open-longest : (b : Bool) → Decides b (m .longest ≡ 0) → IsLongest (Repeated none) (cond b 0 length-cap)
     unfolding UpTo
     open-longest true z = record {
       capped = omega arith;
@@ -203,7 +204,7 @@ module _ {P : Bytes → Type 0} {m : Summary} (x : Exact P m) where
           (s, (k, omega arith, tt, d), omega (arith, f, mul-le-mul-left k i));
     }
 
-    repeat-longest : (high : Option ℕ) → UpTo high low → IsLongest (Rep high) (often high (m .longest))
+    repeat-longest : (high : Option ℕ) → UpTo high low → IsLongest (Repeated high) (often high (m .longest))
     unfolding often UpTo
     repeat-longest none o = open-longest (eqb (m .longest) 0) (eqb-decides (m .longest) 0)
     repeat-longest (some h) o = record {
@@ -222,7 +223,7 @@ module _ {P : Bytes → Type 0} {m : Summary} (x : Exact P m) where
     unfolding Power Cut
     ahead b s p = let (t, d, f) = copies P (b ∷ s) p (low - 1) in (s ++ t, (b ∷ s, t, refl, p, d))
 
-    repeat-first : (high : Option ℕ) → UpTo high low → (b : ℕ) → Decides (once high && m .first b) ((s : Bytes) × Rep high (b ∷ s))
+    repeat-first : (high : Option ℕ) → UpTo high low → (b : ℕ) → Decides (once high && m .first b) ((s : Bytes) × Repeated high (b ∷ s))
     unfolding once UpTo
     repeat-first none o b = via (first-decides x b) (
       λ (s, p). let (t, d) = ahead b s p in (t, (suc (low - 1), omega arith, tt, d)),
@@ -233,7 +234,7 @@ module _ {P : Bytes → Type 0} {m : Summary} (x : Exact P m) where
       λ (s, (k, l, u, d)). let (z, w) = power-first k b s d in (omega arith, w),
     )
 
-    repeat-exact : (high : Option ℕ) → UpTo high low → Exact (Rep high) (of-repeat low high m)
+    repeat-exact : (high : Option ℕ) → UpTo high low → Exact (Repeated high) (of-repeat low high m)
     unfolding of-repeat
     repeat-exact high o = record { shortest = repeat-shortest high o; longest = repeat-longest high o; first = first-by _ (repeat-first high o) }
 
@@ -241,7 +242,7 @@ module _ {P : Bytes → Type 0} {m : Summary} (x : Exact P m) where
 
 -- of every tree whose counts are ordered the summary is exact, over lists of any length
 pub exact : {s : Sort} (t : Syntax s) → Ordered t → Exact (Satisfies t) (summary-of t)
-unfolding Satisfies Ordered summary-of One
+unfolding Satisfies Ordered summary-of OneOf
 exact (last a) o = exact a o
 exact (then a p) o = both-exact (exact a (o .0)) (exact p (o .1))
 exact (repeat low high b) o = repeat-exact (exact b (o .1)) low high (o .0)
@@ -254,3 +255,7 @@ exact (or p bs) o = either-exact (exact p (o .0)) (exact bs (o .1))
 -- and what says the same is exact, and nothing else
 pub exact-exactly : {s : Sort} (t : Syntax s) → Ordered t → (m : Summary) → Exact (Satisfies t) m ↔ Same m (summary-of t)
 exact-exactly t o m = (λ x. exact-unique x (exact t o), same-exact (exact t o))
+
+-- so an exact summary has one sequence of bytes
+pub exact-bytes : {s : Sort} (t : Syntax s) → Ordered t → (m : Summary) → Exact (Satisfies t) m → summary-bytes m ≡ summary-bytes (summary-of t)
+exact-bytes t o m x = ap summary-bytes (same-equal (exact-unique x (exact t o)))

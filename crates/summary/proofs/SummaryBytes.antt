@@ -1,13 +1,13 @@
 -- The bytes that are written are those of the summary. Assumes nothing.
 use mathlib.Core.Path.{_≡_, refl, sym, ap, ap₂, _∙_}
-use mathlib.Core.Bool.{Bool, true, false, cond}
+use mathlib.Core.Bool.{Bool, cond}
 use mathlib.Core.List.{[], _∷_, _++_, append-assoc, append-nil}
 use Prim.Native.Nat.{ℕ, zero, suc, _+_, _*_, _/_, _%_, _≤_, _<_}
 use native.Mathlib.Omega.{arith}
 use lib.ListN.{length}
 use Rattle.pattern.specs.Bytes.{Bytes, le16, little, overwrite}
 use Rattle.pattern.specs.Stores.{Puts}
-use Rattle.pattern.proofs.Stores.{puts-then, puts-length, store-at-overwrite}
+use Rattle.pattern.proofs.Stores.{puts-then, store-at-overwrite}
 use Rattle.stores.proofs.Little.{length-little}
 use Rattle.summary.specs.Summary.{Summary, bits, set-bytes, summary-bytes, summary-size}
 use Rattle.summary.specs.Packing.{word-of, packed-of, packed-bytes}
@@ -33,6 +33,15 @@ set-same : (n : ℕ) (f g : ℕ → Bool) → ((b : ℕ) → f b ≡ g b) → se
 unfolding set-bytes
 set-same zero f g h = refl
 set-same (suc n) f g h = ap₂ (λ (x : ℕ) (y : Bytes). x ∷ y) (bits-same 8 f g (λ j l. h j)) (set-same n _ _ (λ b. h (8 + b)))
+
+length-set-bytes : (n : ℕ) (f : ℕ → Bool) → length (set-bytes n f) ≡ n
+unfolding set-bytes
+length-set-bytes zero f = refl
+length-set-bytes (suc n) f = ap suc (length-set-bytes n (λ b. f (8 + b)))
+
+pub length-summary-bytes : (m : Summary) → length (summary-bytes m) ≡ summary-size
+unfolding summary-bytes
+length-summary-bytes m = omega (arith, length-set-bytes 32 (m .first))
 
 -- a byte of bits, and the others
 bits-split : (n : ℕ) (f : ℕ → Bool) → let b : ℕ = bits (suc (suc (suc (suc (suc (suc (suc (suc n)))))))) f in (b % 256 ≡ bits 8 f) × (b / 256 ≡ bits n (λ j. f (8 + j)))

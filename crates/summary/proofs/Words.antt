@@ -1,12 +1,11 @@
 -- Sets of bytes as words of 64 bits. Assumes nothing.
 use mathlib.Core.Path.{_≡_, refl, sym, ap, ap₂, _∙_}
-use mathlib.Core.Bool.{Bool, true, false, cond, _&&_, _||_}
-use mathlib.Core.Logic.{⊎-elim}
+use mathlib.Core.Bool.{Bool, true, false, cond, _||_}
 use Prim.Native.Nat.{ℕ, zero, suc, _+_, _*_, _/_, _%_, _^_, _≤_, _<_, max}
 use native.Mathlib.Nat.{pow-suc, mod-eq-of-lt}
 use native.Mathlib.Omega.{arith}
 use lib.Bits.{bitOr, or-step}
-use lib.Dec.{T, leb, leb→le, eqb}
+use lib.Dec.{leb, leb→le, eqb}
 use borrow.Author.Tests.{eq-eqb, ne-eqb}
 use Rattle.pattern.proofs.Tests.{all, all-at}
 use Rattle.summary.specs.Summary.{bits}

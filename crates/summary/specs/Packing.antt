@@ -1,5 +1,5 @@
 -- A summary as the code holds it, and what is worked out of two. Private: a model for contracts inside the library.
-use mathlib.Core.Bool.{Bool, true, false, cond}
+use mathlib.Core.Bool.{Bool, cond}
 use mathlib.Core.List.{[], _++_}
 use mathlib.Core.Option.{Option}
 use Prim.Native.Nat.{ℕ, _+_, _*_, _≤_, min, max}

@@ -1,7 +1,7 @@
 -- What a summary of a set of byte strings is, when it is exact, how that of a pattern is worked out, and what it rules out. To be believed.
 use mathlib.Core.Path.{_≡_}
 use mathlib.Core.Bool.{Bool, true, false, cond, not, _&&_, _||_}
-use mathlib.Core.List.{List, [], _∷_}
+use mathlib.Core.List.{[], _∷_}
 use mathlib.Core.Option.{Option, none, some}
 use Prim.Native.Nat.{ℕ, zero, suc, _+_, _*_, _≤_, _<_, min, max}
 use lib.Dec.{T, leb, ltb, eqb}

@@ -1,7 +1,6 @@
 // The rows of a table's atoms, from the last to the first: those that an atom needs are after its own.
 ghost use mathlib.Core.Path.{_≡_};
-ghost use Prim.Native.Nat.{_+_, _*_, _≤_};
-ghost use lib.ListN.{length};
+ghost use Prim.Native.Nat.{_+_};
 ghost use Rattle.pattern.specs.Decode.{tree-of};
 ghost use Rattle.atoms.specs.Atoms.{atoms, node, head, body-of};
 ghost use Rattle.atoms.specs.Records.{GroupIn, RecordOf};

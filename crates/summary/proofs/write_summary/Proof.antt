@@ -17,7 +17,9 @@ write-requires : tie.Need-write-requires
 write-requires c κs = (packed-capped _ _ (c .before .before .before .settle-all .ensures), c .before .before .before .before .before .before .before .before .pre .outs)
 
 returns : tie.Need-returns
-returns c = c .before .before .write .ensures ∙ ap (λ (v : Bytes). overwrite v (c .before .before .before .before .before .before .before .before .before .before .before .args .out .now)) (bytes-law _ _ (c .before .before .before .before .before .before .settle-all .ensures))
+returns c =
+    let made = c .before .before .before .before .before .before in
+    c .before .before .write .ensures ∙ ap (λ (v : Bytes). overwrite v (made .before .before .before .before .before .args .out .now)) (bytes-law _ _ (made .settle-all .ensures))
 
 pub write-summary-spec : {M : Type 1} → statement M
 write-summary-spec = tie.close (tie.spec settle-all-requires write-requires (search needs) (search needs) returns)

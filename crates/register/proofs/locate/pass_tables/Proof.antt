@@ -4,7 +4,6 @@ use Prim.Native.Nat.{_-_}
 use native.Mathlib.Omega.{arith}
 use lib.ListN.{length}
 use Rattle.register.proofs.Passing.{Passing, pass-start, pass-end, pass-long, pass-bad, pass-table, slot-whole}
-use borrow.Author.Needs.{needs}
 use Rattle.register.proofs.locate.pass_tables.Statement.{statement}
 use Rattle.register.proofs.locate.pass_tables.Tie as tie
 

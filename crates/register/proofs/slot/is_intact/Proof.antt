@@ -1,6 +1,5 @@
 -- `slot::is_intact` meets its contract: no table and zeros, or a good one whose slot is the same. Assumes nothing.
-use mathlib.Core.Path.{sym, ap, _∙_}
-use native.Mathlib.Omega.{arith}
+use mathlib.Core.Path.{refl, sym, ap, _∙_}
 use lib.ListN.{length}
 use Rattle.register.proofs.Testing.{bad-table, good-table}
 use Rattle.register.proofs.Sections.{length-slot}
@@ -10,7 +9,7 @@ use Rattle.register.proofs.slot.is_intact.Statement.{statement}
 use Rattle.register.proofs.slot.is_intact.Tie as tie
 
 returns : tie.Need-returns
-returns c = intact-none _ _ _ (c .before .if1 .taken) (c .is-empty .ensures)
+returns c = intact-none _ _ _ (c .before .before .if1 .taken) (c .is-same .ensures)
 
 slot-in-requires : tie.Need-slot-in-requires
 slot-in-requires c κs =
@@ -20,25 +19,27 @@ slot-in-requires c κs =
 returns-2 : tie.Need-returns-2
 returns-2 c = intact-bad _ _ (c .before .before .before .if1 .left) (bad-table _ (sym (c .enum-told .given .1) ∙ c .before .before .test .ensures))
 
+is-same-requires-2 : tie.Need-is-same-requires-2
+is-same-requires-2 c κs = (c .before .before .before .before .before .before .before .before .before .before .before .before .before .pre .whole, ap length (c .before .before .before .slot-in .ensures) ∙ length-slot _)
+
 returns-3 : tie.Need-returns-3
 returns-3 c =
-    let after-slot = c .before .before .before .before in
-    let after-told = after-slot .before .before in
-    let own = after-slot .slot-in .ensures in
-    intact-good _ _ _ _ (after-told .before .before .before .before .before .before .before .before .pre .whole) own (good-table _ _ (sym (after-told .before .sizes .given .1) ∙ after-told .before .before .before .test .ensures)) (c .equal .ensures) (ap length own ∙ length-slot _)
+    let after-told = c .before .before .before .before .before .before in
+    intact-good _ _ _ _ (c .before .before .before .before .slot-in .ensures) (good-table _ _ (sym (after-told .before .sizes .given .1) ∙ after-told .before .before .before .test .ensures)) (c .is-same2 .ensures)
 
 pub is-intact-spec : {M : Type 1} → statement M
 is-intact-spec =
     tie.close
     (tie.spec
-    (λ c κs. c .before .before .before .before .pre .whole)
+    (search needs)
+    (λ c κs. (c .before .before .before .before .before .pre .whole, refl))
     returns
     (λ c κs. search needs)
     (search needs)
     (search needs)
     slot-in-requires
     (search needs)
-    (λ c κs. search needs)
+    is-same-requires-2
     returns-2
     (search needs)
     returns-3)

@@ -1,7 +1,7 @@
 -- `slot::slot_in` meets its contract: the numbers one after the other, and the summary. Assumes nothing.
 use mathlib.Core.Path.{refl}
 use native.Mathlib.Omega.{arith}
-use Rattle.atoms.proofs.Goods.{GoodSizes, tested-good}
+use Rattle.atoms.proofs.Goods.{tested-good}
 use Rattle.pattern.specs.Decode.{tree-of}
 use Rattle.pattern.proofs.Rooms.{top-le}
 use Rattle.register.proofs.Slots.{table-fits, summary-room, slot-written}

@@ -1,7 +1,6 @@
 -- `look::look_at` meets its contract: 13 and 14, the skip test, the match. Assumes nothing.
-use mathlib.Core.Path.{sym, ap, subst, _∙_}
+use mathlib.Core.Path.{sym, _∙_}
 use native.Mathlib.Omega.{arith}
-use Rattle.pattern.specs.Bytes.{Bytes}
 use Rattle.search.proofs.Looking.{look-tops, look-summary, look-work, look-parts, look-clear, look-fits, look-out, look-skipped, look-yes, look-no}
 use borrow.Author.Needs.{needs}
 use Rattle.search.proofs.look.look_at.Statement.{statement}

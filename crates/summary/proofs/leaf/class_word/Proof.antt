@@ -18,4 +18,18 @@ unfolding classes
 loop-again c = class-step _ _ _ _ _ (c .before .before .loop .inv) (c .before .loop-test .taken) (c .before .before .before .pre) _ _ refl (c .with .ensures)
 
 pub class-word-spec : {M : Type 1} → statement M
-class-word-spec = tie.close (tie.spec Inv-loop μ-loop (λ c. class-start _ _) (λ c. omega arith) (λ c. omega arith) (λ c. omega arith) (λ c. omega arith) (λ c κs. search needs) (λ c. omega arith) (λ c. omega arith) loop-again (λ c. class-end _ _ _ _ _ (c .before .loop .inv) (c .loop-test .left)))
+class-word-spec =
+    tie.close
+    (tie.spec
+    Inv-loop
+    μ-loop
+    (λ c. class-start _ _)
+    (λ c. omega arith)
+    (λ c. omega arith)
+    (λ c. omega arith)
+    (λ c. omega arith)
+    (λ c κs. search needs)
+    (λ c. omega arith)
+    (λ c. omega arith)
+    loop-again
+    (λ c. class-end _ _ _ _ _ (c .before .loop .inv) (c .loop-test .left)))

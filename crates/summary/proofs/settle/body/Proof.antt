@@ -1,5 +1,4 @@
 -- `settle::body` meets its contract. Assumes nothing.
-use mathlib.Core.Path.{refl}
 use borrow.Author.Needs.{needs}
 use Rattle.summary.proofs.SettledRows.{codes-packed, literal-packed}
 use Rattle.summary.proofs.settle.body.Statement.{statement}

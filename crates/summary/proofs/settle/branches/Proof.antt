@@ -1,5 +1,4 @@
 -- `settle::branches` meets its contract: the branches up to one are joined, and the others are left. Assumes nothing.
-use mathlib.Core.Path.{_∙_}
 use Prim.Native.Nat.{_-_}
 use native.Mathlib.Omega.{arith}
 use borrow.Author.Needs.{needs}
@@ -45,4 +44,20 @@ returns : tie.Need-returns Inv-loop μ-loop
 returns c = join-end (c .before .before .before .before .before .pre .0) (c .before .loop .inv) (c .loop-test .left)
 
 pub branches-spec : {M : Type 1} → statement M
-branches-spec = tie.close (tie.spec Inv-loop μ-loop add-load load-requires add-at sub-more loop-holds branch-end-requires load-requires-2 (λ c κs. search needs) (λ c. omega arith) (λ c. omega arith) loop-again returns)
+branches-spec =
+    tie.close
+    (tie.spec
+    Inv-loop
+    μ-loop
+    add-load
+    load-requires
+    add-at
+    sub-more
+    loop-holds
+    branch-end-requires
+    load-requires-2
+    (λ c κs. search needs)
+    (λ c. omega arith)
+    (λ c. omega arith)
+    loop-again
+    returns)
