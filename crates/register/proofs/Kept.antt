@@ -1,24 +1,29 @@
 -- What lies in a register under a number: its slot and its table. Assumes nothing.
-use mathlib.Core.Path.{_≡_, sym, ap, _∙_}
+use mathlib.Core.Path.{_≡_, refl, sym, ap, _∙_}
 use mathlib.Core.List.{[], _++_, append-assoc}
-use mathlib.Core.Option.{some}
+use mathlib.Core.Option.{Option, none, some}
 use Prim.Native.Nat.{ℕ, suc, _+_, _*_, _-_, _≤_, _<_}
 use native.Mathlib.Omega.{arith}
-use lib.ListN.{length, take, drop, set, length-drop}
+use lib.ListN.{length, take, drop, length-drop}
 use lib.Seq.{take-at, drop-at, drop-drop}
 use Rattle.pattern.specs.Bytes.{Bytes, le16, little, number-in}
 use Rattle.pattern.specs.Syntax.{pattern, Syntax, size, top-size}
+use Rattle.pattern.specs.Meaning.{Satisfies}
 use Rattle.pattern.specs.Decode.{decode}
 use Rattle.pattern.proofs.Rooms.{top-le}
-use Rattle.pattern.proofs.Calls.{good-limited}
+use Rattle.pattern.proofs.Calls.{good-ordered, good-limited}
 use Rattle.stores.proofs.Little.{length-little, number-field, number-little}
-use Rattle.summary.specs.Summary.{summary-of, summary-bytes, summary-size}
+use Rattle.summary.specs.Summary.{Summary, Exact, summary-of, summary-bytes, summary-size}
+use Rattle.summary.proofs.Summaries.{exact-bytes}
 use Rattle.summary.proofs.SummaryBytes.{length-summary-bytes}
-use Rattle.register.specs.Maps.{numbers, Map, table-of, tables, total}
-use Rattle.register.specs.Layout.{preamble-size, length-size, entry, slot-size, slot, directory-size, directory, overhead, registerOf}
+use Rattle.register.specs.Maps.{numbers, Map, table-of, tables, total, Changed}
+use Rattle.register.specs.Layout.{preamble-size, length-size, entry, slot-size, slot, directory-size, directory, overhead, capacity, registerOf}
+use Rattle.register.specs.Register.{storeOf, removeOf}
 use Rattle.register.specs.Slots.{atoms-place, top-place, summary-place, kept-at}
 use Rattle.register.proofs.Maps.{allowed-short, others-stay, total-suc, total-split}
 use Rattle.register.proofs.Sections.{length-slot}
+use Rattle.register.proofs.Cases.{store-cases, remove-cases}
+use Rattle.register.proofs.Registers.{store-refused, remove-refused, store-follows, remove-follows}
 use Rattle.register.proofs.Meaning.{SectionIs, section-meant, found-split, found-is}
 use Rattle.register.proofs.Putting.{directory-split, slot-place, old-is}
 
@@ -96,7 +101,35 @@ module _ (lent : Bytes) (m : Map) (e : registerOf lent ≡ some m) where
     pub table-within : overhead + total (take (suc k) m) ≤ length lent
     table-within = omega (arith, total-suc m k there, total-split m k there, whole .within, length-drop preamble-size lent)
 
--- "Changing one pattern keeps all other summaries": the slot of every other number is as it was
-pub others-keep : (lent after : Bytes) (m : Map) (k j : ℕ) (t : Bytes) → registerOf lent ≡ some m → registerOf after ≡ some (set m k t) → j < numbers → (j ≡ k → ⊥)
+-- "A wrong summary ... is 18": a register has the bytes of the one summary that is exact
+pub summary-exact : (lent : Bytes) (m : Map) → registerOf lent ≡ some m → (k : ℕ) → k < numbers → (p : Syntax pattern) → decode (table-of m k) ≡ some p → (u : Summary) → Exact (Satisfies p) u
+    → take summary-size (drop (slot-start k + summary-place) lent) ≡ summary-bytes u
+summary-exact lent m e k small p d u x =
+    summary-is lent m e k small p d ∙ sym (exact-bytes p (good-ordered 0 p (good-limited (table-of m k) p d .tree)) u x)
+
+-- ---- "Changing one pattern keeps all other summaries"
+
+-- where a number's table is the same, its slot is
+slots-same : (lent after : Bytes) (m n : Map) (j : ℕ) → registerOf lent ≡ some m → registerOf after ≡ some n → j < numbers → table-of n j ≡ table-of m j
     → take slot-size (drop (slot-start j) after) ≡ take slot-size (drop (slot-start j) lent)
-others-keep lent after m k j t e f small n = slot-is after (set m k t) f j small ∙ ap slot (others-stay m k j t n) ∙ sym (slot-is lent m e j small)
+slots-same lent after m n j e f small h = slot-is after n f j small ∙ ap slot h ∙ sym (slot-is lent m e j small)
+
+-- whatever the lent bytes are, and refused or not
+module _ (lent : Bytes) (k j : ℕ) (small : j < numbers) (other : j ≡ k → ⊥) where
+  pub store-keeps : (t : Bytes) → take slot-size (drop (slot-start j) (storeOf lent k t .after)) ≡ take slot-size (drop (slot-start j) lent)
+  store-keeps t = go (registerOf lent) refl
+    where
+      go : (o : Option Map) → registerOf lent ≡ o → take slot-size (drop (slot-start j) (storeOf lent k t .after)) ≡ take slot-size (drop (slot-start j) lent)
+      go none e = ap (λ (c : Changed Bytes). take slot-size (drop (slot-start j) (c .after))) (store-refused lent e k t)
+      go (some m) e =
+          slots-same lent (storeOf lent k t .after) m _ j e (store-follows lent m e k t .means) small
+          (store-cases (capacity lent) m k t (λ c. table-of (c .after) j ≡ table-of m j) (λ g. refl) (λ g r. refl) (λ g r. others-stay m k j t other))
+
+  pub remove-keeps : take slot-size (drop (slot-start j) (removeOf lent k .after)) ≡ take slot-size (drop (slot-start j) lent)
+  remove-keeps = go (registerOf lent) refl
+    where
+      go : (o : Option Map) → registerOf lent ≡ o → take slot-size (drop (slot-start j) (removeOf lent k .after)) ≡ take slot-size (drop (slot-start j) lent)
+      go none e = ap (λ (c : Changed Bytes). take slot-size (drop (slot-start j) (c .after))) (remove-refused lent e k)
+      go (some m) e =
+          slots-same lent (removeOf lent k .after) m _ j e (remove-follows lent m e k .means) small
+          (remove-cases m k (λ c. table-of (c .after) j ≡ table-of m j) (λ n. refl) (λ n. others-stay m k j [] other))
