@@ -2,7 +2,6 @@
 use mathlib.Core.Path.{_≡_, sym, ap}
 use mathlib.Core.Option.{Option, none, some}
 use Prim.Native.Nat.{ℕ, _+_, _*_, _≤_, _<_}
-use native.Mathlib.Nat.{mul-le-mul}
 use native.Mathlib.Omega.{arith}
 use borrow.Author.Tests.{lt-ltb, le-ltb}
 use lib.ListN.{length}
@@ -38,17 +37,6 @@ module _ (table : Bytes) where
 
     pub few-tops : s .top ≤ atom-limit
     few-tops = omega (arith, told .top-is, told .few, top-le (tree-of table))
-
-    -- the scratch bytes are few enough to count
-    module _ (n : ℕ) (h : n ≤ label-limit) where
-      pub rows-few : (2 * s .atoms + 4) * (n + 1) ≤ (2 * atom-limit + 4) * (label-limit + 1)
-      rows-few =
-          let a : 2 * s .atoms + 4 ≤ 2 * atom-limit + 4 = omega (arith, few-atoms) in
-          let b : n + 1 ≤ label-limit + 1 = omega arith in
-          mul-le-mul a b
-
-      pub bytes-few : (2 * s .atoms + 4) * (n + 1) * (n + 1) ≤ (2 * atom-limit + 4) * (label-limit + 1) * (label-limit + 1)
-      bytes-few = let b : n + 1 ≤ label-limit + 1 = omega arith in mul-le-mul rows-few b
 
     module _ (label scratch parts : Bytes) (budget : ℕ) where
       faulted : (o : Option ℕ) → lent-fault (tree-of table) label scratch parts ≡ o

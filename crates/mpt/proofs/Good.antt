@@ -13,7 +13,7 @@ use Rattle.register.specs.Layout.{registerOf}
 use Rattle.register.specs.Register.{initOf, storeOf, removeOf}
 use Rattle.register.specs.Turns.{init, store, remove, response-number, register-step}
 use Rattle.register.proofs.Turns.{good-after, refused-leaves}
-use Rattle.mpt.specs.Area.{area-size, report}
+use Rattle.mpt.specs.Area.{area-size, area}
 use Rattle.mpt.specs.Calls.{Called, called-if, called, change-call, init-call, store-call, remove-call}
 
 -- not refused with 9 or 18, the register means a map
@@ -24,7 +24,7 @@ change-good : (c : Changed Bytes) (lent answer : Bytes) → (¬ (c .number ≡ R
 unfolding change-call called called-if
 change-good c lent answer good = go (leb area-size (length answer))
   where
-    go : (b : Bool) → LeavesGood (called-if b (report (refusal (c .number) 0)) (c .after) lent answer)
+    go : (b : Bool) → LeavesGood (called-if b (c .number) (area (refusal (c .number) 0)) (c .after) lent answer)
     go true not-9 not-18 = good not-18
     go false not-9 not-18 = absurd (not-9 refl)
 
@@ -36,7 +36,7 @@ change-same : (c : Changed Bytes) (lent answer : Bytes) → (¬ (c .number ≡ 0
 unfolding change-call called called-if
 change-same c lent answer same = go (leb area-size (length answer))
   where
-    go : (b : Bool) → RefusalLeaves lent (called-if b (report (refusal (c .number) 0)) (c .after) lent answer)
+    go : (b : Bool) → RefusalLeaves lent (called-if b (c .number) (area (refusal (c .number) 0)) (c .after) lent answer)
     go true n = same n
     go false n = refl
 

@@ -3,6 +3,7 @@ mod area;
 
 use crate::area::AREA_SIZE;
 use crate::area::put_answer;
+use crate::area::put_numbers;
 use batch::match_batch;
 use compiler::Compiled;
 use compiler::compile;
@@ -27,11 +28,11 @@ pub extern "C" fn mpt_compile(source: &[u8], table: &mut [u8], answer: &mut [u8]
     }
     match compile(source, table) {
         Compiled::Table(length) => {
-            put_answer(answer, 0, length as u64, 0, 0);
+            put_answer(answer, 0, length as u64, 0);
             0
         }
         Compiled::Refused(number, position) => {
-            put_answer(answer, position as u64, 0, 0, 0);
+            put_answer(answer, position as u64, 0, 0);
             number
         }
     }
@@ -46,15 +47,15 @@ pub extern "C" fn mpt_write_back(table: &[u8], source: &mut [u8], answer: &mut [
     }
     match write_back(table, source) {
         Written::Length(length) => {
-            put_answer(answer, 0, length as u64, 0, 0);
+            put_answer(answer, 0, length as u64, 0);
             0
         }
         Written::Room => {
-            put_answer(answer, 0, 0, 0, 0);
+            put_answer(answer, 0, 0, 0);
             refusal::ROOM
         }
         Written::Table => {
-            put_answer(answer, 0, 0, 0, 0);
+            put_answer(answer, 0, 0, 0);
             refusal::TABLE
         }
     }
@@ -75,7 +76,7 @@ pub extern "C" fn mpt_match(
         return refusal::ANSWER;
     }
     let a = match_label(table, label, scratch, parts, budget).numbers(budget);
-    put_answer(answer, 0, a.value, a.trials, 0);
+    put_answer(answer, 0, a.value, a.trials);
     a.number
 }
 
@@ -96,7 +97,7 @@ pub extern "C" fn mpt_match_batch(
         return refusal::ANSWER;
     }
     let number = match_batch(table, labels, ends, scratch, verdicts, parts, budget);
-    put_answer(answer, 0, 0, 0, 0);
+    put_answer(answer, 0, 0, 0);
     number
 }
 
@@ -108,7 +109,7 @@ pub extern "C" fn mpt_register_init(reg: &mut [u8], answer: &mut [u8]) -> u32
         return refusal::ANSWER;
     }
     let refused = init(reg);
-    put_answer(answer, 0, 0, 0, 0);
+    put_answer(answer, 0, 0, 0);
     refused
 }
 
@@ -125,7 +126,7 @@ pub extern "C" fn mpt_register_store(
         return refusal::ANSWER;
     }
     let refused = store(reg, number, table);
-    put_answer(answer, 0, 0, 0, 0);
+    put_answer(answer, 0, 0, 0);
     refused
 }
 
@@ -137,7 +138,7 @@ pub extern "C" fn mpt_register_remove(reg: &mut [u8], number: u8, answer: &mut [
         return refusal::ANSWER;
     }
     let refused = remove(reg, number);
-    put_answer(answer, 0, 0, 0, 0);
+    put_answer(answer, 0, 0, 0);
     refused
 }
 
@@ -157,7 +158,7 @@ pub extern "C" fn mpt_register_match(
         return refusal::ANSWER;
     }
     let matched = match_number(reg, number, label, scratch, parts, budget);
-    put_answer(answer, 0, matched.value, matched.trials, 0);
+    put_answer(answer, 0, matched.value, matched.trials);
     matched.number
 }
 
@@ -175,6 +176,6 @@ pub extern "C" fn mpt_register_search(
         return refusal::ANSWER;
     }
     let searched = search(reg, label, scratch, parts);
-    put_answer(answer, 0, searched.verdict, searched.at, searched.skipped);
+    put_numbers(answer, 0, searched.verdict, searched.at, searched.skipped);
     searched.number
 }

@@ -80,11 +80,22 @@ module _ (source : Bytes) (t : Syntax pattern) (good : outcome source ≡ accept
 pub parts-fit : (table : Bytes) (t : Syntax pattern) → decode table ≡ some t → 2 * top-size t ≤ parts-room
 parts-fit table t good = omega (arith, good-limited table t good .atoms, top-le t)
 
+-- the scratch bytes of so many atoms and a label within the limit are few enough to count
+module _ (a n : ℕ) (few : a ≤ atom-limit) (short : n ≤ label-limit) where
+  doubled-few : 2 * a + 4 ≤ 2 * atom-limit + 4
+  doubled-few = omega arith
+
+  length-few : n + 1 ≤ label-limit + 1
+  length-few = omega arith
+
+  pub rows-few : (2 * a + 4) * (n + 1) ≤ (2 * atom-limit + 4) * (label-limit + 1)
+  rows-few = mul-le-mul doubled-few length-few
+
+  pub bytes-few : (2 * a + 4) * (n + 1) * (n + 1) ≤ (2 * atom-limit + 4) * (label-limit + 1) * (label-limit + 1)
+  bytes-few = mul-le-mul rows-few length-few
+
 pub scratch-fits : (table : Bytes) (t : Syntax pattern) (n : ℕ) → decode table ≡ some t → n ≤ label-limit → scratch-needed t n ≤ 33_816_576
-scratch-fits table t n good short =
-    let a : 2 * size t + 4 ≤ 2 * atom-limit + 4 = omega (arith, good-limited table t good .atoms) in
-    let b : n + 1 ≤ label-limit + 1 = omega arith in
-    mul-le-mul (mul-le-mul a b) b
+scratch-fits table t n good short = bytes-few (size t) n (good-limited table t good .atoms) short
 
 -- the source of a good table
 pub source-fits : (table : Bytes) (t : Syntax pattern) → decode table ≡ some t → length (print t) ≤ source-limit

@@ -8,24 +8,20 @@ use borrow.Author.Tests.{ne-eqb}
 use borrow.Rule.Slice.PartMut.{putMid}
 use lib.ListN.{length, take, drop, replicate, drop-of-length-le, length-drop}
 use lib.Seq.{length-take-le, take-add, take-at, take-all, drop-at}
-use Rattle.pattern.specs.Versions.{table-room}
 use Rattle.pattern.specs.Bytes.{Bytes, equal, le16, little, number-in, overwrite}
 use Rattle.pattern.specs.Stores.{store-at}
-use Rattle.pattern.specs.Decode.{tree-of, decode}
+use Rattle.pattern.specs.Decode.{tree-of}
 use Rattle.pattern.proofs.Agree.{equal-decides}
 use Rattle.pattern.proofs.Tests.{true-T, passed}
 use Rattle.pattern.proofs.Stores.{store-at-then, store-at-overwrite}
 use Rattle.stores.proofs.Little.{Octets, octets-take, octets-drop, little-number}
 use Rattle.table.specs.declared.Sizes.{Sizes}
-use Rattle.table.specs.declared.Tested.the-variants.{Good}
-use Rattle.table.specs.Tested.{tested}
 use Rattle.summary.specs.Summary.{summary-of, summary-bytes, summary-size}
 use Rattle.summary.proofs.SummaryBytes.{length-summary-bytes}
 use Rattle.atoms.proofs.Goods.{GoodSizes}
 use Rattle.register.specs.Maps.{is-table}
 use Rattle.register.specs.Layout.{length-size, entry, slot-size, slot, allowed}
-use Rattle.register.proofs.Maps.{allowed-short, table-allowed}
-use Rattle.register.proofs.Testing.{good-table}
+use Rattle.register.proofs.Maps.{table-allowed}
 use Rattle.register.proofs.Sections.{slot-none}
 
 -- ---- two slots
@@ -90,10 +86,6 @@ module _ (bytes table : Bytes) where
   intact-good r own o g e = e ∙ rw (o, table-allowed table g)
 
 -- ---- the slot of a good table
-
--- its length has room in four bytes
-pub table-fits : (table : Bytes) (s : Sizes) → Good s ≡ tested (decode table) → length table ≤ table-room
-table-fits table s e = allowed-short table (table-allowed table (good-table table s e))
 
 pub summary-room : (l : Bytes) → length l ≡ slot-size → summary-size ≤ length (take summary-size (drop 8 l))
 summary-room l h = omega (arith, length-take-le summary-size (drop 8 l) (omega (arith, length-drop 8 l)))

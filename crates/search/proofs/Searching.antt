@@ -5,17 +5,15 @@ use mathlib.Core.Bool.{true, false}
 use mathlib.Core.List.{[], _∷_}
 use mathlib.Core.Option.{Option, none, some}
 use Prim.Native.Nat.{ℕ, suc, _+_, _*_, _-_, _≤_, _<_, max}
-use native.Mathlib.Nat.{mul-le-mul}
 use native.Mathlib.Omega.{arith}
 use lib.Dec.{T}
 use lib.ListN.{length, take, drop, drop-of-length-le}
 use lib.Seq.{drop-cons}
-use Rattle.pattern.specs.Numbers.{atom-limit, label-limit}
+use Rattle.pattern.specs.Numbers.{atom-limit}
 use Rattle.pattern.specs.Bytes.{Bytes}
 use Rattle.pattern.specs.Syntax.{pattern, Syntax}
 use Rattle.pattern.specs.Decode.{decode}
 use Rattle.pattern.proofs.Calls.{good-limited}
-use Rattle.pattern.proofs.Rooms.{top-le}
 use Rattle.summary.specs.Summary.{summary-size}
 use Rattle.register.specs.Maps.{numbers, Map, table-of, tables, total}
 use Rattle.register.specs.Layout.{slot-size, overhead}
@@ -125,20 +123,8 @@ module _ {lent label scratch₀ parts₀ scratch parts : Bytes} {k at skipped cl
         tree : (p : Syntax pattern) × (decode table ≡ some p)
         tree = ⊎-elim (λ z. absurd (present (omega (arith, length-told, z)))) (λ x. x) (table-cases table (meant lent map (w .start .means) .proper .each k))
 
-        few-atoms : r .atoms ≤ atom-limit
+        pub few-atoms : r .atoms ≤ atom-limit
         few-atoms = let (p, d) = tree in omega (arith, ap (λ (x : Kept). x .atoms) told, kept-atoms lent map (w .start .means) k small p d, good-limited table p d .atoms)
-
-        pub few-tops : r .top ≤ atom-limit
-        few-tops = let (p, d) = tree in omega (arith, ap (λ (x : Kept). x .top) told, kept-top lent map (w .start .means) k small p d, top-le p, good-limited table p d .atoms)
-
-        pub doubled-few : 2 * r .atoms + 4 ≤ 2 * atom-limit + 4
-        doubled-few = omega (arith, few-atoms)
-
-        pub rows-few : (2 * r .atoms + 4) * (length label + 1) ≤ (2 * atom-limit + 4) * (label-limit + 1)
-        rows-few = let b : length label + 1 ≤ label-limit + 1 = omega (arith, w .start .short) in mul-le-mul doubled-few b
-
-        pub bytes-few : (2 * r .atoms + 4) * (length label + 1) * (length label + 1) ≤ (2 * atom-limit + 4) * (label-limit + 1) * (label-limit + 1)
-        bytes-few = let b : length label + 1 ≤ label-limit + 1 = omega (arith, w .start .short) in mul-le-mul rows-few b
 
         abbrev needed : ℕ
         needed = (2 * r .atoms + 4) * (length label + 1) * (length label + 1)

@@ -12,7 +12,7 @@ use Rattle.pattern.proofs.Stores.{length-store-at, store-at-none, store-at-one,
 use Rattle.pattern.proofs.Pairs.{drop-one}
 
 -- a byte that a store doesn't reach stays
-elsewhere : (l : Bytes) (i : ℕ) (v : Bytes) (j : ℕ) → (j < i) ⊎ (i + length v ≤ j) → getD (store-at l i v) j 0 ≡ getD l j 0
+pub elsewhere : (l : Bytes) (i : ℕ) (v : Bytes) (j : ℕ) → (j < i) ⊎ (i + length v ≤ j) → getD (store-at l i v) j 0 ≡ getD l j 0
 unfolding store-at
 elsewhere l i v j = go v l i
   where

@@ -1,27 +1,24 @@
 -- A row after its six stores. Assumes nothing.
-use mathlib.Core.Path.{_≡_, refl, sym, ap, _∙_}
-use mathlib.Core.Logic.{_⊎_, inl, inr, ⊎-elim}
+use mathlib.Core.Path.{_≡_, sym, ap, _∙_}
+use mathlib.Core.Logic.{inl, inr}
 use mathlib.Core.List.{List, [], _∷_}
 use Prim.Native.Nat.{ℕ, zero, suc, _+_, _*_, _≤_, _<_}
 use native.Mathlib.Omega.{arith}
 use lib.ListN.{length, getD, set, length-set}
-use lib.Seq.{sets, getD-set-same, getD-set-other}
+use lib.Seq.{sets, getD-set-same}
+use Rattle.pattern.specs.Stores.{store-at}
+use Rattle.stores.proofs.Moving.{elsewhere}
 use Rattle.summary.specs.Rows.{row-size, row, RowSet}
 use Rattle.summary.specs.declared.packed.Packed.{Packed}
 use Rattle.summary.proofs.Packings.{packed-equal}
 
--- what a store doesn't reach stays
-sets-other : (vs l : List ℕ) (i j : ℕ) → (j < i) ⊎ (i + length vs ≤ j) → getD (sets l i vs) j 0 ≡ getD l j 0
-sets-other [] l i j h = refl
-sets-other (a ∷ vs) l i j h =
-    sets-other vs (set l i a) (suc i) j (⊎-elim (λ b. inl (omega arith)) (λ b. inr (omega arith)) h) ∙ getD-set-other l i j a 0 (⊎-elim (λ b e. omega arith) (λ b e. omega arith) h)
-
 -- what is stored
 sets-at : (vs l : List ℕ) (i k : ℕ) → k < length vs → i + length vs ≤ length l → getD (sets l i vs) (i + k) 0 ≡ getD vs k 0
+unfolding store-at
 sets-at [] l i k h n = absurd (omega arith)
 sets-at (a ∷ vs) l i zero h n =
     let z : i + 0 ≡ i = omega arith in
-    ap (λ (j : ℕ). getD (sets (set l i a) (suc i) vs) j 0) z ∙ sets-other vs (set l i a) (suc i) i (inl (omega arith)) ∙ getD-set-same l i a 0 (omega arith)
+    ap (λ (j : ℕ). getD (sets (set l i a) (suc i) vs) j 0) z ∙ elsewhere (set l i a) (suc i) vs i (inl (omega arith)) ∙ getD-set-same l i a 0 (omega arith)
 sets-at (a ∷ vs) l i (suc k) h n =
     let z : i + suc k ≡ suc i + k = omega arith in
     ap (λ (j : ℕ). getD (sets (set l i a) (suc i) vs) j 0) z ∙ sets-at vs (set l i a) (suc i) k (omega arith) (omega (arith, length-set l i a))
@@ -45,10 +42,10 @@ stores-sets s x m =
     rw (e1, e2, e3, e4, e5)
 
 pub row-set : (s : List ℕ) (x : ℕ) (m : Packed) → row-size * x + row-size ≤ length s → RowSet s (stores s x m) x m
-unfolding row six
+unfolding row six store-at
 row-set s x m h =
     let at : (k : ℕ) → k < 6 → getD (stores s x m) (6 * x + k) 0 ≡ getD (six m) k 0 = λ k l. ap (λ (z : List ℕ). getD z (6 * x + k) 0) (stores-sets s x m) ∙ sets-at (six m) s (6 * x) k l h in
-    let later : (j : ℕ) → 6 * x + 6 ≤ j → getD (stores s x m) j 0 ≡ getD s j 0 = λ j l. ap (λ (z : List ℕ). getD z j 0) (stores-sets s x m) ∙ sets-other (six m) s (6 * x) j (inr l) in
+    let later : (j : ℕ) → 6 * x + 6 ≤ j → getD (stores s x m) j 0 ≡ getD s j 0 = λ j l. ap (λ (z : List ℕ). getD z j 0) (stores-sets s x m) ∙ elsewhere s (6 * x) (six m) j (inr l) in
     let z : 6 * x + 0 ≡ 6 * x = omega arith in
     let first : getD (stores s x m) (6 * x) 0 ≡ m .shortest = ap (λ (j : ℕ). getD (stores s x m) j 0) (sym z) ∙ at 0 (omega arith) in
     record {

@@ -2,24 +2,22 @@
 use mathlib.Core.Path.{_≡_, refl, sym, subst, _∙_}
 use mathlib.Core.Logic.{_⊎_, ⊎-elim}
 use mathlib.Core.Bool.{Bool, true, false, not}
-use mathlib.Core.List.{List, [], _∷_}
-use mathlib.Core.Option.{Option, none, some}
+use mathlib.Core.List.{[], _∷_}
+use mathlib.Core.Option.{none, some}
 use Prim.Native.Nat.{ℕ, _≤_}
 use native.Mathlib.Omega.{arith}
 use borrow.Author.Tests.{le-ltb}
 use lib.Dec.{T}
 use lib.ListN.{length}
-use lib.Seq.{take-length}
 use Rattle.pattern.specs.Numbers.{label-limit}
 use Rattle.pattern.specs.Bytes.{Bytes}
 use Rattle.pattern.specs.Syntax.{Sort, pattern, Syntax}
 use Rattle.pattern.specs.Meaning.{Satisfies}
-use Rattle.pattern.specs.Parts.{IsVerdict, verdict}
+use Rattle.pattern.specs.Parts.{verdict}
 use Rattle.pattern.specs.Within.{Ordered}
 use Rattle.pattern.specs.Decode.{decode}
 use Rattle.pattern.proofs.Tests.{le-or-lt}
-use Rattle.pattern.proofs.Longest.{partition-satisfies}
-use Rattle.pattern.proofs.Calls.{good-ordered, good-limited, print-compiles, verdict-right}
+use Rattle.pattern.proofs.Calls.{unsatisfied-no, good-ordered, good-limited, print-compiles}
 use Rattle.summary.specs.Summary.{length-cap, Summary, Exact, summary-of, length-out, first-out, rules-out}
 use Rattle.summary.proofs.Summaries.{exact}
 use Rattle.summary.proofs.ByteStrings.{AllBytes, byte-strings}
@@ -75,11 +73,4 @@ module _ (table : Bytes) (t : Syntax pattern) (good : decode table ≡ some t) w
 
   -- a call for a label that is ruled out would have answered no
   pub ruled-out-verdict : (l : Bytes) → length l ≤ label-limit → rules-out (summary-of t) l ≡ true → verdict l t ≡ none
-  unfolding IsVerdict
-  ruled-out-verdict l h r = go (verdict l t) (verdict-right table t good l)
-    where
-      go : (v : Option (List ℕ)) → IsVerdict l t v → v ≡ none
-      go none w = refl
-      go (some ends) w =
-          let p : Satisfies t l = rw take-length at (partition-satisfies l t 0 ends (w .0)) in
-          absurd (subst T (sym r ∙ table-never-ruled-out l h p) tt)
+  ruled-out-verdict l h r = unsatisfied-no table t good l (λ p. subst T (sym r ∙ table-never-ruled-out l h p) tt)

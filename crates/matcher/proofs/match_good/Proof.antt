@@ -1,7 +1,8 @@
 -- `matcher::match_good` meets its contract: the refusals in order, and then the match. Assumes nothing.
 use mathlib.Core.Path.{_∙_}
 use native.Mathlib.Omega.{arith}
-use Rattle.matcher.proofs.Refusals.{few-atoms, few-tops, rows-few, bytes-few, long-label, little-work, few-parts, all-lent, no-fault}
+use Rattle.pattern.proofs.Rooms.{rows-few, bytes-few}
+use Rattle.matcher.proofs.Refusals.{few-atoms, few-tops, long-label, little-work, few-parts, all-lent, no-fault}
 use Rattle.matcher.proofs.match_good.Statement.{statement}
 use Rattle.matcher.proofs.match_good.Tie as tie
 
@@ -15,10 +16,10 @@ add-if2 : tie.Need-add-if2
 add-if2 c = omega (arith, few-atoms _ _ (c .before .before .before .before .before .pre))
 
 mul-if2-2 : tie.Need-mul-if2-2
-mul-if2-2 c = omega (arith, rows-few _ _ (c .before .before .before .before .before .pre) _ (c .if1 .left))
+mul-if2-2 c = omega (arith, rows-few _ _ (few-atoms _ _ (c .before .before .before .before .before .pre)) (c .if1 .left))
 
 mul-if2-3 : tie.Need-mul-if2-3
-mul-if2-3 c = omega (arith, bytes-few _ _ (c .before .before .before .before .before .pre) _ (c .if1 .left))
+mul-if2-3 c = omega (arith, bytes-few _ _ (few-atoms _ _ (c .before .before .before .before .before .pre)) (c .if1 .left))
 
 returns-2 : tie.Need-returns-2
 returns-2 c = little-work _ _ (c .before .before .before .before .before .before .pre) _ _ _ _ (c .before .if1 .left) (c .if2 .taken)

@@ -2,9 +2,10 @@
 use mathlib.Core.Path.{_∙_}
 use Prim.Native.Nat.{_-_}
 use native.Mathlib.Omega.{arith}
+use Rattle.pattern.proofs.Rooms.{rows-few, bytes-few}
 use Rattle.register.specs.Maps.{numbers}
 use Rattle.search.specs.Search.{search-refused}
-use Rattle.search.proofs.Searching.{same-answer, Searching, search-start, search-end, slot-within, end-within, search-missing, doubled-few, rows-few, bytes-few, look-pre, search-stopped, search-found, search-passed, search-skipped}
+use Rattle.search.proofs.Searching.{same-answer, Searching, search-start, search-end, slot-within, end-within, search-missing, few-atoms, look-pre, search-stopped, search-found, search-passed, search-skipped}
 use borrow.Author.Needs.{needs}
 use Rattle.search.proofs.search_numbers.Statement.{statement}
 use Rattle.search.proofs.search_numbers.Tie as tie
@@ -22,16 +23,16 @@ loop-again : tie.Need-loop-again Inv-loop μ-loop
 loop-again c = search-missing (c .before .before .before .before .loop .inv) (c .before .before .before .loop-test .taken) _ (c .before .before .kept-at .ensures) (c .if1 .taken)
 
 mul-needed : tie.Need-mul-needed Inv-loop μ-loop
-mul-needed c = omega (arith, doubled-few (c .before .before .before .before .before .loop .inv) (c .before .before .before .before .loop-test .taken) _ (c .before .before .before .kept-at .ensures) (c .before .if1 .left))
+mul-needed c = omega (arith, few-atoms (c .before .before .before .before .before .loop .inv) (c .before .before .before .before .loop-test .taken) _ (c .before .before .before .kept-at .ensures) (c .before .if1 .left))
 
 add-needed : tie.Need-add-needed Inv-loop μ-loop
-add-needed c = omega (arith, doubled-few (c .before .before .before .before .before .loop .inv) (c .before .before .before .before .loop-test .taken) _ (c .before .before .before .kept-at .ensures) (c .before .if1 .left))
+add-needed c = omega (arith, few-atoms (c .before .before .before .before .before .loop .inv) (c .before .before .before .before .loop-test .taken) _ (c .before .before .before .kept-at .ensures) (c .before .if1 .left))
 
 mul-needed-2 : tie.Need-mul-needed-2 Inv-loop μ-loop
-mul-needed-2 c = omega (arith, rows-few (c .before .before .before .before .before .loop .inv) (c .before .before .before .before .loop-test .taken) _ (c .before .before .before .kept-at .ensures) (c .before .if1 .left))
+mul-needed-2 c = omega (arith, rows-few _ _ (few-atoms (c .before .before .before .before .before .loop .inv) (c .before .before .before .before .loop-test .taken) _ (c .before .before .before .kept-at .ensures) (c .before .if1 .left)) (c .before .before .before .before .before .loop .inv .start .short))
 
 mul-needed-3 : tie.Need-mul-needed-3 Inv-loop μ-loop
-mul-needed-3 c = omega (arith, bytes-few (c .before .before .before .before .before .loop .inv) (c .before .before .before .before .loop-test .taken) _ (c .before .before .before .kept-at .ensures) (c .before .if1 .left))
+mul-needed-3 c = omega (arith, bytes-few _ _ (few-atoms (c .before .before .before .before .before .loop .inv) (c .before .before .before .before .loop-test .taken) _ (c .before .before .before .kept-at .ensures) (c .before .if1 .left)) (c .before .before .before .before .before .loop .inv .start .short))
 
 part-summary-start : tie.Need-part-summary-start Inv-loop μ-loop
 part-summary-start c = omega (arith, slot-within (c .before .before .before .before .before .loop .inv) (c .before .before .before .before .loop-test .taken))

@@ -3,14 +3,14 @@ use mathlib.Core.Path.{refl}
 use native.Mathlib.Omega.{arith}
 use Rattle.atoms.proofs.Goods.{tested-good}
 use Rattle.pattern.specs.Decode.{tree-of}
-use Rattle.pattern.proofs.Rooms.{top-le}
-use Rattle.register.proofs.Slots.{table-fits, summary-room, slot-written}
+use Rattle.pattern.proofs.Rooms.{top-le, good-fits}
+use Rattle.register.proofs.Slots.{summary-room, slot-written}
 use borrow.Author.Needs.{needs}
 use Rattle.register.proofs.slot.slot_in.Statement.{statement}
 use Rattle.register.proofs.slot.slot_in.Tie as tie
 
 cast-put32 : tie.Need-cast-put32
-cast-put32 c = omega (arith, table-fits _ _ (c .before .before .before .pre .good))
+cast-put32 c = omega (arith, good-fits _ _ (tested-good _ _ (c .before .before .before .pre .good) .good .decoded))
 
 cast-put16 : tie.Need-cast-put16
 cast-put16 c = let g = tested-good _ _ (c .before .before .before .before .before .before .pre .good) in omega (arith, g .atoms-is, g .few)
