@@ -5,4 +5,4 @@ pub mod InTurn
 pub mod Searches
 pub mod Examples
 pub mod Looking
-pub mod Searching
+pub mod Underway

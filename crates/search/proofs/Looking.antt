@@ -2,9 +2,9 @@
 use mathlib.Core.Path.{_≡_, refl, sym, ap, subst, _∙_}
 use mathlib.Core.Logic.{⊎-elim}
 use mathlib.Core.Bool.{Bool, true, false, cond}
-use mathlib.Core.List.{List, [], _++_, append-assoc, append-nil}
+use mathlib.Core.List.{List, [], _∷_, _++_, append-assoc, append-nil}
 use mathlib.Core.Option.{Option, none, some}
-use Prim.Native.Nat.{ℕ, _+_, _*_, _-_, _≤_, _<_, max}
+use Prim.Native.Nat.{ℕ, suc, _+_, _*_, _-_, _≤_, _<_, max}
 use native.Mathlib.Omega.{arith}
 use borrow.Rule.Slice.PartMut.{putMid}
 use lib.Dec.{eqb}
@@ -22,8 +22,10 @@ use Rattle.pattern.proofs.Rooms.{top-le}
 use Rattle.summary.specs.Summary.{rules-out, summary-of, summary-size}
 use Rattle.summary.proofs.SummaryBytes.{length-summary-bytes}
 use Rattle.summary.specs.Ruling.{RulesOut}
-use Rattle.search.specs.declared.look.Looked.the-variants.{Refused, Yes, No, Skipped}
-use Rattle.search.specs.Search.{unlimited}
+use Rattle.register.specs.Maps.{Map}
+use Rattle.register.specs.declared.slot.Kept.{Kept}
+use Rattle.search.specs.declared.look.Looked.the-variants.{Refused, Yes, No}
+use Rattle.search.specs.Search.{unlimited, search-from}
 use Rattle.search.specs.Looking.{Zeros, ClearPre, MatchPre, IsMatchPost, LookAtPre, looked, LookAtPost}
 use Rattle.search.proofs.Steps.{fault-none, match-decided, step-work, step-parts, step-skipped, step-found, step-passed}
 
@@ -107,9 +109,12 @@ module _ {table label scratch parts : Bytes} (p : MatchPre table label scratch p
 
 -- ---- one number
 
-module _ {summary table label scratch : Bytes} {needed top cleared : ℕ} (p : LookAtPre summary table label scratch needed top cleared) where
-  pub look-tops : top ≤ atom-limit
-  look-tops = omega (arith, p .tops, top-le (p .tree), good-limited table (p .tree) (p .good) .atoms)
+module _ {summary table : Bytes} {kept : Kept} {label scratch : Bytes} {cleared : ℕ} (p : LookAtPre summary table kept label scratch cleared) where
+  pub look-atoms : kept .atoms ≤ atom-limit
+  look-atoms = omega (arith, p .atoms-is, good-limited table (p .tree) (p .good) .atoms)
+
+  pub look-tops : kept .top ≤ atom-limit
+  look-tops = omega (arith, p .top-is, top-le (p .tree), good-limited table (p .tree) (p .good) .atoms)
 
   pub look-summary : summary-size ≤ length summary
   look-summary = omega (arith, ap length (p .summary-is), length-summary-bytes (summary-of (p .tree)))
@@ -117,59 +122,74 @@ module _ {summary table label scratch : Bytes} {needed top cleared : ℕ} (p : L
   pub look-out : {r : Bool} → RulesOut summary label r → r ≡ rules-out (summary-of (p .tree)) label
   look-out o = o .by (summary-of (p .tree)) (take-all summary-size summary (omega (arith, ap length (p .summary-is), length-summary-bytes (summary-of (p .tree)))) ∙ p .summary-is)
 
+  abbrev needed : ℕ
+  needed = (2 * kept .atoms + 4) * (length label + 1) * (length label + 1)
+
+  needs : needed ≡ scratch-needed (p .tree) (length label)
+  needs = ap (λ a. (2 * a + 4) * (length label + 1) * (length label + 1)) (p .atoms-is)
+
   pub look-clear : needed ≤ length scratch → ClearPre scratch cleared needed
   look-clear room = record { zeros = p .zeros; inside = room }
 
-module _ {summary table label scratch : Bytes} {needed top cleared : ℕ} (p : LookAtPre summary table label scratch needed top cleared) (parts : Bytes) where
-  pub look-work : length scratch < needed → LookAtPost table label scratch parts needed cleared (Refused WORK) scratch parts
-  unfolding looked
-  look-work h = record {
-    goes = λ k m skipped. step-work k table m label skipped scratch parts (p .tree) (p .good) (p .short) (omega (arith, p .needs, h));
-    no-zeros = λ e. absurd (let z : _≡_ {A = ℕ} 0 1 = cc in omega arith);
-    skipped-zeros = λ e. absurd (let z : _≡_ {A = ℕ} 0 1 = cc in omega arith);
-  }
-
-  module _ (room : needed ≤ length scratch) where
-    pub look-parts : length parts < 2 * top → LookAtPost table label scratch parts needed cleared (Refused PARTS) scratch parts
+  module _ (parts : Bytes) where
+    pub look-work : length scratch < needed → LookAtPost table label scratch parts (Refused WORK) scratch parts
     unfolding looked
-    look-parts h = record {
-      goes = λ k m skipped. step-parts k table m label skipped scratch parts (p .tree) (p .good) (p .short) (omega (arith, p .needs, room)) (omega (arith, p .tops, h));
-      no-zeros = λ e. absurd (let z : _≡_ {A = ℕ} 0 1 = cc in omega arith);
-      skipped-zeros = λ e. absurd (let z : _≡_ {A = ℕ} 0 1 = cc in omega arith);
+    look-work h = record {
+      goes = λ k m skipped. step-work k table m label skipped scratch parts (p .tree) (p .good) (p .short) (omega (arith, needs, h));
+      few = λ more reach e. absurd (let z : _≡_ {A = ℕ} 0 1 = cc in omega arith);
+      zeros = λ more reach e. absurd (let z : _≡_ {A = ℕ} 0 1 = cc in omega arith);
     }
 
-    module _ (fits : 2 * top ≤ length parts) where
-      pub look-fits : MatchPre table label scratch parts
-      look-fits = record {
-        tree = p .tree;
-        good = p .good;
-        short = p .short;
-        fits = fault-none (p .tree) label scratch parts (p .short) (omega (arith, p .needs, room)) (omega (arith, p .tops, fits));
+    module _ (room : needed ≤ length scratch) where
+      pub look-parts : length parts < 2 * kept .top → LookAtPost table label scratch parts (Refused PARTS) scratch parts
+      unfolding looked
+      look-parts h = record {
+        goes = λ k m skipped. step-parts k table m label skipped scratch parts (p .tree) (p .good) (p .short) (omega (arith, needs, room)) (omega (arith, p .top-is, h));
+        few = λ more reach e. absurd (let z : _≡_ {A = ℕ} 0 1 = cc in omega arith);
+        zeros = λ more reach e. absurd (let z : _≡_ {A = ℕ} 0 1 = cc in omega arith);
       }
 
-      pub look-skipped : true ≡ rules-out (summary-of (p .tree)) label → (scratch′ : Bytes) → scratch′ ≡ zeroed needed scratch → LookAtPost table label scratch parts needed cleared Skipped scratch′ parts
-      unfolding looked
-      look-skipped out scratch′ e =
-          let f : scratch′ ≡ zeroed (scratch-needed (p .tree) (length label)) scratch = e ∙ ap (λ n. zeroed n scratch) (p .needs) in
-          record {
-            goes = λ k m skipped. rw f (step-skipped k table m label skipped scratch parts (p .tree) (p .good) (p .short) (omega (arith, p .needs, room)) (omega (arith, p .tops, fits)) (sym out));
-            no-zeros = λ e. absurd (let z : _≡_ {A = ℕ} 0 1 = cc in omega arith);
-            skipped-zeros = λ z. rw e (zeros-more needed cleared scratch (p .zeros) room);
+      module _ (fits : 2 * kept .top ≤ length parts) where
+        pub look-fits : MatchPre table label scratch parts
+        look-fits = record {
+          tree = p .tree;
+          good = p .good;
+          short = p .short;
+          fits = fault-none (p .tree) label scratch parts (p .short) (omega (arith, needs, room)) (omega (arith, p .top-is, fits));
+        }
+
+        -- on no, with what was zeroed
+        pass : (more : ℕ) (scratch′ parts′ : Bytes) → more ≤ 1 → scratch′ ≡ zeroed needed scratch
+            → ((k : ℕ) (m : Map) (skipped : ℕ) → search-from k (table ∷ m) label skipped scratch parts ≡ search-from (suc k) m label (skipped + more) scratch′ parts′)
+            → (reach : ℕ) → reach ≡ max cleared needed → LookAtPost table label scratch parts (No more reach) scratch′ parts′
+        unfolding looked
+        pass more scratch′ parts′ n e f reach l = record {
+          goes = f;
+          few = λ x y z. let w : more ≡ x = cc in omega arith;
+          zeros = λ x y z. let w : reach ≡ y = cc in rw (← w, l, e) (zeros-more needed cleared scratch (p .zeros) room);
+        }
+
+        pub look-skipped : true ≡ rules-out (summary-of (p .tree)) label → (scratch′ : Bytes) → scratch′ ≡ zeroed needed scratch → (reach : ℕ) → reach ≡ max cleared needed
+            → LookAtPost table label scratch parts (No 1 reach) scratch′ parts
+        look-skipped out scratch′ e =
+            let f : zeroed (scratch-needed (p .tree) (length label)) scratch ≡ scratch′ = sym (e ∙ ap (λ n. zeroed n scratch) needs) in
+            pass 1 scratch′ parts (omega arith) e
+            (λ k m skipped. let c : suc skipped ≡ skipped + 1 = omega arith in
+            step-skipped k table m label skipped scratch parts (p .tree) (p .good) (p .short) (omega (arith, needs, room)) (omega (arith, p .top-is, fits)) (sym out)
+            ∙ ap (λ (s : Bytes). search-from (suc k) m label (suc skipped) s parts) f ∙ ap (λ n. search-from (suc k) m label n scratch′ parts) c)
+
+        module _ (out : false ≡ rules-out (summary-of (p .tree)) label) (scratch′ parts′ : Bytes) where
+          pub look-yes : IsMatchPost table label scratch parts true scratch′ parts′ → LookAtPost table label scratch parts Yes scratch′ parts′
+          unfolding looked
+          look-yes i = record {
+            goes = λ k m skipped. rw (i .scratch-is, i .parts-is) (step-found k table m label skipped scratch parts (p .tree) (p .good) (sym out) _ refl (i .number) (i .value));
+            few = λ more reach e. absurd (let z : _≡_ {A = ℕ} 0 1 = cc in omega arith);
+            zeros = λ more reach e. absurd (let z : _≡_ {A = ℕ} 0 1 = cc in omega arith);
           }
 
-      module _ (out : false ≡ rules-out (summary-of (p .tree)) label) (scratch′ parts′ : Bytes) where
-        pub look-yes : IsMatchPost table label scratch parts true scratch′ parts′ → LookAtPost table label scratch parts needed cleared Yes scratch′ parts′
-        unfolding looked
-        look-yes i = record {
-          goes = λ k m skipped. rw (i .scratch-is, i .parts-is) (step-found k table m label skipped scratch parts (p .tree) (p .good) (sym out) _ refl (i .number) (i .value));
-          no-zeros = λ e. absurd (let z : _≡_ {A = ℕ} 0 1 = cc in omega arith);
-          skipped-zeros = λ e. absurd (let z : _≡_ {A = ℕ} 0 1 = cc in omega arith);
-        }
-
-        pub look-no : IsMatchPost table label scratch parts false scratch′ parts′ → LookAtPost table label scratch parts needed cleared No scratch′ parts′
-        unfolding looked look-fits
-        look-no i = record {
-          goes = λ k m skipped. rw (i .scratch-is, i .parts-is) (step-passed k table m label skipped scratch parts (p .tree) (p .good) (sym out) _ refl (i .number) (i .value));
-          no-zeros = λ z. rw (i .scratch-is ∙ match-zeroed look-fits ∙ ap (λ n. zeroed n scratch) (sym (p .needs))) (zeros-more needed cleared scratch (p .zeros) room);
-          skipped-zeros = λ e. absurd (let z : _≡_ {A = ℕ} 0 1 = cc in omega arith);
-        }
+          pub look-no : IsMatchPost table label scratch parts false scratch′ parts′ → (reach : ℕ) → reach ≡ max cleared needed → LookAtPost table label scratch parts (No 0 reach) scratch′ parts′
+          unfolding look-fits
+          look-no i =
+              pass 0 scratch′ parts′ (omega arith) (i .scratch-is ∙ match-zeroed look-fits ∙ ap (λ n. zeroed n scratch) (sym needs))
+              (λ k m skipped. let c : skipped + 0 ≡ skipped = omega arith in
+              rw (c, i .scratch-is, i .parts-is) (step-passed k table m label skipped scratch parts (p .tree) (p .good) (sym out) _ refl (i .number) (i .value)))

@@ -3,19 +3,20 @@ use mathlib.Core.Path.{_≡_}
 use mathlib.Core.Bool.{Bool, cond}
 use mathlib.Core.List.{_∷_}
 use mathlib.Core.Option.{none, some}
-use Prim.Native.Nat.{ℕ, suc, _≤_, max}
+use Prim.Native.Nat.{ℕ, suc, _+_, _≤_}
 use lib.ListN.{length, take, replicate}
 use Rattle.pattern.specs.Numbers.{label-limit}
 use Rattle.pattern.specs.Bytes.{Bytes}
-use Rattle.pattern.specs.Syntax.{pattern, Syntax, top-size}
+use Rattle.pattern.specs.Syntax.{pattern, Syntax, size, top-size}
 use Rattle.pattern.specs.Decode.{decode}
-use Rattle.pattern.specs.Answers.{scratch-needed, lent-fault, matchOf}
+use Rattle.pattern.specs.Answers.{lent-fault, matchOf}
 use Rattle.summary.specs.Summary.{summary-of, summary-bytes}
 use Rattle.register.specs.Maps.{Map}
 use Rattle.register.specs.Layout.{registerOf}
+use Rattle.register.specs.declared.slot.Kept.{Kept}
 use Rattle.search.specs.declared.Searched.{Searched}
 use Rattle.search.specs.declared.look.Looked.{Looked}
-use Rattle.search.specs.declared.look.Looked.the-variants.{Refused, Yes, No, Skipped}
+use Rattle.search.specs.declared.look.Looked.the-variants.{Refused, Yes, No}
 use Rattle.search.specs.Search.{unlimited, SearchOutput, search-refused, search-from}
 
 -- the code's answer with scratch and parts afterwards
@@ -45,12 +46,12 @@ pub record IsMatchPost (table label scratch parts : Bytes) (r : Bool) (scratch�
   pub parts-is : parts′ ≡ matchOf table label scratch parts unlimited .parts
 
 -- a good table with its summary and sizes, and scratch that was cleared so far
-pub record LookAtPre (summary table label scratch : Bytes) (needed top cleared : ℕ) : Type 0 where
+pub record LookAtPre (summary table : Bytes) (kept : Kept) (label scratch : Bytes) (cleared : ℕ) : Type 0 where
   pub tree : Syntax pattern
   pub good : decode table ≡ some tree
   pub short : length label ≤ label-limit
-  pub needs : needed ≡ scratch-needed tree (length label)
-  pub tops : top ≡ top-size tree
+  pub atoms-is : kept .atoms ≡ size tree
+  pub top-is : kept .top ≡ top-size tree
   pub summary-is : summary ≡ summary-bytes (summary-of tree)
   pub zeros : Zeros cleared scratch
 
@@ -58,14 +59,13 @@ pub record LookAtPre (summary table label scratch : Bytes) (needed top cleared :
 unfoldable pub looked : Looked → (k : ℕ) → Map → (label : Bytes) → (skipped : ℕ) → (scratch parts : Bytes) → SearchOutput
 looked (Refused number) k m label skipped scratch parts = search-refused number k scratch parts
 looked Yes k m label skipped scratch parts = record { number = 0; verdict = 1; at = k; skipped = skipped; scratch = scratch; parts = parts }
-looked No k m label skipped scratch parts = search-from (suc k) m label skipped scratch parts
-looked Skipped k m label skipped scratch parts = search-from (suc k) m label (suc skipped) scratch parts
+looked (No more reach) k m label skipped scratch parts = search-from (suc k) m label (skipped + more) scratch parts
 
--- the search goes on so, whatever the number and those after it; on no, scratch is zero as far as was needed
-pub record LookAtPost (table label scratch parts : Bytes) (needed cleared : ℕ) (r : Looked) (scratch′ parts′ : Bytes) : Type 0 where
+-- the search goes on so, whatever the number and those after it; on no, one more at most was skipped, and scratch is zero so far
+pub record LookAtPost (table label scratch parts : Bytes) (r : Looked) (scratch′ parts′ : Bytes) : Type 0 where
   pub goes : (k : ℕ) (m : Map) (skipped : ℕ) → search-from k (table ∷ m) label skipped scratch parts ≡ looked r k m label skipped scratch′ parts′
-  pub no-zeros : r ≡ No → Zeros (max cleared needed) scratch′
-  pub skipped-zeros : r ≡ Skipped → Zeros (max cleared needed) scratch′
+  pub few : (more reach : ℕ) → r ≡ No more reach → more ≤ 1
+  pub zeros : (more reach : ℕ) → r ≡ No more reach → Zeros reach scratch′
 
 -- the lent bytes are a register, and the label is within the limit
 pub record LookPre (lent label : Bytes) : Type 0 where

@@ -1,6 +1,5 @@
 // The search of a register: the lowest number whose pattern a label satisfies, without a match where a summary rules the label out.
 ghost use mathlib.Core.Path.{_≡_};
-ghost use Prim.Native.Nat.{max};
 ghost use Rattle.search.specs.Search.{searchOf};
 ghost use Rattle.search.specs.Looking.{search-output, LookPre};
 
@@ -50,18 +49,11 @@ fn answered(verdict: u64, at: usize, skipped: u64) -> Searched
     }
 }
 
-fn larger(m: usize, n: usize) -> usize
-    ensures { λ r. ⌜ r ≡ max m n ⌝ }
-{
-    if m < n { n } else { m }
-}
-
 // The numbers upwards, none after the first that matches; the first bytes of scratch are zero as far as it was cleared.
 fn search_numbers(lent: &[u8], label: &[u8], scratch: &mut [u8], parts: &mut [u8]) -> Searched
     requires { ⌜ LookPre (now lent) (now label) ⌝ }
     ensures { λ r. ⌜ search-output r (now (scratch .exit)) (now (parts .exit)) ≡ searchOf (now (lent .entry)) (now (label .entry)) (now (scratch .entry)) (now (parts .entry)) ⌝ }
 {
-    let w = label.len() + 1;
     let mut k = 0;
     let mut at = OVERHEAD;
     let mut skipped = 0;
@@ -73,29 +65,14 @@ fn search_numbers(lent: &[u8], label: &[u8], scratch: &mut [u8], parts: &mut [u8
         if at == end {
             k += 1;
         } else {
-            let needed = (2 * kept.atoms + 4) * w * w;
             let summary = &lent[slot + SUMMARY_PLACE..slot + SLOT_SIZE];
             let table = &lent[at..end];
-            match look_at(
-                summary,
-                table,
-                label,
-                scratch,
-                parts,
-                needed,
-                kept.top,
-                cleared,
-            ) {
+            match look_at(summary, table, kept, label, scratch, parts, cleared) {
                 Looked::Refused(number) => return refused(number, k),
                 Looked::Yes => return answered(1, k, skipped),
-                Looked::No => {
-                    cleared = larger(cleared, needed);
-                    at = end;
-                    k += 1;
-                }
-                Looked::Skipped => {
-                    skipped += 1;
-                    cleared = larger(cleared, needed);
+                Looked::No(more, reach) => {
+                    skipped += more;
+                    cleared = reach;
                     at = end;
                     k += 1;
                 }

@@ -2,7 +2,7 @@
 use mathlib.Core.Path.{sym, _∙_}
 use Rattle.search.specs.Search.{search-refused}
 use Rattle.search.proofs.Steps.{search-bad, search-long}
-use Rattle.search.proofs.Searching.{same-answer, is-map, no-map}
+use Rattle.search.proofs.Underway.{same-answer, is-map, no-map}
 use borrow.Author.Needs.{needs}
 use Rattle.search.proofs.search.Statement.{statement}
 use Rattle.search.proofs.search.Tie as tie

@@ -2,65 +2,46 @@
 use mathlib.Core.Path.{_∙_}
 use Prim.Native.Nat.{_-_}
 use native.Mathlib.Omega.{arith}
-use Rattle.pattern.proofs.Rooms.{rows-few, bytes-few}
 use Rattle.register.specs.Maps.{numbers}
 use Rattle.search.specs.Search.{search-refused}
-use Rattle.search.proofs.Searching.{same-answer, Searching, search-start, search-end, slot-within, end-within, search-missing, few-atoms, look-pre, search-stopped, search-found, search-passed, search-skipped}
+use Rattle.search.proofs.Underway.{same-answer, Underway, search-start, search-end, slot-within, end-within, search-missing, look-pre, search-stopped, search-found, skipped-few, search-passed}
 use borrow.Author.Needs.{needs}
 use Rattle.search.proofs.search_numbers.Statement.{statement}
 use Rattle.search.proofs.search_numbers.Tie as tie
 
 abbrev Inv-loop : tie.InvT-loop
-Inv-loop lent label scratch₀ parts₀ w k₀ at₀ skipped₀ cleared₀ scratch parts k at skipped cleared = Searching lent label scratch₀ parts₀ scratch parts k at skipped cleared
+Inv-loop lent label scratch₀ parts₀ k₀ at₀ skipped₀ cleared₀ scratch parts k at skipped cleared = Underway lent label scratch₀ parts₀ scratch parts k at skipped cleared
 
 abbrev μ-loop : tie.MeasureT-loop
-μ-loop lent label scratch₀ parts₀ w k₀ at₀ skipped₀ cleared₀ scratch parts k at skipped cleared = numbers - k
+μ-loop lent label scratch₀ parts₀ k₀ at₀ skipped₀ cleared₀ scratch parts k at skipped cleared = numbers - k
 
 add-end : tie.Need-add-end Inv-loop μ-loop
 add-end c = omega (arith, end-within (c .before .before .before .loop .inv) (c .before .before .loop-test .taken) _ (c .before .kept-at .ensures), c .before .before .before .before .before .before .before .before .good)
 
-loop-again : tie.Need-loop-again Inv-loop μ-loop
-loop-again c = search-missing (c .before .before .before .before .loop .inv) (c .before .before .before .loop-test .taken) _ (c .before .before .kept-at .ensures) (c .if1 .taken)
-
-mul-needed : tie.Need-mul-needed Inv-loop μ-loop
-mul-needed c = omega (arith, few-atoms (c .before .before .before .before .before .loop .inv) (c .before .before .before .before .loop-test .taken) _ (c .before .before .before .kept-at .ensures) (c .before .if1 .left))
-
-add-needed : tie.Need-add-needed Inv-loop μ-loop
-add-needed c = omega (arith, few-atoms (c .before .before .before .before .before .loop .inv) (c .before .before .before .before .loop-test .taken) _ (c .before .before .before .kept-at .ensures) (c .before .if1 .left))
-
-mul-needed-2 : tie.Need-mul-needed-2 Inv-loop μ-loop
-mul-needed-2 c = omega (arith, rows-few _ _ (few-atoms (c .before .before .before .before .before .loop .inv) (c .before .before .before .before .loop-test .taken) _ (c .before .before .before .kept-at .ensures) (c .before .if1 .left)) (c .before .before .before .before .before .loop .inv .start .short))
-
-mul-needed-3 : tie.Need-mul-needed-3 Inv-loop μ-loop
-mul-needed-3 c = omega (arith, bytes-few _ _ (few-atoms (c .before .before .before .before .before .loop .inv) (c .before .before .before .before .loop-test .taken) _ (c .before .before .before .kept-at .ensures) (c .before .if1 .left)) (c .before .before .before .before .before .loop .inv .start .short))
-
 part-summary-start : tie.Need-part-summary-start Inv-loop μ-loop
-part-summary-start c = omega (arith, slot-within (c .before .before .before .before .before .loop .inv) (c .before .before .before .before .loop-test .taken))
+part-summary-start c = omega (arith, slot-within (c .before .before .before .before .loop .inv) (c .before .before .before .loop-test .taken))
 
 part-summary-end : tie.Need-part-summary-end Inv-loop μ-loop
-part-summary-end c = omega (arith, slot-within (c .before .before .before .before .before .loop .inv) (c .before .before .before .before .loop-test .taken))
+part-summary-end c = omega (arith, slot-within (c .before .before .before .before .loop .inv) (c .before .before .before .loop-test .taken))
 
 part-table-start : tie.Need-part-table-start Inv-loop μ-loop
-part-table-start c = omega (arith, end-within (c .before .before .before .before .before .before .loop .inv) (c .before .before .before .before .before .loop-test .taken) _ (c .before .before .before .before .kept-at .ensures))
+part-table-start c = omega (arith, end-within (c .before .before .before .before .before .loop .inv) (c .before .before .before .before .loop-test .taken) _ (c .before .before .before .kept-at .ensures))
 
 part-table-end : tie.Need-part-table-end Inv-loop μ-loop
-part-table-end c = omega (arith, end-within (c .before .before .before .before .before .before .loop .inv) (c .before .before .before .before .before .loop-test .taken) _ (c .before .before .before .before .kept-at .ensures))
-
-look-at-requires : tie.Need-look-at-requires Inv-loop μ-loop
-look-at-requires c κs = look-pre (c .before .before .before .before .before .before .before .before .before .loop .inv) (c .before .before .before .before .before .before .before .before .loop-test .taken) _ (c .before .before .before .before .before .before .before .kept-at .ensures) (c .before .before .before .before .before .if1 .left)
+part-table-end c = omega (arith, end-within (c .before .before .before .before .before .loop .inv) (c .before .before .before .before .loop-test .taken) _ (c .before .before .before .kept-at .ensures))
 
 returns : tie.Need-returns Inv-loop μ-loop
 unfolding search-refused
-returns c = same-answer _ _ _ _ (c .refused .ensures) ∙ search-stopped (c .before .before .before .before .before .before .before .before .before .before .before .before .before .before .before .before .before .before .loop .inv) (c .before .before .before .before .before .before .before .before .before .before .before .before .before .before .before .before .before .loop-test .taken) _ (c .before .before .before .before .before .before .before .before .before .before .before .before .before .before .before .before .kept-at .ensures) (c .before .before .before .before .before .before .before .before .before .before .before .before .before .before .if1 .left) _ _ _ (c .before .before .before .before .before .before .before .before .look-at .ensures) _ (c .before .before .number .given .1)
+returns c = same-answer _ _ _ _ (c .refused .ensures) ∙ search-stopped (c .before .before .before .before .before .before .before .before .before .before .before .before .before .before .before .before .before .loop .inv) (c .before .before .before .before .before .before .before .before .before .before .before .before .before .before .before .before .loop-test .taken) _ (c .before .before .before .before .before .before .before .before .before .before .before .before .before .before .before .kept-at .ensures) (c .before .before .before .before .before .before .before .before .before .before .before .before .before .if1 .left) _ _ _ (c .before .before .before .before .before .before .before .before .look-at .ensures) _ (c .before .before .number .given .1)
 
 returns-2 : tie.Need-returns-2 Inv-loop μ-loop
-returns-2 c = same-answer _ _ _ _ (c .answered .ensures) ∙ search-found (c .before .before .before .before .before .before .before .before .before .before .before .before .before .before .before .before .before .loop .inv) (c .before .before .before .before .before .before .before .before .before .before .before .before .before .before .before .before .loop-test .taken) _ (c .before .before .before .before .before .before .before .before .before .before .before .before .before .before .before .kept-at .ensures) (c .before .before .before .before .before .before .before .before .before .before .before .before .before .if1 .left) _ _ _ (c .before .before .before .before .before .before .before .look-at .ensures) (c .before .enum-told .given .1)
+returns-2 c = same-answer _ _ _ _ (c .answered .ensures) ∙ search-found (c .before .before .before .before .before .before .before .before .before .before .before .before .before .before .before .before .loop .inv) (c .before .before .before .before .before .before .before .before .before .before .before .before .before .before .before .loop-test .taken) _ (c .before .before .before .before .before .before .before .before .before .before .before .before .before .before .kept-at .ensures) (c .before .before .before .before .before .before .before .before .before .before .before .before .if1 .left) _ _ _ (c .before .before .before .before .before .before .before .look-at .ensures) (c .before .enum-told .given .1)
+
+add-skipped : tie.Need-add-skipped Inv-loop μ-loop
+add-skipped c = omega (arith, skipped-few (c .before .before .before .before .before .before .before .before .before .before .before .before .before .before .before .before .loop .inv) (c .before .before .before .before .before .before .before .before .before .before .before .before .before .before .before .loop-test .taken) _ (c .before .before .before .before .before .before .before .before .before .before .before .before .before .before .kept-at .ensures) (c .before .before .before .before .before .before .before .before .before .before .before .before .if1 .left) _ _ _ (c .before .before .before .before .before .before .before .look-at .ensures) _ _ (c .before .more .given .1))
 
 loop-again-2 : tie.Need-loop-again-2 Inv-loop μ-loop
-loop-again-2 c = rw (c .larger .ensures) (search-passed (c .before .before .before .before .before .before .before .before .before .before .before .before .before .before .before .before .before .loop .inv) (c .before .before .before .before .before .before .before .before .before .before .before .before .before .before .before .before .loop-test .taken) _ (c .before .before .before .before .before .before .before .before .before .before .before .before .before .before .before .kept-at .ensures) (c .before .before .before .before .before .before .before .before .before .before .before .before .before .if1 .left) _ _ _ (c .before .before .before .before .before .before .before .look-at .ensures) (omega (arith, c .before .before .before .before .before .before .before .look-at .kept)) (omega (arith, c .before .before .before .before .before .before .before .look-at .kept)) (c .before .enum-told2 .given .1))
-
-loop-again-3 : tie.Need-loop-again-3 Inv-loop μ-loop
-loop-again-3 c = rw (c .larger2 .ensures) (search-skipped (c .before .before .before .before .before .before .before .before .before .before .before .before .before .before .before .before .before .loop .inv) (c .before .before .before .before .before .before .before .before .before .before .before .before .before .before .before .before .loop-test .taken) _ (c .before .before .before .before .before .before .before .before .before .before .before .before .before .before .before .kept-at .ensures) (c .before .before .before .before .before .before .before .before .before .before .before .before .before .if1 .left) _ _ _ (c .before .before .before .before .before .before .before .look-at .ensures) (omega (arith, c .before .before .before .before .before .before .before .look-at .kept)) (omega (arith, c .before .before .before .before .before .before .before .look-at .kept)) (c .before .enum-told3 .given .1))
+loop-again-2 c = search-passed (c .before .before .before .before .before .before .before .before .before .before .before .before .before .before .before .before .loop .inv) (c .before .before .before .before .before .before .before .before .before .before .before .before .before .before .before .loop-test .taken) _ (c .before .before .before .before .before .before .before .before .before .before .before .before .before .before .kept-at .ensures) (c .before .before .before .before .before .before .before .before .before .before .before .before .if1 .left) _ _ _ (c .before .before .before .before .before .before .before .look-at .ensures) _ _ (c .before .more .given .1) (omega (arith, c .before .before .before .before .before .before .before .look-at .kept)) (omega (arith, c .before .before .before .before .before .before .before .look-at .kept))
 
 returns-3 : tie.Need-returns-3 Inv-loop μ-loop
 returns-3 c = same-answer _ _ _ _ (c .answered2 .ensures) ∙ search-end (c .before .before .loop .inv) (c .before .loop-test .left)
@@ -71,7 +52,6 @@ search-numbers-spec =
     (tie.spec
     Inv-loop
     μ-loop
-    (λ c. omega (arith, c .before .before .before .before .pre .short))
     (λ c. search-start (c .before .before .before .before .pre) _ _)
     (λ c. omega arith)
     (λ c. omega arith)
@@ -79,11 +59,7 @@ search-numbers-spec =
     add-end
     (λ c. omega arith)
     (λ c. omega arith)
-    loop-again
-    mul-needed
-    add-needed
-    mul-needed-2
-    mul-needed-3
+    (λ c. search-missing (c .before .before .before .before .loop .inv) (c .before .before .before .loop-test .taken) _ (c .before .before .kept-at .ensures) (c .if1 .taken))
     (λ c. omega arith)
     (λ c. omega arith)
     (λ c. omega arith)
@@ -92,28 +68,22 @@ search-numbers-spec =
     (λ c. omega arith)
     part-table-start
     part-table-end
-    look-at-requires
+    (λ c κs. look-pre (c .before .before .before .before .before .before .before .before .loop .inv) (c .before .before .before .before .before .before .before .loop-test .taken) _ (c .before .before .before .before .before .before .kept-at .ensures) (c .before .before .before .before .if1 .left))
     (search needs)
     (λ c κs. search needs)
-    (λ c. omega (arith, c .before .before .before .before .before .before .before .before .look-at .kept, (c .before .before .before .before .before .before .before .before .before .before .before .before .before .before .before .before .before .before .loop .inv) .same-scratch))
-    (λ c. omega (arith, c .before .before .before .before .before .before .before .before .look-at .kept, (c .before .before .before .before .before .before .before .before .before .before .before .before .before .before .before .before .before .before .loop .inv) .same-parts))
+    (λ c. omega (arith, c .before .before .before .before .before .before .before .before .look-at .kept, (c .before .before .before .before .before .before .before .before .before .before .before .before .before .before .before .before .before .loop .inv) .same-scratch))
+    (λ c. omega (arith, c .before .before .before .before .before .before .before .before .look-at .kept, (c .before .before .before .before .before .before .before .before .before .before .before .before .before .before .before .before .before .loop .inv) .same-parts))
     returns
     (search needs)
     (λ c κs. search needs)
-    (λ c. omega (arith, c .before .before .before .before .before .before .before .look-at .kept, (c .before .before .before .before .before .before .before .before .before .before .before .before .before .before .before .before .before .loop .inv) .same-scratch))
-    (λ c. omega (arith, c .before .before .before .before .before .before .before .look-at .kept, (c .before .before .before .before .before .before .before .before .before .before .before .before .before .before .before .before .before .loop .inv) .same-parts))
+    (λ c. omega (arith, c .before .before .before .before .before .before .before .look-at .kept, (c .before .before .before .before .before .before .before .before .before .before .before .before .before .before .before .before .loop .inv) .same-scratch))
+    (λ c. omega (arith, c .before .before .before .before .before .before .before .look-at .kept, (c .before .before .before .before .before .before .before .before .before .before .before .before .before .before .before .before .loop .inv) .same-parts))
     returns-2
     (search needs)
-    (λ c κs. search needs)
+    add-skipped
     (λ c. omega arith)
     (λ c. omega arith)
     loop-again-2
-    (search needs)
-    (λ c. omega (arith, (c .before .before .before .before .before .before .before .before .before .before .before .before .before .before .before .before .loop .inv) .counted))
-    (λ c κs. search needs)
-    (λ c. omega arith)
-    (λ c. omega arith)
-    loop-again-3
     (λ c κs. search needs)
     (λ c. c .before .before .loop .inv .same-scratch)
     (λ c. c .before .before .loop .inv .same-parts)

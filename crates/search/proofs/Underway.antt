@@ -4,16 +4,14 @@ use mathlib.Core.Logic.{⊎-elim}
 use mathlib.Core.Bool.{true, false}
 use mathlib.Core.List.{[], _∷_}
 use mathlib.Core.Option.{Option, none, some}
-use Prim.Native.Nat.{ℕ, suc, _+_, _*_, _-_, _≤_, _<_, max}
+use Prim.Native.Nat.{ℕ, suc, _+_, _-_, _≤_, _<_}
 use native.Mathlib.Omega.{arith}
 use lib.Dec.{T}
 use lib.ListN.{length, take, drop, drop-of-length-le}
 use lib.Seq.{drop-cons}
-use Rattle.pattern.specs.Numbers.{atom-limit}
 use Rattle.pattern.specs.Bytes.{Bytes}
 use Rattle.pattern.specs.Syntax.{pattern, Syntax}
 use Rattle.pattern.specs.Decode.{decode}
-use Rattle.pattern.proofs.Calls.{good-limited}
 use Rattle.summary.specs.Summary.{summary-size}
 use Rattle.register.specs.Maps.{numbers, Map, table-of, tables, total}
 use Rattle.register.specs.Layout.{slot-size, overhead}
@@ -25,7 +23,7 @@ use Rattle.register.proofs.Meaning.{meant}
 use Rattle.register.proofs.Kept.{slot-start, kept-length, kept-atoms, kept-top, summary-is, table-is, table-within}
 use Rattle.search.specs.declared.Searched.{Searched}
 use Rattle.search.specs.declared.look.Looked.{Looked}
-use Rattle.search.specs.declared.look.Looked.the-variants.{Refused, Yes, No, Skipped}
+use Rattle.search.specs.declared.look.Looked.the-variants.{Refused, Yes, No}
 use Rattle.search.specs.Search.{search-refused, search-from, searchOf}
 use Rattle.search.specs.Looking.{search-output, Zeros, LookAtPre, looked, LookAtPost, LookPre}
 use Rattle.search.proofs.Steps.{step-missing, search-goes}
@@ -46,7 +44,7 @@ no-map none e = refl
 no-map (some m) e = absurd (subst T (sym e) tt)
 
 -- the numbers below k were looked at, and what is left of the search begins with these values
-pub record Searching (lent label scratch₀ parts₀ scratch parts : Bytes) (k at skipped cleared : ℕ) : Type 0 where
+pub record Underway (lent label scratch₀ parts₀ scratch parts : Bytes) (k at skipped cleared : ℕ) : Type 0 where
   pub start : LookPre lent label
   pub few : k ≤ numbers
   pub place : at ≡ overhead + total (take k (start .map))
@@ -56,7 +54,7 @@ pub record Searching (lent label scratch₀ parts₀ scratch parts : Bytes) (k a
   pub same-scratch : length scratch ≡ length scratch₀
   pub same-parts : length parts ≡ length parts₀
 
-pub search-start : {lent label : Bytes} → LookPre lent label → (scratch parts : Bytes) → Searching lent label scratch parts scratch parts 0 overhead 0 0
+pub search-start : {lent label : Bytes} → LookPre lent label → (scratch parts : Bytes) → Underway lent label scratch parts scratch parts 0 overhead 0 0
 unfolding tables
 search-start {lent} {label} p scratch parts = record {
   start = p;
@@ -69,7 +67,7 @@ search-start {lent} {label} p scratch parts = record {
   same-parts = refl;
 }
 
-module _ {lent label scratch₀ parts₀ scratch parts : Bytes} {k at skipped cleared : ℕ} (w : Searching lent label scratch₀ parts₀ scratch parts k at skipped cleared) where
+module _ {lent label scratch₀ parts₀ scratch parts : Bytes} {k at skipped cleared : ℕ} (w : Underway lent label scratch₀ parts₀ scratch parts k at skipped cleared) where
   abbrev map : Map
   map = w .start .map
 
@@ -105,7 +103,7 @@ module _ {lent label scratch₀ parts₀ scratch parts : Bytes} {k at skipped cl
       end-within = let e : suc k ≡ k + 1 = omega arith in omega (arith, place-next, table-within lent map (w .start .means) k small, ap (λ j. total (take j map)) e)
 
       -- no table under it
-      pub search-missing : at ≡ at + r .length → Searching lent label scratch₀ parts₀ scratch parts (k + 1) at skipped cleared
+      pub search-missing : at ≡ at + r .length → Underway lent label scratch₀ parts₀ scratch parts (k + 1) at skipped cleared
       search-missing h =
           let e : suc k ≡ k + 1 = omega arith in
           record {
@@ -123,12 +121,6 @@ module _ {lent label scratch₀ parts₀ scratch parts : Bytes} {k at skipped cl
         tree : (p : Syntax pattern) × (decode table ≡ some p)
         tree = ⊎-elim (λ z. absurd (present (omega (arith, length-told, z)))) (λ x. x) (table-cases table (meant lent map (w .start .means) .proper .each k))
 
-        pub few-atoms : r .atoms ≤ atom-limit
-        few-atoms = let (p, d) = tree in omega (arith, ap (λ (x : Kept). x .atoms) told, kept-atoms lent map (w .start .means) k small p d, good-limited table p d .atoms)
-
-        abbrev needed : ℕ
-        needed = (2 * r .atoms + 4) * (length label + 1) * (length label + 1)
-
         abbrev summary-slice : Bytes
         summary-slice = take (slot-start k + slot-size - (slot-start k + summary-place)) (drop (slot-start k + summary-place) lent)
 
@@ -140,7 +132,7 @@ module _ {lent label scratch₀ parts₀ scratch parts : Bytes} {k at skipped cl
             let n : at + r .length - at ≡ length table = omega (arith, length-told) in
             ap (λ x. take x (drop at lent)) n ∙ ap (λ x. take (length table) (drop x lent)) (w .place) ∙ table-is lent map (w .start .means) k small
 
-        pub look-pre : LookAtPre summary-slice table-slice label scratch needed (r .top) cleared
+        pub look-pre : LookAtPre summary-slice table-slice r label scratch cleared
         look-pre =
             let (p, d) = tree in
             let n : slot-start k + slot-size - (slot-start k + summary-place) ≡ summary-size = omega arith in
@@ -148,48 +140,42 @@ module _ {lent label scratch₀ parts₀ scratch parts : Bytes} {k at skipped cl
               tree = p;
               good = ap decode table-told ∙ d;
               short = w .start .short;
-              needs = ap (λ a. (2 * a + 4) * (length label + 1) * (length label + 1)) (ap (λ (x : Kept). x .atoms) told ∙ kept-atoms lent map (w .start .means) k small p d);
-              tops = ap (λ (x : Kept). x .top) told ∙ kept-top lent map (w .start .means) k small p d;
+              atoms-is = ap (λ (x : Kept). x .atoms) told ∙ kept-atoms lent map (w .start .means) k small p d;
+              top-is = ap (λ (x : Kept). x .top) told ∙ kept-top lent map (w .start .means) k small p d;
               summary-is = ap (λ x. take x (drop (slot-start k + summary-place) lent)) n ∙ summary-is lent map (w .start .means) k small p d;
               zeros = w .zeros;
             }
 
         -- how the search goes on
-        module _ (v : Looked) (scratch′ parts′ : Bytes) (post : LookAtPost table-slice label scratch parts needed cleared v scratch′ parts′) where
-          goes-on : searchOf lent label scratch₀ parts₀ ≡ looked v k (drop (suc k) map) label skipped scratch′ parts′
-          goes-on = left-now ∙ ap (λ (t : Bytes). search-from k (t ∷ drop (suc k) map) label skipped scratch parts) (sym table-told) ∙ post .goes k (drop (suc k) map) skipped
+        module _ (v : Looked) (scratch′ parts′ : Bytes) (post : LookAtPost table-slice label scratch parts v scratch′ parts′) where
+          goes-on : (u : Looked) → v ≡ u → searchOf lent label scratch₀ parts₀ ≡ looked u k (drop (suc k) map) label skipped scratch′ parts′
+          goes-on u e =
+              left-now ∙ ap (λ (t : Bytes). search-from k (t ∷ drop (suc k) map) label skipped scratch parts) (sym table-told) ∙ post .goes k (drop (suc k) map) skipped
+              ∙ ap (λ (x : Looked). looked x k (drop (suc k) map) label skipped scratch′ parts′) e
 
           pub search-stopped : (number : ℕ) → v ≡ Refused number → search-refused number k scratch′ parts′ ≡ searchOf lent label scratch₀ parts₀
           unfolding looked
-          search-stopped number e = sym (goes-on ∙ ap (λ (x : Looked). looked x k (drop (suc k) map) label skipped scratch′ parts′) e)
+          search-stopped number e = sym (goes-on (Refused number) e)
 
           pub search-found : v ≡ Yes → record { number = 0; verdict = 1; at = k; skipped = skipped; scratch = scratch′; parts = parts′ } ≡ searchOf lent label scratch₀ parts₀
           unfolding looked
-          search-found e = sym (goes-on ∙ ap (λ (x : Looked). looked x k (drop (suc k) map) label skipped scratch′ parts′) e)
+          search-found e = sym (goes-on Yes e)
 
-          module _ (long : length scratch′ ≡ length scratch) (wide : length parts′ ≡ length parts) where
-            next : (skipped′ : ℕ) → skipped′ ≤ k + 1 → searchOf lent label scratch₀ parts₀ ≡ search-from (suc k) (drop (suc k) map) label skipped′ scratch′ parts′ → Zeros (max cleared needed) scratch′
-                → Searching lent label scratch₀ parts₀ scratch′ parts′ (k + 1) (at + r .length) skipped′ (max cleared needed)
-            next skipped′ n f z =
-                let e : suc k ≡ k + 1 = omega arith in
+          module _ (more reach : ℕ) (e : v ≡ No more reach) where
+            pub skipped-few : skipped + more ≤ k + 1
+            skipped-few = omega (arith, w .counted, post .few more reach e)
+
+            pub search-passed : length scratch′ ≡ length scratch → length parts′ ≡ length parts → Underway lent label scratch₀ parts₀ scratch′ parts′ (k + 1) (at + r .length) (skipped + more) reach
+            unfolding looked
+            search-passed long wide =
+                let f : suc k ≡ k + 1 = omega arith in
                 record {
                   start = w .start;
                   few = omega (arith, small);
                   place = place-next;
-                  left = f ∙ ap (λ j. search-from j (drop j map) label skipped′ scratch′ parts′) e;
-                  counted = n;
-                  zeros = z;
+                  left = goes-on (No more reach) e ∙ ap (λ j. search-from j (drop j map) label (skipped + more) scratch′ parts′) f;
+                  counted = skipped-few;
+                  zeros = post .zeros more reach e;
                   same-scratch = long ∙ w .same-scratch;
                   same-parts = wide ∙ w .same-parts;
                 }
-
-            pub search-passed : v ≡ No → Searching lent label scratch₀ parts₀ scratch′ parts′ (k + 1) (at + r .length) skipped (max cleared needed)
-            unfolding looked
-            search-passed e = next skipped (omega (arith, w .counted)) (goes-on ∙ ap (λ (x : Looked). looked x k (drop (suc k) map) label skipped scratch′ parts′) e) (post .no-zeros e)
-
-            pub search-skipped : v ≡ Skipped → Searching lent label scratch₀ parts₀ scratch′ parts′ (k + 1) (at + r .length) (skipped + 1) (max cleared needed)
-            unfolding looked
-            search-skipped e =
-                let f : suc skipped ≡ skipped + 1 = omega arith in
-                next (skipped + 1) (omega (arith, w .counted))
-                (goes-on ∙ ap (λ (x : Looked). looked x k (drop (suc k) map) label skipped scratch′ parts′) e ∙ ap (λ n. search-from (suc k) (drop (suc k) map) label n scratch′ parts′) f) (post .skipped-zeros e)
