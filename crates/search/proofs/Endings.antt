@@ -138,8 +138,8 @@ module _ (label scratch parts : Bytes) (short : length label ≤ label-limit) wh
     abbrev o : SearchOutput
     o = search-from 0 m label 0 scratch parts
 
-    pub ends : Ends m label scratch parts o
-    ends = record { one = one-ending m each; found = found-is m each; passed = none-is m each; refused = refused-is m each }
+    pub map-ends : Ends m label scratch parts o
+    map-ends = record { one = one-ending m each; found = found-is m each; not-found = none-is m each; refused = refused-is m each }
 
     found-shows : (k : ℕ) (p : Syntax pattern) → FoundAt m label scratch parts k p → (o .number ≡ 0) × (o .verdict ≡ 1) × (o .at ≡ k)
     found-shows k p f = let (x, v, e) = found-is m each k p f in (ap (λ (y : SearchOutput). y .number) e, ap (λ (y : SearchOutput). y .verdict) e, ap (λ (y : SearchOutput). y .at) e)

@@ -21,7 +21,7 @@ use Rattle.search.specs.Search.{SearchOutput, search-refused, is-ruled-o
 use Rattle.search.specs.Found.{Passed, FoundAt, Ends, Answers, Unsatisfied, Finds, Refuses, Bounded}
 use Rattle.search.proofs.Steps.{fault-none, fault-number, search-bad, search-long, search-goes}
 use Rattle.search.proofs.Passing.{from-lengths, count-le, kept-within}
-use Rattle.search.proofs.Endings.{ends, answers, ending-cases}
+use Rattle.search.proofs.Endings.{map-ends, answers, ending-cases}
 
 module _ (lent label scratch parts : Bytes) where
   abbrev output : SearchOutput
@@ -35,7 +35,7 @@ module _ (lent label scratch parts : Bytes) where
 
     -- all that is answered and left, ending by ending
     pub search-ends : Ends m label scratch parts output
-    search-ends = subst (Ends m label scratch parts) (sym (search-goes lent label scratch parts m good short)) (ends label scratch parts short m each)
+    search-ends = subst (Ends m label scratch parts) (sym (search-goes lent label scratch parts m good short)) (map-ends label scratch parts short m each)
 
     -- and each ending from what is answered
     pub search-answers : Answers m label scratch parts output

@@ -4,7 +4,7 @@ use mathlib.Core.Logic.{_⊎_, inl, inr, ⊎-elim}
 use mathlib.Core.Bool.{Bool, true, false, cond}
 use mathlib.Core.List.{List, [], _∷_}
 use mathlib.Core.Option.{Option, none, some, Option·none-ne-some}
-use Prim.Native.Nat.{ℕ, suc, _+_, _*_, max, _≤_, _<_}
+use Prim.Native.Nat.{ℕ, suc, _+_, _*_, _≤_, _<_}
 use native.Mathlib.Omega.{arith}
 use lib.Dec.{eqb}
 use lib.ListN.{length}
@@ -18,7 +18,6 @@ use Rattle.pattern.specs.Scan.{refuse}
 use Rattle.pattern.specs.Decode.{decode}
 use Rattle.pattern.specs.Answers.{MatchOutput, scratch-needed, part-bytes, lent-fault, untried, decided, ended, ending, match-ending, matchOf}
 use Rattle.pattern.proofs.Tests.{le-or-lt, if-true, if-false}
-use Rattle.pattern.proofs.Stores.{zeroed-twice}
 use Rattle.pattern.proofs.RoundTrip.{encode-length, good-exactly}
 use Rattle.pattern.proofs.Calls.{good-limited, within-budget, verdict-exactly, trials-fit}
 use Rattle.summary.specs.Summary.{rules-out, summary-of}
@@ -26,16 +25,6 @@ use Rattle.summary.proofs.RulingOut.{ruled-out-verdict}
 use Rattle.register.specs.Maps.{Map}
 use Rattle.register.specs.Layout.{registerOf}
 use Rattle.search.specs.Search.{unlimited, search-refused, is-ruled-out, search-from, searchOf}
-
--- ---- zeros over zeros
-
--- zeros that reach no further than those that are there
-pub zeroed-within : (n z : ℕ) (s : Bytes) → z ≤ length s → n ≤ z → zeroed n (zeroed z s) ≡ zeroed z s
-zeroed-within n z s l h = let e : max n z ≡ z = omega arith in zeroed-twice n z s l ∙ ap (λ x. zeroed x s) e
-
--- zeros that reach as far at least
-pub zeroed-beyond : (n z : ℕ) (s : Bytes) → z ≤ length s → z ≤ n → zeroed n (zeroed z s) ≡ zeroed n s
-zeroed-beyond n z s l h = let e : max n z ≡ n = omega arith in zeroed-twice n z s l ∙ ap (λ x. zeroed x s) e
 
 -- ---- a match of a good table with unlimited budget
 

@@ -84,7 +84,7 @@ module _ (m : Map) (label scratch parts : Bytes) where
   pub record Ends (o : SearchOutput) : Type 0 where
     pub one : ((k : ℕ) × (p : Syntax pattern) × FoundAt k p) ⊎ NoneFound ⊎ ((number : ℕ) × (k : ℕ) × (p : Syntax pattern) × RefusedAt number k p)
     pub found : (k : ℕ) (p : Syntax pattern) → FoundAt k p → (ends : List ℕ) × IsVerdict label p (some ends) × (o ≡ found-output k ends)
-    pub passed : NoneFound → o ≡ none-output
+    pub not-found : NoneFound → o ≡ none-output
     pub refused : (number k : ℕ) (p : Syntax pattern) → RefusedAt number k p → o ≡ refused-output number k
 
   -- each answer exactly where its ending is
