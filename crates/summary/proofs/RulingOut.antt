@@ -1,12 +1,11 @@
--- What the summary of a pattern rules out does not satisfy it. Assumes nothing.
-use mathlib.Core.Path.{_≡_, refl, sym, subst, _∙_}
-use mathlib.Core.Logic.{_⊎_, ⊎-elim}
+-- What an exact summary rules out, and that it does not satisfy the pattern. Assumes nothing.
+use mathlib.Core.Path.{_≡_, refl, sym, ap, subst, _∙_}
+use mathlib.Core.Logic.{_↔_, _⊎_, inl, inr, ⊎-elim}
 use mathlib.Core.Bool.{Bool, true, false, not}
 use mathlib.Core.List.{[], _∷_}
 use mathlib.Core.Option.{none, some}
-use Prim.Native.Nat.{ℕ, _≤_}
+use Prim.Native.Nat.{ℕ, suc, _≤_, _<_}
 use native.Mathlib.Omega.{arith}
-use borrow.Author.Tests.{le-ltb}
 use lib.Dec.{T}
 use lib.ListN.{length}
 use Rattle.pattern.specs.Numbers.{label-limit}
@@ -16,9 +15,9 @@ use Rattle.pattern.specs.Meaning.{Satisfies}
 use Rattle.pattern.specs.Parts.{verdict}
 use Rattle.pattern.specs.Within.{Ordered}
 use Rattle.pattern.specs.Decode.{decode}
-use Rattle.pattern.proofs.Tests.{le-or-lt}
+use Rattle.pattern.proofs.Tests.{Decides, via, either, no-test, leb-decides, true-T, passed, le-or-lt}
 use Rattle.pattern.proofs.Calls.{unsatisfied-no, good-ordered, good-limited, print-compiles}
-use Rattle.summary.specs.Summary.{length-cap, Summary, Exact, summary-of, length-out, first-out, rules-out}
+use Rattle.summary.specs.Summary.{length-cap, Summary, Exact, summary-of, length-out, first-out, rules-out, RuledOut, too-short, too-long, never-first}
 use Rattle.summary.proofs.Summaries.{exact}
 use Rattle.summary.proofs.ByteStrings.{AllBytes, byte-strings}
 
@@ -27,6 +26,14 @@ use Rattle.summary.proofs.ByteStrings.{AllBytes, byte-strings}
 failed : (b : Bool) → ¬ T b → b ≡ false
 failed true f = absurd (f tt)
 failed false f = refl
+
+both-ways : (b : Bool) → T b → ¬ T (not b)
+both-ways true t u = u
+both-ways false t u = t
+
+neither-way : (b : Bool) → ¬ T b → T (not b)
+neither-way true f = absurd (f tt)
+neither-way false f = tt
 
 module _ {P : Bytes → Type 0} {m : Summary} (x : Exact P m) where
   -- where nothing satisfies, it says 256, 0 and no byte
@@ -37,19 +44,43 @@ module _ {P : Bytes → Type 0} {m : Summary} (x : Exact P m) where
     λ b. failed (m .first b) (λ t. let (s, p) = x .first .sound b t in f (b ∷ s) p),
   )
 
-  first-in : (l : Bytes) → P l → first-out m l ≡ false
+  first-decided : (l : Bytes) → Decides (first-out m l) ((b : ℕ) × (rest : Bytes) × (l ≡ b ∷ rest) × ((s : Bytes) → ¬ P (b ∷ s)))
   unfolding first-out
-  first-in [] p = refl
-  first-in (b ∷ s) p = go (m .first b) (x .first .complete b s p)
-    where
-      go : (c : Bool) → T c → not c ≡ false
-      go true t = refl
-      go false t = absurd t
+  first-decided [] = no-test (λ (b, rest, e, f). omega (arith, ap length e))
+  first-decided (b ∷ l) = record {
+    sound = λ t. (b, l, refl, λ s p. both-ways (m .first b) (x .first .complete b s p) t);
+    complete = λ (c, rest, e, f). neither-way (m .first b) (λ t. let (s, p) = x .first .sound b t in f s (let g : b ≡ c = cc in subst (λ k. P (k ∷ s)) g p));
+  }
 
-  -- a label of the set is not ruled out
-  pub exact-keeps : (l : Bytes) → length l ≤ label-limit → P l → rules-out m l ≡ false
-  unfolding rules-out length-out
-  exact-keeps l h p = rw (le-ltb (length l) (m .shortest) (x .shortest .least l p), le-ltb (m .longest) (length l) (omega (arith, x .longest .most l p)), first-in l p)
+  module _ (l : Bytes) (short : length l ≤ label-limit) where
+    by-lengths : RuledOut P l → ((length l < m .shortest) ⊎ (m .longest < length l)) ⊎ ((b : ℕ) × (rest : Bytes) × (l ≡ b ∷ rest) × ((s : Bytes) → ¬ P (b ∷ s)))
+    by-lengths (too-short f) =
+        inl (inl (⊎-elim (λ h. omega arith) (λ h. let (s, p, e) = x .shortest .met h in omega (arith, f s p)) (le-or-lt length-cap (m .shortest))))
+    by-lengths (too-long f) =
+        let empty : m .longest ≤ 0 → length l ≤ m .longest → length l < m .shortest = λ h k. omega (arith, impossible (λ s p. omega (arith, f s p)) .0) in
+        inl (⊎-elim (λ k. inl (⊎-elim (λ h. empty h k) (λ h. let (s, p, e) = x .longest .met h in absurd (omega (arith, f s p))) (le-or-lt (m .longest) 0))) inr (le-or-lt (length l) (m .longest)))
+    by-lengths (never-first b rest e f) = inr (b, rest, e, f)
+
+    decided : Decides (rules-out m l) (RuledOut P l)
+    unfolding rules-out length-out
+    decided = via (either (either (leb-decides (suc (length l)) (m .shortest)) (leb-decides (suc (m .longest)) (length l))) (first-decided l)) (
+      ⊎-elim (⊎-elim (λ h. too-short (λ s p. omega (arith, x .shortest .least s p))) (λ h. too-long (λ s p. omega (arith, x .longest .most s p))))
+      (λ (b, rest, e, f). never-first b rest e f),
+      by-lengths,
+    )
+
+    -- an exact summary rules out exactly what the set itself does
+    pub ruled-out-exactly : (rules-out m l ≡ true) ↔ RuledOut P l
+    ruled-out-exactly = (λ e. decided .sound (true-T _ e), λ r. passed _ (decided .complete r))
+
+    -- a label of the set is not ruled out
+    pub exact-keeps : P l → rules-out m l ≡ false
+    exact-keeps p = failed (rules-out m l) (λ t. kept (decided .sound t))
+      where
+        kept : ¬ RuledOut P l
+        kept (too-short f) = omega (arith, f l p)
+        kept (too-long f) = omega (arith, f l p)
+        kept (never-first b rest e f) = f rest (rw e at p)
 
 -- ---- trees
 
@@ -64,6 +95,9 @@ module _ (table : Bytes) (t : Syntax pattern) (good : decode table ≡ some t) w
 
   pub table-exact : Exact (Satisfies t) (summary-of t)
   table-exact = exact t table-ordered
+
+  pub table-ruled-out-exactly : (l : Bytes) → length l ≤ label-limit → (rules-out (summary-of t) l ≡ true) ↔ RuledOut (Satisfies t) l
+  table-ruled-out-exactly = ruled-out-exactly table-exact
 
   pub table-never-ruled-out : (l : Bytes) → length l ≤ label-limit → Satisfies t l → rules-out (summary-of t) l ≡ false
   table-never-ruled-out = never-ruled-out t table-ordered

@@ -132,3 +132,9 @@ first-out m (b ∷ l) = not (m .first b)
 
 unfoldable pub rules-out : Summary → Bytes → Bool
 rules-out m l = length-out m l || first-out m l
+
+-- what that comes to, by the strings themselves: every string of P is longer than the label, or every one shorter, or none begins with its first byte
+pub data RuledOut (P : Bytes → Type 0) (l : Bytes) : Type 0 where
+  too-short : ((s : Bytes) → P s → length l < length s) → RuledOut P l
+  too-long : ((s : Bytes) → P s → length s < length l) → RuledOut P l
+  never-first : (b : ℕ) (rest : Bytes) → l ≡ b ∷ rest → ((s : Bytes) → ¬ P (b ∷ s)) → RuledOut P l
