@@ -1,23 +1,29 @@
 -- What lies in a register under a number: its slot and its table. Assumes nothing.
-use mathlib.Core.Path.{_≡_, refl, sym, ap, _∙_}
+use mathlib.Core.Path.{_≡_, refl, sym, ap, subst, _∙_}
+use mathlib.Core.Logic.{_↔_}
+use mathlib.Core.Bool.{Bool, true, false, cond}
 use mathlib.Core.List.{[], _++_, append-assoc}
 use mathlib.Core.Option.{Option, none, some}
-use Prim.Native.Nat.{ℕ, suc, _+_, _*_, _-_, _≤_, _<_}
+use Prim.Native.Nat.{ℕ, suc, _+_, _*_, _-_, _/_, _%_, _^_, _≤_, _<_}
 use native.Mathlib.Omega.{arith}
-use lib.ListN.{length, take, drop, length-drop}
-use lib.Seq.{take-at, drop-at, drop-drop}
+use lib.ListN.{length, getD, take, drop, length-drop}
+use lib.Seq.{take-at, drop-at, drop-drop, getD-drop}
 use Rattle.pattern.specs.Bytes.{Bytes, le16, little, number-in}
 use Rattle.pattern.specs.Syntax.{pattern, Syntax, size, top-size}
 use Rattle.pattern.specs.Meaning.{Satisfies}
-use Rattle.pattern.specs.Decode.{decode}
+use Rattle.pattern.specs.Decode.{field, decode}
+use Rattle.pattern.proofs.Tests.{Decides}
 use Rattle.pattern.proofs.Rooms.{top-le}
 use Rattle.pattern.proofs.Calls.{good-ordered, good-limited}
 use Rattle.stores.proofs.Little.{length-little, number-field, number-little}
-use Rattle.summary.specs.Summary.{Summary, Exact, summary-of, summary-bytes, summary-size}
+use Rattle.summary.specs.Summary.{Summary, IsShortest, IsLongest, Exact, summary-of, summary-bytes, summary-size}
+use Rattle.summary.proofs.Exactness.{first-decides}
 use Rattle.summary.proofs.Summaries.{exact-bytes}
+use Rattle.summary.proofs.RulingOut.{table-exact}
 use Rattle.summary.proofs.SummaryBytes.{length-summary-bytes}
+use Rattle.summary.proofs.SummaryRead.{shortest-is, longest-is, bit-is}
 use Rattle.register.specs.Maps.{numbers, Map, table-of, tables, total, Changed}
-use Rattle.register.specs.Layout.{preamble-size, length-size, entry, slot-size, slot, directory-size, directory, overhead, capacity, registerOf}
+use Rattle.register.specs.Layout.{preamble-size, length-size, entry, slot-size, slot, directory-size, directory, overhead, capacity, registerOf, slot-start, KeptExact}
 use Rattle.register.specs.Register.{storeOf, removeOf}
 use Rattle.register.specs.Slots.{atoms-place, top-place, summary-place, kept-at}
 use Rattle.register.proofs.Maps.{allowed-short, others-stay, total-suc, total-split}
@@ -30,9 +36,14 @@ use Rattle.register.proofs.Putting.{directory-split, slot-place, old-is
 by-slot : (u x w y : Bytes) → (u ++ (x ++ w)) ++ y ≡ u ++ (x ++ (w ++ y))
 by-slot u x w y = simp append-assoc
 
--- the place of a number's slot
-abbrev pub slot-start : ℕ → ℕ
-slot-start k = preamble-size + slot-size * k
+field-drop : (s : Bytes) (n i j : ℕ) → n + i ≡ j → field (drop n s) i ≡ field s j
+field-drop s n i j e =
+    let f : n + (i + 1) ≡ j + 1 = omega arith in
+    omega (arith, getD-drop n s i 0 ∙ ap (λ k. getD s k 0) e, getD-drop n s (i + 1) 0 ∙ ap (λ k. getD s k 0) f)
+
+one-exactly : {X : Type 0} (x : Bool) (n : ℕ) → n ≡ cond x 1 0 → Decides x X → (n ≡ 1) ↔ X
+one-exactly true n e d = (λ f. d .sound tt, λ h. e)
+one-exactly false n e d = (λ f. absurd (omega arith), λ h. absurd (d .complete h))
 
 module _ (lent : Bytes) (m : Map) (e : registerOf lent ≡ some m) where
   abbrev rest : Bytes
@@ -90,6 +101,20 @@ module _ (lent : Bytes) (m : Map) (e : registerOf lent ≡ some m) where
       summary-is =
           let (after, f) = entry-from in
           ap (take summary-size) (sym (drop-drop summary-place (slot-start k) lent) ∙ ap (drop summary-place) f) ∙ take-at (summary-bytes (summary-of p)) after summary-size (length-summary-bytes (summary-of p))
+
+      pub kept-exact : KeptExact lent k p
+      kept-exact =
+          let at : ℕ = slot-start k + summary-place in
+          let s : Bytes = drop at lent in
+          let u : Summary = summary-of p in
+          let x : Exact (Satisfies p) u = table-exact (table-of m k) p d in
+          let place : (b : ℕ) → at + (4 + b / 8) ≡ slot-start k + 12 + b / 8 = λ b. omega arith in
+          let byte : (b : ℕ) → getD lent (slot-start k + 12 + b / 8) 0 ≡ getD s (4 + b / 8) 0 = λ b. sym (getD-drop at lent (4 + b / 8) 0 ∙ ap (λ i. getD lent i 0) (place b)) in
+          record {
+            shortest = subst (IsShortest (Satisfies p)) (sym (shortest-is s u summary-is) ∙ field-drop lent at 0 (slot-start k + 8) (omega arith)) (x .shortest);
+            longest = subst (IsLongest (Satisfies p)) (sym (longest-is s u summary-is) ∙ field-drop lent at 2 (slot-start k + 10) (omega arith)) (x .longest);
+            first = λ b h. one-exactly (u .first b) _ (ap (λ y. y / 2 ^ (b % 8) % 2) (byte b) ∙ bit-is s u summary-is b h) (first-decides x b);
+          }
 
     -- its table
     pub table-is : take (length (table-of m k)) (drop (overhead + total (take k m)) lent) ≡ table-of m k

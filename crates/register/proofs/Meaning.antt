@@ -10,7 +10,7 @@ use borrow.Author.Tests.{le-leb, leb-true}
 use lib.Dec.{T, leb}
 use lib.ListN.{length, take, drop, length-append, length-drop, take-append-drop}
 use lib.Seq.{drop-drop, drop-at}
-use Rattle.pattern.specs.Bytes.{Bytes, equal, overwrite}
+use Rattle.pattern.specs.Bytes.{Bytes, equal, le16, overwrite}
 use Rattle.pattern.proofs.Agree.{equal-decides}
 use Rattle.pattern.proofs.Tests.{true-T, and-both, passed, if-true}
 use Rattle.pattern.proofs.Stores.{take-overwrite, drop-overwrite}
@@ -202,3 +202,8 @@ same-option (some m) p f g = sym (f m refl)
 
 pub found-is : (lent : Bytes) → found lent ≡ registerOf lent
 found-is lent = same-option (found lent) (registerOf lent) (λ m e. means lent m (found-meant lent m e)) (λ m e. meant-found lent m (meant lent m e))
+
+-- "a version 1 register, is 18": what begins as one means no map
+pub version-1-none : (rest : Bytes) → registerOf (77 ∷ 80 ∷ 82 ∷ le16 1 rest) ≡ none
+unfolding found only-if equal
+version-1-none rest = sym (found-is (77 ∷ 80 ∷ 82 ∷ le16 1 rest))

@@ -1,15 +1,17 @@
 -- How a map lies in lent bytes, and the map that lent bytes mean (docs/REGISTER.md). To be believed.
 use mathlib.Core.Path.{_≡_}
+use mathlib.Core.Logic.{_↔_}
 use mathlib.Core.Bool.{Bool, true, false, _&&_, _||_}
 use mathlib.Core.List.{[], _∷_, _++_}
 use mathlib.Core.Option.{Option, none, some}
-use Prim.Native.Nat.{ℕ, zero, suc, _+_, _*_, _-_}
+use Prim.Native.Nat.{ℕ, zero, suc, _+_, _*_, _-_, _/_, _%_, _^_, _<_}
 use lib.Dec.{eqb}
-use lib.ListN.{length, take, drop, replicate}
+use lib.ListN.{length, getD, take, drop, replicate}
 use Rattle.pattern.specs.Bytes.{Bytes, equal, le16, little, number-in, overwrite}
 use Rattle.pattern.specs.Syntax.{pattern, Syntax, size, top-size}
-use Rattle.pattern.specs.Decode.{decode}
-use Rattle.summary.specs.Summary.{summary-of, summary-bytes}
+use Rattle.pattern.specs.Meaning.{Satisfies}
+use Rattle.pattern.specs.Decode.{field, decode}
+use Rattle.summary.specs.Summary.{byte-count, IsShortest, IsLongest, summary-of, summary-bytes}
 use Rattle.register.specs.Maps.{numbers, Map, table-of, tables, is-table}
 
 -- "mark MPR" and version 2, and zeros up to 8 bytes
@@ -92,6 +94,17 @@ pub record Proper (m : Map) : Type 0 where
 pub record Meant (lent : Bytes) (m : Map) : Type 0 where
   pub proper : Proper m
   pub bytes : lent ≡ overwrite (laid-out m) lent
+
+-- the place of a number's slot
+abbrev pub slot-start : ℕ → ℕ
+slot-start k = preamble-size + slot-size * k
+
+-- "These three are exact": a slot has its pattern's shortest length in the two bytes at 8, the longest in those at 10, and from 12 on, for each byte that can
+-- begin a non-empty string, bit b % 8 of byte b / 8
+pub record KeptExact (lent : Bytes) (k : ℕ) (p : Syntax pattern) : Type 0 where
+  pub shortest : IsShortest (Satisfies p) (field lent (slot-start k + 8))
+  pub longest : IsLongest (Satisfies p) (field lent (slot-start k + 10))
+  pub first : (b : ℕ) → b < byte-count → (getD lent (slot-start k + 12 + b / 8) 0 / 2 ^ (b % 8) % 2 ≡ 1) ↔ ((s : Bytes) × Satisfies p (b ∷ s))
 
 -- how many tables a map has
 unfoldable pub table-count : Map → ℕ

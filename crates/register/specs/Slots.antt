@@ -9,12 +9,13 @@ use Rattle.pattern.specs.Decode.{field, decode}
 use Rattle.table.specs.declared.Sizes.{Sizes}
 use Rattle.table.specs.declared.Tested.the-variants.{Good}
 use Rattle.table.specs.Tested.{tested}
+use Rattle.summary.specs.Rows.{row-size}
 use Rattle.register.specs.declared.slot.Kept.{Kept}
 use Rattle.register.specs.Layout.{length-size, slot-size}
 
 -- rows for the atoms of every table
 abbrev pub rows-room : ℕ
-rows-room = 6 * atom-limit
+rows-room = row-size * atom-limit
 
 -- the table is good, and there are rows enough
 pub record SlotPre (table : Bytes) (sizes : Sizes) (rows : List ℕ) : Type 0 where

@@ -11,7 +11,7 @@ use lib.ListN.{length, getD, take}
 use lib.Seq.{getD-take}
 use Rattle.pattern.specs.Bytes.{Bytes}
 use Rattle.pattern.specs.Decode.{field}
-use Rattle.summary.specs.Summary.{Summary, bits, set-bytes, summary-bytes, summary-size, length-out, first-out, rules-out}
+use Rattle.summary.specs.Summary.{byte-count, Summary, bits, set-bytes, summary-bytes, summary-size, length-out, first-out, rules-out}
 use Rattle.summary.specs.Ruling.{RulesOut}
 use Rattle.summary.proofs.Words.{bits-same, digit-small}
 
@@ -50,22 +50,24 @@ module _ (s : Bytes) (m : Summary) (e : take summary-size s ≡ summary-bytes m)
   at : (k : ℕ) → k < summary-size → getD s k 0 ≡ getD (summary-bytes m) k 0
   at k h = sym (getD-take summary-size s k 0 h) ∙ ap (λ (l : Bytes). getD l k 0) e
 
-  shortest-is : field s 0 ≡ m .shortest
+  pub shortest-is : field s 0 ≡ m .shortest
   unfolding summary-bytes
   shortest-is = omega (arith, at 0 (omega arith), at 1 (omega arith))
 
-  longest-is : field s 2 ≡ m .longest
+  pub longest-is : field s 2 ≡ m .longest
   unfolding summary-bytes
   longest-is = omega (arith, at 2 (omega arith), at 3 (omega arith))
 
-  first-is : (b : ℕ) → b < 256 → eqb (getD s (4 + b / 8) 0 / 2 ^ (b % 8) % 2) 0 ≡ not (m .first b)
+  pub bit-is : (b : ℕ) → b < byte-count → getD s (4 + b / 8) 0 / 2 ^ (b % 8) % 2 ≡ cond (m .first b) 1 0
   unfolding summary-bytes
-  first-is b h =
+  bit-is b h =
       let z : 4 + b / 8 ≡ suc (suc (suc (suc (b / 8)))) = omega arith in
       let y : 8 * (b / 8) + b % 8 ≡ b = omega arith in
       let w : getD s (4 + b / 8) 0 ≡ bits 8 (λ j. m .first (8 * (b / 8) + j)) = at (4 + b / 8) (omega arith) ∙ ap (λ (k : ℕ). getD (summary-bytes m) k 0) z ∙ set-at 32 (m .first) (b / 8) (omega arith) in
-      ap (λ (x : ℕ). eqb (x / 2 ^ (b % 8) % 2) 0) w ∙ ap (λ (x : ℕ). eqb x 0) (bit-at 8 (λ j. m .first (8 * (b / 8) + j)) (b % 8) (omega arith))
-      ∙ zero-digit (m .first (8 * (b / 8) + b % 8)) ∙ ap (λ k. not (m .first k)) y
+      ap (λ (x : ℕ). x / 2 ^ (b % 8) % 2) w ∙ bit-at 8 (λ j. m .first (8 * (b / 8) + j)) (b % 8) (omega arith) ∙ ap (λ k. cond (m .first k) 1 0) y
+
+  first-is : (b : ℕ) → b < byte-count → eqb (getD s (4 + b / 8) 0 / 2 ^ (b % 8) % 2) 0 ≡ not (m .first b)
+  first-is b h = ap (λ (x : ℕ). eqb x 0) (bit-is b h) ∙ zero-digit (m .first b)
 
   module _ (label : Bytes) where
     short-out : length label < field s 0 → true ≡ rules-out m label
