@@ -1,13 +1,14 @@
--- A layout byte by byte, and tables of both versions. Assumes nothing.
+-- A layout and a slot byte by byte, and tables of both versions. Assumes nothing.
 use mathlib.Core.Path.{_≡_, refl}
 use mathlib.Core.Bool.{true}
 use mathlib.Core.List.{[], _∷_, _++_}
 use lib.ListN.{take, drop, set, replicate}
-use Rattle.pattern.specs.Bytes.{Bytes, little}
+use Rattle.pattern.specs.Bytes.{Bytes, little, bytes}
 use Rattle.pattern.specs.Decision.{any}
+use Rattle.pattern.specs.Answers.{compileOf}
 use Rattle.pattern.proofs.Computed.{computed}
 use Rattle.pattern.proofs.Sources.{header-1, header-2, Payload-2N}
-use Rattle.summary.specs.Summary.{often, once, of-class, of-repeat, summary-of, bits, set-bytes, summary-bytes}
+use Rattle.summary.specs.Summary.{possible, of-class, of-literal, of-both, of-either, often, once, of-repeat, summary-of, bits, set-bytes, summary-bytes}
 use Rattle.register.specs.Maps.{Map, empty, tables, is-table}
 use Rattle.register.specs.Layout.{entry, slot, directory, section, laid-out}
 
@@ -24,6 +25,12 @@ pub layout-holds :
     × (drop 11228 (laid-out two-kept) ≡ 18 ∷ 0 ∷ 0 ∷ 0 ∷ 1 ∷ 0 ∷ 1 ∷ 0 ∷ 2 ∷ 0 ∷ 2 ∷ 0 ∷ digits ++ header-2 1 0 Payload-2N ++ header-1 1 0 Payload-2N)
 unfolding computed empty tables slot entry directory section laid-out little summary-bytes set-bytes bits summary-of of-repeat of-class often once any
 layout-holds = (refl, refl)
+
+-- the slot of 2(1N,1"ab"): 41 bytes, three atoms, one top-level atom, lengths 2 and 4, and the ten digits and `a`
+pub slot-holds : slot (compileOf (bytes "2(1N,1\"ab\")") (replicate 41 0) .bytes)
+    ≡ 41 ∷ 0 ∷ 0 ∷ 0 ∷ 3 ∷ 0 ∷ 1 ∷ 0 ∷ 2 ∷ 0 ∷ 4 ∷ 0 ∷ replicate 6 0 ++ 255 ∷ 3 ∷ replicate 4 0 ++ 2 ∷ replicate 19 0
+unfolding computed slot entry little summary-bytes set-bytes bits summary-of of-repeat of-class of-literal of-both of-either possible often once any
+slot-holds = refl
 
 -- "The register keeps either version": the tables of 2N
 pub either-kept : (is-table (header-1 1 0 Payload-2N) ≡ true) × (is-table (header-2 1 0 Payload-2N) ≡ true)
