@@ -162,7 +162,7 @@ at-group : {xs : List (Syntax pattern)} {k : ℕ} {b : Syntax body} (bs : Syntax
 unfolding nodes
 at-group bs e h = record { rest = h .rest; from = h .from ∙ ap (λ (y : Syntax body). nodes y ++ h .rest) e }
 
-no-bytes : (l : Bytes) → length l ≡ 0 → l ≡ []
+pub no-bytes : (l : Bytes) → length l ≡ 0 → l ≡ []
 no-bytes [] e = refl
 no-bytes (b ∷ l) e = absurd (omega arith)
 

@@ -19,6 +19,7 @@ use Rattle.table.specs.declared.Sizes.{Sizes}
 use Rattle.summary.specs.Summary.{summary-of, summary-bytes, summary-size}
 use Rattle.summary.proofs.SummaryBytes.{length-summary-bytes}
 use Rattle.atoms.proofs.Goods.{GoodSizes}
+use Rattle.atoms.proofs.Views.{no-bytes}
 use Rattle.register.specs.Maps.{is-table}
 use Rattle.register.specs.Layout.{length-size, entry, slot-size, slot, allowed}
 use Rattle.register.proofs.Maps.{table-allowed}
@@ -68,10 +69,6 @@ not-same a b at n = go (equal a b) refl
     go true e = absurd (n (ap (λ (x : Bytes). number-in (take length-size (drop at x))) (equal-decides a b .sound (true-T _ e))))
 
 -- ---- whether a slot is a table's own
-
-no-bytes : (t : Bytes) → length t ≡ 0 → t ≡ []
-no-bytes [] h = refl
-no-bytes (a ∷ t) h = absurd (omega arith)
 
 module _ (bytes table : Bytes) where
   pub intact-none : (r : Bool) → length table ≡ 0 → r ≡ equal bytes (replicate slot-size 0) → r ≡ (allowed table && equal bytes (slot table))

@@ -9,6 +9,7 @@ use lib.Dec.{T, eqb}
 use lib.ListN.{length}
 use Rattle.pattern.specs.Bytes.{Bytes}
 use Rattle.pattern.proofs.Tests.{Decides, via, leb-decides, eqb-decides, le-or-lt}
+use Rattle.atoms.proofs.Views.{no-bytes}
 use Rattle.summary.specs.Summary.{length-cap, Summary, IsShortest, IsLongest, AreFirst, Exact, possible}
 
 -- ---- it is the only one
@@ -54,10 +55,6 @@ module _ {P : Bytes → Type 0} where
 
 -- ---- what an exact summary says
 
-no-length : (s : Bytes) → length s ≡ 0 → s ≡ []
-no-length [] e = refl
-no-length (a ∷ s) e = absurd (omega arith)
-
 module _ {P : Bytes → Type 0} {m : Summary} (x : Exact P m) where
   some-possible : (s : Bytes) → P s → m .shortest ≤ m .longest
   some-possible s p = omega (arith, x .shortest .least s p, x .shortest .capped, x .longest .most s p)
@@ -77,7 +74,7 @@ module _ {P : Bytes → Type 0} {m : Summary} (x : Exact P m) where
   -- the empty list
   pub empty-decides : Decides (eqb (m .shortest) 0) (P [])
   empty-decides = via (eqb-decides (m .shortest) 0) (
-    λ e. let (s, p, f) = x .shortest .met (omega arith) in rw (no-length s (f ∙ e)) at p,
+    λ e. let (s, p, f) = x .shortest .met (omega arith) in rw (no-bytes s (f ∙ e)) at p,
     λ p. omega (arith, x .shortest .least [] p),
   )
 

@@ -17,9 +17,10 @@ use Rattle.pattern.specs.Within.{Ordered}
 use Rattle.pattern.specs.Decode.{decode}
 use Rattle.pattern.proofs.Tests.{Decides, via, either, no-test, leb-decides, true-T, passed, le-or-lt}
 use Rattle.pattern.proofs.Calls.{unsatisfied-no, good-ordered, good-limited, print-compiles}
+use Rattle.stores.proofs.Little.{Octets}
 use Rattle.summary.specs.Summary.{length-cap, Summary, Exact, summary-of, length-out, first-out, rules-out, RuledOut, too-short, too-long, never-first}
 use Rattle.summary.proofs.Summaries.{exact}
-use Rattle.summary.proofs.ByteStrings.{AllBytes, byte-strings}
+use Rattle.summary.proofs.ByteStrings.{byte-strings}
 
 -- ---- exact summaries
 
@@ -102,7 +103,7 @@ module _ (table : Bytes) (t : Syntax pattern) (good : decode table ≡ some t) w
   pub table-never-ruled-out : (l : Bytes) → length l ≤ label-limit → Satisfies t l → rules-out (summary-of t) l ≡ false
   table-never-ruled-out = never-ruled-out t table-ordered
 
-  pub table-byte-strings : (s : Bytes) → Satisfies t s → AllBytes s
+  pub table-byte-strings : (s : Bytes) → Satisfies t s → Octets s
   table-byte-strings = byte-strings t _ (print-compiles table t good .derives)
 
   -- a call for a label that is ruled out would have answered no
