@@ -99,8 +99,8 @@ pub record Meant (lent : Bytes) (m : Map) : Type 0 where
 abbrev pub slot-start : ℕ → ℕ
 slot-start k = preamble-size + slot-size * k
 
--- "These three are exact": a slot has its pattern's shortest length in the two bytes at 8, the longest in those at 10, and from 12 on, for each byte that can
--- begin a non-empty string, bit b % 8 of byte b / 8
+-- "These three are exact": a slot has its pattern's shortest length in the two bytes at 8 and the longest in those at 10, and from 12 on bit b % 8 of
+-- byte b / 8 is 1 just where b can begin a non-empty string
 pub record KeptExact (lent : Bytes) (k : ℕ) (p : Syntax pattern) : Type 0 where
   pub shortest : IsShortest (Satisfies p) (field lent (slot-start k + 8))
   pub longest : IsLongest (Satisfies p) (field lent (slot-start k + 10))

@@ -14,7 +14,7 @@ or-cases : (a b : Bool) → T (a || b) → T a ⊎ T b
 or-cases true b t = inl tt
 or-cases false b t = inr t
 
--- every range, and every code's, ends at a byte
+-- every range of every code ends at a byte
 ends-in : List (ℕ × ℕ) → Bool
 ends-in [] = true
 ends-in (r ∷ rs) = leb (suc (r .1)) byte-count && ends-in rs

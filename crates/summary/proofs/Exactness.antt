@@ -63,15 +63,16 @@ module _ {P : Bytes → Type 0} {m : Summary} (x : Exact P m) where
   possible-some h =
       ⊎-elim (λ l. let (s, p, e) = x .longest .met (omega arith) in (s, p)) (λ l. let (s, p, e) = x .shortest .met l in (s, p)) (le-or-lt length-cap (m .shortest))
 
+  -- it says whether there is a string
   pub possible-decides : Decides (possible m) ((s : Bytes) × P s)
   unfolding possible
   possible-decides = via (leb-decides (m .shortest) (m .longest)) (possible-some, λ (s, p). some-possible s p)
 
-  -- a list of the longest length, also where that is 0
+  -- where there is a string, there is one at least as long as the longest length
   pub long : (s : Bytes) → P s → (t : Bytes) × P t × (m .longest ≤ length t)
   long s p = ⊎-elim (λ l. (s, p, omega arith)) (λ l. x .longest .met l) (le-or-lt (m .longest) 0)
 
-  -- the empty list
+  -- the shortest length is 0 just where the empty string is one of them
   pub empty-decides : Decides (eqb (m .shortest) 0) (P [])
   empty-decides = via (eqb-decides (m .shortest) 0) (
     λ e. let (s, p, f) = x .shortest .met (omega arith) in rw (no-bytes s (f ∙ e)) at p,
@@ -81,6 +82,6 @@ module _ {P : Bytes → Type 0} {m : Summary} (x : Exact P m) where
   pub first-decides : (b : ℕ) → Decides (m .first b) ((s : Bytes) × P (b ∷ s))
   first-decides b = record { sound = x .first .sound b; complete = λ (s, p). x .first .complete b s p }
 
--- the bytes of which it is decided that they can be first
+-- a test that decides which bytes can be first
 pub first-by : {P : Bytes → Type 0} (f : ℕ → Bool) → ((b : ℕ) → Decides (f b) ((s : Bytes) × P (b ∷ s))) → AreFirst P f
 first-by f d = record { sound = λ b t. d b .sound t; complete = λ b s p. d b .complete (s, p) }

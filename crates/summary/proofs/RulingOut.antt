@@ -19,6 +19,7 @@ use Rattle.pattern.proofs.Tests.{Decides, via, either, no-test, leb-decides, tr
 use Rattle.pattern.proofs.Calls.{unsatisfied-no, good-ordered, good-limited, print-compiles}
 use Rattle.stores.proofs.Little.{Octets}
 use Rattle.summary.specs.Summary.{length-cap, Summary, Exact, summary-of, length-out, first-out, rules-out, RuledOut, too-short, too-long, never-first}
+use Rattle.summary.proofs.Exactness.{first-decides}
 use Rattle.summary.proofs.Summaries.{exact}
 use Rattle.summary.proofs.ByteStrings.{byte-strings}
 
@@ -28,13 +29,9 @@ failed : (b : Bool) → ¬ T b → b ≡ false
 failed true f = absurd (f tt)
 failed false f = refl
 
-both-ways : (b : Bool) → T b → ¬ T (not b)
-both-ways true t u = u
-both-ways false t u = t
-
-neither-way : (b : Bool) → ¬ T b → T (not b)
-neither-way true f = absurd (f tt)
-neither-way false f = tt
+fails : {b : Bool} {X : Type 0} → Decides b X → Decides (not b) (¬ X)
+fails {b = true} d = record { sound = λ t. absurd t; complete = λ f. f (d .sound tt) }
+fails {b = false} d = record { sound = λ t. d .complete; complete = λ f. tt }
 
 module _ {P : Bytes → Type 0} {m : Summary} (x : Exact P m) where
   -- where nothing satisfies, it says 256, 0 and no byte
@@ -45,16 +42,16 @@ module _ {P : Bytes → Type 0} {m : Summary} (x : Exact P m) where
     λ b. failed (m .first b) (λ t. let (s, p) = x .first .sound b t in f (b ∷ s) p),
   )
 
-  first-decided : (l : Bytes) → Decides (first-out m l) ((b : ℕ) × (rest : Bytes) × (l ≡ b ∷ rest) × ((s : Bytes) → ¬ P (b ∷ s)))
+  abbrev NeverFirst : Bytes → Type 0
+  NeverFirst l = (b : ℕ) × (rest : Bytes) × (l ≡ b ∷ rest) × ((s : Bytes) → ¬ P (b ∷ s))
+
+  first-decided : (l : Bytes) → Decides (first-out m l) (NeverFirst l)
   unfolding first-out
   first-decided [] = no-test (λ (b, rest, e, f). omega (arith, ap length e))
-  first-decided (b ∷ l) = record {
-    sound = λ t. (b, l, refl, λ s p. both-ways (m .first b) (x .first .complete b s p) t);
-    complete = λ (c, rest, e, f). neither-way (m .first b) (λ t. let (s, p) = x .first .sound b t in f s (let g : b ≡ c = cc in subst (λ k. P (k ∷ s)) g p));
-  }
+  first-decided (b ∷ l) = via (fails (first-decides x b)) (λ f. (b, l, refl, λ s p. f (s, p)), λ (c, rest, e, f) (s, p). f s (let g : b ≡ c = cc in rw g at p))
 
   module _ (l : Bytes) (short : length l ≤ label-limit) where
-    by-lengths : RuledOut P l → ((length l < m .shortest) ⊎ (m .longest < length l)) ⊎ ((b : ℕ) × (rest : Bytes) × (l ≡ b ∷ rest) × ((s : Bytes) → ¬ P (b ∷ s)))
+    by-lengths : RuledOut P l → ((length l < m .shortest) ⊎ (m .longest < length l)) ⊎ NeverFirst l
     by-lengths (too-short f) =
         inl (inl (⊎-elim (λ h. omega arith) (λ h. let (s, p, e) = x .shortest .met h in omega (arith, f s p)) (le-or-lt length-cap (m .shortest))))
     by-lengths (too-long f) =
@@ -66,7 +63,7 @@ module _ {P : Bytes → Type 0} {m : Summary} (x : Exact P m) where
     unfolding rules-out length-out
     decided = via (either (either (leb-decides (suc (length l)) (m .shortest)) (leb-decides (suc (m .longest)) (length l))) (first-decided l)) (
       ⊎-elim (⊎-elim (λ h. too-short (λ s p. omega (arith, x .shortest .least s p))) (λ h. too-long (λ s p. omega (arith, x .longest .most s p))))
-      (λ (b, rest, e, f). never-first b rest e f),
+          (λ (b, rest, e, f). never-first b rest e f),
       by-lengths,
     )
 

@@ -136,7 +136,7 @@ module _ {P Q : Bytes → Type 0} {m n : Summary} (x : Exact P m) (y : Exact Q n
 
 -- ---- repeats
 
--- k of one list
+-- k copies of one string
 copies : (P : Bytes → Type 0) (a : Bytes) → P a → (k : ℕ) → (s : Bytes) × Power P k s × (length s ≡ k * length a)
 unfolding Power Cut
 copies P a p zero = ([], refl, omega arith)
@@ -148,7 +148,7 @@ upto-zero none low u = tt
 upto-zero (some h) low u = omega arith
 
 module _ {P : Bytes → Type 0} {m : Summary} (x : Exact P m) where
-  -- k bodies are at least k times the shortest, and at most k times the longest, as long
+  -- k bodies are at least k times as long as the shortest, and at most k times as long as the longest
   power-least : (k : ℕ) (s : Bytes) → Power P k s → k * m .shortest ≤ length s
   unfolding Power Cut
   power-least zero s e = omega arith
@@ -218,7 +218,7 @@ module _ {P : Bytes → Type 0} {m : Summary} (x : Exact P m) where
           (s, (h, o, omega arith, d), omega (arith, f, mul-le-mul-left h e));
     }
 
-    -- at least one, the first of which is this
+    -- enough bodies, the first of which begins with b
     ahead : (b : ℕ) (s : Bytes) → P (b ∷ s) → (t : Bytes) × Power P (suc (low - 1)) (b ∷ t)
     unfolding Power Cut
     ahead b s p = let (t, d, f) = copies P (b ∷ s) p (low - 1) in (s ++ t, (b ∷ s, t, refl, p, d))
@@ -240,7 +240,7 @@ module _ {P : Bytes → Type 0} {m : Summary} (x : Exact P m) where
 
 -- ---- the theorem
 
--- of every tree whose counts are ordered the summary is exact, over lists of any length
+-- "These three are exact, over strings of any length": so is the summary of every tree whose counts are ordered
 pub exact : {s : Sort} (t : Syntax s) → Ordered t → Exact (Satisfies t) (summary-of t)
 unfolding Satisfies Ordered summary-of OneOf
 exact (last a) o = exact a o
@@ -252,7 +252,7 @@ exact (group bs) o = exact bs o
 exact (only p) o = exact p o
 exact (or p bs) o = either-exact (exact p (o .0)) (exact bs (o .1))
 
--- and what says the same is exact, and nothing else
+-- a summary is exact just where it says the same
 pub exact-exactly : {s : Sort} (t : Syntax s) → Ordered t → (m : Summary) → Exact (Satisfies t) m ↔ Same m (summary-of t)
 exact-exactly t o m = (λ x. exact-unique x (exact t o), same-exact (exact t o))
 

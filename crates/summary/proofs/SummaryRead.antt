@@ -1,4 +1,4 @@
--- What the bytes of a summary say of a label. Assumes nothing.
+-- What is read from the bytes of a summary, and what it says of a label. Assumes nothing.
 use mathlib.Core.Path.{_≡_, refl, sym, ap, _∙_}
 use mathlib.Core.Bool.{Bool, true, false, not, cond}
 use mathlib.Core.List.{[], _∷_}
@@ -15,7 +15,7 @@ use Rattle.summary.specs.Summary.{byte-count, Summary, bits, set-bytes, 
 use Rattle.summary.specs.Ruling.{RulesOut}
 use Rattle.summary.proofs.Words.{bits-same, digit-small}
 
--- bit j of some
+-- bit j of n bits
 bit-at : (n : ℕ) (f : ℕ → Bool) (j : ℕ) → j < n → bits n f / 2 ^ j % 2 ≡ cond (f j) 1 0
 unfolding bits
 bit-at zero f j h = absurd (omega arith)

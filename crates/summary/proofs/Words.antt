@@ -21,7 +21,7 @@ unfolding bits
 bits-none zero f h = refl
 bits-none (suc n) f h = rw (h 0 (omega arith)) (omega (arith, bits-none n (λ j. f (suc j)) (λ j l. h (suc j) (omega arith))))
 
--- no bit is set of 0
+-- 0 has no bit set
 pub bits-zero : (n : ℕ) (f : ℕ → Bool) → bits n f ≡ 0 → (j : ℕ) → j < n → f j ≡ false
 unfolding bits
 bits-zero zero f e j l = absurd (omega arith)

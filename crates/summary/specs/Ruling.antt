@@ -1,4 +1,4 @@
--- Whether the summary that some bytes are rules out a label. Private: a model for contracts inside the library.
+-- Whether a summary rules out a label, by its bytes. Private: a model for contracts inside the library.
 use mathlib.Core.Path.{_≡_}
 use mathlib.Core.Bool.{Bool}
 use lib.ListN.{take}
