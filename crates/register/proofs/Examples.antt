@@ -1,7 +1,7 @@
 -- A layout and a slot byte by byte, and tables of both versions. Assumes nothing.
 use mathlib.Core.Path.{_≡_, refl}
 use mathlib.Core.Bool.{true}
-use mathlib.Core.List.{[], _∷_, _++_}
+use mathlib.Core.List.{_∷_, _++_}
 use lib.ListN.{take, drop, set, replicate}
 use Rattle.pattern.specs.Bytes.{Bytes, little, bytes}
 use Rattle.pattern.specs.Decision.{any}

@@ -1,6 +1,6 @@
 -- What an exact summary says, and that it is the only one. Assumes nothing.
 use mathlib.Core.Path.{_≡_, refl, sym, subst, fun-ext, _∙_}
-use mathlib.Core.Logic.{_⊎_, ⊎-elim}
+use mathlib.Core.Logic.{⊎-elim}
 use mathlib.Core.Bool.{Bool, true, false}
 use mathlib.Core.List.{[], _∷_}
 use Prim.Native.Nat.{ℕ, _≤_}
