@@ -18,16 +18,17 @@ ghost use Rattle.table.specs.Tested.{tested};
 ghost use Rattle.register.specs.Layout.{slot-size, slot, allowed};
 ghost use Rattle.register.specs.Slots.{SlotPre, IntactPre, kept-at};
 
-const LENGTH_SIZE: usize = 4;
-
 pub const SLOT_SIZE: usize = 44;
 
 // Where a slot has the atoms, the top-level atoms and the summary.
-pub const ATOMS_PLACE: usize = 4;
+const ATOMS_PLACE: usize = 4;
 
-pub const TOP_PLACE: usize = 6;
+const TOP_PLACE: usize = 6;
 
 pub const SUMMARY_PLACE: usize = 8;
+
+// Slots are compared so many bytes at a time.
+const STEP: usize = 4;
 
 // The numbers of a slot: the bytes of the table, the atoms of its pattern, and how many of them stand in no group.
 pub struct Kept {
@@ -81,7 +82,7 @@ fn is_same(a: &[u8], b: &[u8]) -> bool
         if read32(a, at) != read32(b, at) {
             return false;
         }
-        at += LENGTH_SIZE;
+        at += STEP;
     }
     true
 }

@@ -30,14 +30,14 @@ abbrev pub answered : (number verdict at skipped : ℕ) → (scratch parts : Byt
 answered number verdict at skipped scratch parts = record { number = number; verdict = verdict; at = at; skipped = skipped; scratch = scratch; parts = parts }
 
 -- found at 3 with one skipped by its length and one that was tried; at 2; not found, all skipped, one by its length and two by their first byte;
--- an empty label; two letters, which one is tried for, one skipped by its first byte and one by its longest; too few part bytes for the second pattern, which the summary would skip; then too little scratch for it; too little for the first
+-- an empty label; three digits, for which one is tried, and two are skipped by their longest; too few part bytes for the second pattern, which the summary would skip; then too little scratch for it; too little for the first
 unfoldable pub examples : List Example
 examples =
     record { label = bytes "7"; scratch = 40; parts = 5; output = answered 0 1 3 1 (replicate 32 0 ++ replicate 8 9) (1 ∷ 0 ∷ 9 ∷ 9 ∷ 9 ∷ []) }
     ∷ record { label = bytes "a"; scratch = 40; parts = 5; output = answered 0 1 2 1 (replicate 32 0 ++ replicate 8 9) (0 ∷ 0 ∷ 1 ∷ 0 ∷ 9 ∷ []) }
     ∷ record { label = bytes "?"; scratch = 40; parts = 5; output = answered 0 0 0 3 (replicate 32 0 ++ replicate 8 9) (replicate 5 9) }
     ∷ record { label = []; scratch = 40; parts = 5; output = answered 0 0 0 3 (replicate 8 0 ++ replicate 32 9) (replicate 5 9) }
-    ∷ record { label = bytes "aa"; scratch = 80; parts = 5; output = answered 0 0 0 2 (replicate 72 0 ++ replicate 8 9) (replicate 5 9) }
+    ∷ record { label = bytes "777"; scratch = 136; parts = 5; output = answered 0 0 0 2 (replicate 128 0 ++ replicate 8 9) (replicate 5 9) }
     ∷ record { label = bytes "?"; scratch = 40; parts = 3; output = answered PARTS 0 2 0 (replicate 24 0 ++ replicate 16 9) (replicate 3 9) }
     ∷ record { label = bytes "?"; scratch = 31; parts = 3; output = answered WORK 0 2 0 (replicate 24 0 ++ replicate 7 9) (replicate 3 9) }
     ∷ record { label = bytes "?"; scratch = 23; parts = 1; output = answered WORK 0 0 0 (replicate 23 9) (replicate 1 9) }

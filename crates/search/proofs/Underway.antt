@@ -14,13 +14,13 @@ use Rattle.pattern.specs.Syntax.{pattern, Syntax}
 use Rattle.pattern.specs.Decode.{decode}
 use Rattle.summary.specs.Summary.{summary-size}
 use Rattle.register.specs.Maps.{numbers, Map, table-of, tables, total}
-use Rattle.register.specs.Layout.{slot-size, overhead}
+use Rattle.register.specs.Layout.{slot-size, overhead, slot-start}
 use Rattle.register.specs.declared.slot.Kept.{Kept}
 use Rattle.register.specs.Sections.{is-register}
 use Rattle.register.specs.Slots.{summary-place, kept-at}
 use Rattle.register.proofs.Maps.{total-suc}
 use Rattle.register.proofs.Meaning.{meant}
-use Rattle.register.proofs.Kept.{slot-start, kept-length, kept-atoms, kept-top, summary-is, table-is, table-within}
+use Rattle.register.proofs.Kept.{kept-length, kept-atoms, kept-top, summary-is, table-is, table-within}
 use Rattle.search.specs.declared.Searched.{Searched}
 use Rattle.search.specs.declared.look.Looked.{Looked}
 use Rattle.search.specs.declared.look.Looked.the-variants.{Refused, Yes, No}
