@@ -3,7 +3,7 @@ use mathlib.Core.Path.{_≡_, refl, sym, ap, _∙_}
 use mathlib.Core.Bool.{Bool, true, false, cond, _&&_, _||_, or-assoc, or-false}
 use mathlib.Core.List.{[], _∷_}
 use mathlib.Core.Option.{Option, none, some}
-use Prim.Native.Nat.{ℕ, suc, _+_, _*_, _^_, _≤_, _<_, min, max}
+use Prim.Native.Nat.{ℕ, zero, suc, _+_, _*_, _^_, _≤_, _<_, min, max}
 use native.Mathlib.Nat.{mul-le-mul}
 use native.Mathlib.Decide.{ℕ-discrete}
 use native.Mathlib.Omega.{arith}
@@ -11,7 +11,7 @@ use borrow.Author.Tests.{lt-leb, le-leb, eq-eqb, ne-eqb}
 use lib.Bits.{bitOr}
 use lib.Dec.{leb, eqb}
 use lib.ListN.{length, getD}
-use lib.Seq.{slice, slice-empty, slice-cons, length-slice}
+use lib.Seq.{slice, slice-cons, length-slice}
 use Rattle.pattern.specs.Numbers.{open-high}
 use Rattle.pattern.specs.Bytes.{Bytes}
 use Rattle.pattern.specs.Codes.{in-set}
@@ -142,18 +142,17 @@ high-some : (h : ℕ) → ¬ (h ≡ open-high) → high-of h ≡ some h
 unfolding high-of
 high-some h n = if-false _ _ _ (ne-eqb h open-high n)
 
-module _ (high n : ℕ) where
-  pub often-none : high ≡ open-high → n ≡ 0 → 0 ≡ often (high-of high) n
-  unfolding often
-  often-none e z = rw (high-none high e, eq-eqb n 0 z)
+-- an open count's number is as good as any that is above the cap
+often-open : (n : ℕ) → min (open-high * n) length-cap ≡ often none n
+unfolding often
+often-open zero = refl
+often-open (suc n) = rw (ne-eqb (suc n) 0 (λ e. omega arith)) (omega arith)
 
-  pub often-open : high ≡ open-high → ¬ (n ≡ 0) → length-cap ≡ often (high-of high) n
-  unfolding often
-  often-open e z = rw (high-none high e, ne-eqb n 0 z)
-
-  pub often-times : (w r : ℕ) → ¬ (high ≡ open-high) → w ≡ high → r ≡ min (w * n) length-cap → r ≡ often (high-of high) n
-  unfolding often
-  often-times w r k e f = f ∙ rw (high-some high k, e)
+pub often-times : (high n w r : ℕ) → w ≡ high → r ≡ min (w * n) length-cap → r ≡ often (high-of high) n
+unfolding often
+often-times high n w r e f =
+    f ∙ ap (λ (k : ℕ). min (k * n) length-cap) e
+    ∙ elim (ℕ-discrete high open-high) [ yes z ↦ ap (λ (k : ℕ). min (k * n) length-cap) z ∙ often-open n ∙ rw (high-none high z) | no z ↦ rw (high-some high z) ]
 
 once-never : (high : ℕ) → high ≡ 0 → once (high-of high) ≡ false
 unfolding once
@@ -177,20 +176,15 @@ times-fit w n h k = omega (arith, mul-le-mul h k)
 
 -- ---- a literal
 
-module _ (s : Bytes) (from len : ℕ) where
-  pub literal-none : len ≡ 0 → _≡_ {A = Packed} (record { shortest = 0; longest = 0; a = 0; b = 0; c = 0; d = 0 }) (packed-of (of-literal (slice from (from + len) s)))
-  unfolding of-literal packed-of
-  literal-none e =
-      let z : from + len ≡ from = omega arith in
-      let w : (k : ℕ) → 0 ≡ word-of (λ b. false) k = λ k. sym (word-none k) in
-      packed-equal refl refl (w 0) (w 1) (w 2) (w 3) ∙ ap (λ (v : Bytes). packed-of (of-literal v)) (sym (slice-empty from s)) ∙ ap (λ k. packed-of (of-literal (slice from k s))) (sym z)
+pub empty-made : _≡_ {A = Packed} (record { shortest = 0; longest = 0; a = 0; b = 0; c = 0; d = 0 }) (packed-of (of-literal []))
+unfolding of-literal packed-of
+empty-made = let w : (k : ℕ) → 0 ≡ word-of (λ b. false) k = λ k. sym (word-none k) in packed-equal refl refl (w 0) (w 1) (w 2) (w 3)
 
-  -- a literal begins with its first byte
-  pub literal-some : ¬ (len ≡ 0) → from + len ≤ length s → (n : ℕ) → n ≡ min len length-cap → {a b c d : ℕ}
-      → a ≡ word-of (eqb (getD s from 0)) 0 → b ≡ word-of (eqb (getD s from 0)) 1 → c ≡ word-of (eqb (getD s from 0)) 2 → d ≡ word-of (eqb (getD s from 0)) 3
-      → _≡_ {A = Packed} (record { shortest = n; longest = n; a = a; b = b; c = c; d = d }) (packed-of (of-literal (slice from (from + len) s)))
-  unfolding of-literal packed-of
-  literal-some k h n e p q r z =
-      let v = slice-cons from (from + len) s 0 (omega arith) h in
-      let l : n ≡ min (length (getD s from 0 ∷ slice (suc from) (from + len) s)) length-cap = omega (arith, ap length v, length-slice from (from + len) s h) in
-      packed-equal l l p q r z ∙ ap (λ (v : Bytes). packed-of (of-literal v)) (sym v)
+-- a literal begins with its first byte
+pub literal-made : (s : Bytes) (from len : ℕ) → 0 < len → from + len ≤ length s → (n : ℕ) → n ≡ min len length-cap → {a b c d : ℕ} → a ≡ word-of (eqb (getD s from 0)) 0 → b ≡ word-of (eqb (getD s from 0)) 1 → c ≡ word-of (eqb (getD s from 0)) 2 → d ≡ word-of (eqb (getD s from 0)) 3
+    → _≡_ {A = Packed} (record { shortest = n; longest = n; a = a; b = b; c = c; d = d }) (packed-of (of-literal (slice from (from + len) s)))
+unfolding of-literal packed-of
+literal-made s from len k h n e p q r z =
+    let v = slice-cons from (from + len) s 0 (omega arith) h in
+    let l : n ≡ min (length (getD s from 0 ∷ slice (suc from) (from + len) s)) length-cap = omega (arith, ap length v, length-slice from (from + len) s h) in
+    packed-equal l l p q r z ∙ ap (λ (v : Bytes). packed-of (of-literal v)) (sym v)

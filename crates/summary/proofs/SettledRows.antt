@@ -1,25 +1,29 @@
 -- The summary of an atom with its followers, by the rows after its own. Assumes nothing.
 use mathlib.Core.Path.{_≡_, refl, sym, ap, ap₂, subst, _∙_}
 use mathlib.Core.Logic.{⊎-elim}
-use mathlib.Core.List.{List}
+use mathlib.Core.List.{List, []}
 use Prim.Native.Nat.{ℕ, suc, _+_, _*_, _-_, _≤_, _<_}
 use native.Mathlib.Nat.{eq-or-lt-of-le}
 use native.Mathlib.Omega.{arith}
 use lib.ListN.{length}
-use lib.Seq.{slice}
-use Rattle.pattern.specs.Numbers.{codes-kind}
+use lib.Seq.{slice, slice-empty}
+use Rattle.pattern.specs.Numbers.{codes-kind, literal-kind, group-kind, record-size}
+use Rattle.pattern.specs.Versions.{header-size}
 use Rattle.pattern.specs.Bytes.{Bytes}
 use Rattle.pattern.specs.Codes.{in-set}
 use Rattle.pattern.specs.Syntax.{pattern, atom, body, branches, Syntax, size}
-use Rattle.pattern.specs.Decode.{high-of, tree-of}
+use Rattle.pattern.specs.Decode.{high-of, version-of, rec-at, tree-of}
 use Rattle.pattern.proofs.RoundTrip.{some-pattern, some-atom}
+use Rattle.table.specs.declared.header.Header.{Header}
 use Rattle.table.specs.declared.record.Record.{Record}
-use Rattle.atoms.specs.Atoms.{atoms, node, branches-from, head, body-of}
+use Rattle.table.specs.Fields.{RecordIn, record-of}
+use Rattle.table.specs.Headers.{header-of}
+use Rattle.atoms.specs.Atoms.{AtomIn, atoms, node, branches-from, head, body-of}
 use Rattle.atoms.specs.Records.{LiteralAt, GroupIn, RecordOf}
-use Rattle.atoms.proofs.Views.{node-first, branches-last, branches-more, branches-some}
+use Rattle.atoms.proofs.Views.{record-in, record-from, record-is, literal-none, literal-there, node-first, branches-last, branches-more, branches-some}
 use Rattle.summary.specs.Summary.{Summary, of-class, of-literal, of-either, summary-of}
 use Rattle.summary.specs.Packing.{packed-of, both-packed, either-packed, repeat-packed}
-use Rattle.summary.specs.Rows.{row-size, row, RowSet, Room, Settled, Settling}
+use Rattle.summary.specs.Rows.{row-size, row, RowSet, Room, Settled, Settling, Next}
 use Rattle.summary.specs.declared.packed.Packed.{Packed}
 use Rattle.summary.proofs.Packings.{both-law, either-law, either-assoc, repeat-law}
 
@@ -34,6 +38,21 @@ module _ {table : Bytes} {s : List ℕ} {x : ℕ} (ok : Settling table s x) wher
 
   pub row-is : (y : ℕ) → x < y → y < atoms table → row s y ≡ packed-of (summary-of (node table y))
   row-is y h k = ok .after .rows y (omega arith) k
+
+  atom-in : AtomIn table x
+  atom-in = record { good = ok .room .good; there = ok .there }
+
+  -- the record is read where the header says
+  module _ {h : Header} (e : h ≡ header-of table) where
+    pub record-there : RecordIn table (h .records) x
+    record-there = subst (λ (h : Header). RecordIn table (h .records) x) (sym e) (record-in table x atom-in)
+
+    pub record-got : (r : Record) → r ≡ record-of (rec-at table (h .records + record-size * x)) → RecordOf table x r
+    record-got r f = record-is table x atom-in r (f ∙ record-from table x atom-in e)
+
+    -- and so is a literal's value
+    pub literal-got : {r : Record} → RecordOf table x r → r .kind ≡ literal-kind → ¬ (r .b ≡ 0) → LiteralAt table x (h .pool + r .a) (r .b)
+    literal-got {r} got k n = rw (ap (λ (h : Header). h .pool) e) (literal-there table x atom-in r (got .fields) _ (got .is-literal k .is) n)
 
 -- ---- branches
 
@@ -71,16 +90,16 @@ module _ {table : Bytes} {s : List ℕ} {x : ℕ} (ok : Settling table s x) wher
   join-start {count} g m e =
       join-one table x (x + 1) (count - 1) (λ a. a) (λ a b. refl) (omega arith) (g .within) (sym (ap (λ (b : Syntax body). summary-of b) (g .is))) m (e ∙ row-is ok (x + 1) (omega arith) (first-there g))
 
-  module _ {m : Packed} {at more : ℕ} (inv : Joined table x m at more) (h : 0 < more) (next : ℕ) (e : next ≡ at + size (node table at)) where
-    pub next-branch : next < atoms table
+  module _ {m : Packed} {at more : ℕ} (inv : Joined table x m at more) (h : 0 < more) (to : ℕ) (e : to ≡ at + size (node table at)) where
+    pub next-branch : to < atoms table
     next-branch = omega (arith, inv .within h, branches-some table (more - 1) (at + size (node table at)), some-pattern (node table (at + size (node table at))))
 
-    pub join-step : (got m′ : Packed) → got ≡ row s next → m′ ≡ either-packed m got → Joined table x m′ next (more - 1)
+    pub join-step : (got m′ : Packed) → got ≡ row s to → m′ ≡ either-packed m got → Joined table x m′ to (more - 1)
     join-step got m′ f g =
-        let w : next + size (branches-from table (more - 1) next) ≤ atoms table = rw e (inv .within h) in
-        let b : of-either (inv .passed) (summary-of (branches-from table (more - 1) next)) ≡ summary-of (body-of (head (node table x))) = rw e (inv .rest h) in
-        join-one table x next (more - 1) (of-either (inv .passed)) (either-assoc (inv .passed)) (omega (arith, inv .ahead)) w b m′
-        (g ∙ ap₂ either-packed (inv .is) (f ∙ row-is ok next (omega (arith, inv .ahead)) next-branch) ∙ either-law (inv .passed) (summary-of (node table next)))
+        let w : to + size (branches-from table (more - 1) to) ≤ atoms table = rw e (inv .within h) in
+        let b : of-either (inv .passed) (summary-of (branches-from table (more - 1) to)) ≡ summary-of (body-of (head (node table x))) = rw e (inv .rest h) in
+        join-one table x to (more - 1) (of-either (inv .passed)) (either-assoc (inv .passed)) (omega (arith, inv .ahead)) w b m′
+        (g ∙ ap₂ either-packed (inv .is) (f ∙ row-is ok to (omega (arith, inv .ahead)) next-branch) ∙ either-law (inv .passed) (summary-of (node table to)))
 
   pub join-end : {m : Packed} {at more : ℕ} → Joined table x m at more → more ≤ 0 → m ≡ body-packed table x
   join-end inv h = inv .is ∙ ap packed-of (inv .all (omega arith))
@@ -102,6 +121,10 @@ module _ {table : Bytes} {x : ℕ} {r : Record} (got : RecordOf table x r) where
   unfolding summary-of
   last-packed own e f = e ∙ ap (λ (y : Syntax pattern). packed-of (summary-of y)) (sym (got .is-last f))
 
+  -- what follows a leaf is the next atom
+  pub leaf-next : (r .kind ≡ group-kind → ⊥) → suc x ≡ x + size (head (node table x))
+  leaf-next n = omega (arith, got .next-leaf n)
+
   module _ (n : r .ends ≡ 1 → ⊥) (next : ℕ) (e : next ≡ x + size (head (node table x))) where
     pub next-there : next < atoms table
     next-there = omega (arith, got .is-followed n .there)
@@ -116,9 +139,21 @@ module _ {table : Bytes} {x : ℕ} {r : Record} (got : RecordOf table x r) where
         ∙ both-law (summary-of (head (node table x))) (summary-of (node table (x + size (head (node table x)))))
         ∙ ap (λ (y : Syntax pattern). packed-of (summary-of y)) (sym (got .is-followed n .is))
 
+pub empty-packed : {table : Bytes} {s : List ℕ} {x : ℕ} {r : Record} → Settling table s x → RecordOf table x r → r .kind ≡ literal-kind → r .b ≡ 0 → (m : Packed) → m ≡ packed-of (of-literal []) → m ≡ body-packed table x
+unfolding summary-of
+empty-packed {table} {x = x} {r = r} ok got k z m e =
+    let l = literal-none table x (record { good = ok .room .good; there = ok .there }) r (got .fields) _ (got .is-literal k .is) z in
+    let w : 0 ≡ 0 + r .b = omega arith in
+    e ∙ ap (λ (v : Bytes). packed-of (of-literal v)) (sym (slice-empty 0 table) ∙ ap (λ (k : ℕ). slice 0 k table) w)
+    ∙ ap (λ (y : Syntax body). packed-of (summary-of y)) (sym (l .is))
+
 pub literal-packed : {table : Bytes} {x from len : ℕ} → LiteralAt table x from len → (m : Packed) → m ≡ packed-of (of-literal (slice from (from + len) table)) → m ≡ body-packed table x
 unfolding summary-of
 literal-packed l m e = e ∙ ap (λ (y : Syntax body). packed-of (summary-of y)) (sym (l .is))
+
+-- the row of what follows
+pub next-row : {table : Bytes} {s : List ℕ} {x : ℕ} {r : Record} → Settling table s x → (got : RecordOf table x r) → (r .ends ≡ 1 → ⊥) → (next : ℕ) → next ≡ x + size (head (node table x)) → row s next ≡ packed-of (summary-of (node table next))
+next-row ok got n next e = row-is ok next (next-ahead got n next e) (next-there got n next e)
 
 -- ---- the loop over the atoms
 
@@ -130,31 +165,42 @@ settled-more {table} {s} {s′} {x} f e h = record {
       (λ z. f .after y z ∙ h .rows y z k) (eq-or-lt-of-le l);
 }
 
--- the rows from x on are settled, and they are as long as before
-pub record SettledFrom (table : Bytes) (s₀ s : List ℕ) (x : ℕ) : Type 0 where
+-- the rows from x on are settled, m is the first of them, and they are as long as before
+pub record SettledFrom (table : Bytes) (s₀ s : List ℕ) (m : Packed) (x : ℕ) : Type 0 where
   pub long : length s ≡ length s₀
   pub below : x ≤ atoms table
   pub settled : Settled table s x
+  pub first : Next table x m
 
 module _ {table : Bytes} {s₀ : List ℕ} (room : Room table s₀) where
-  pub settled-start : (x : ℕ) → x ≡ atoms table → SettledFrom table s₀ s₀ x
-  settled-start x e = record { long = refl; below = omega arith; settled = record { rows = λ y l k. absurd (omega arith) } }
+  -- there are bytes enough for a header
+  pub header-there : header-size (version-of table) ≤ length table
+  header-there = omega (arith, record-in table 0 (record { good = room .good; there = some-pattern (tree-of table) }) .within)
 
-  module _ {s : List ℕ} {x : ℕ} (inv : SettledFrom table s₀ s x) where
-    pub settled-ready : 0 < x → Settling table s (x - 1)
-    settled-ready h =
-        let z : x ≡ suc (x - 1) = omega arith in
-        record {
-          room = record { good = room .good; room = omega (arith, room .room, inv .long) };
-          there = omega (arith, inv .below);
-          after = subst (Settled table s) z (inv .settled);
-        }
+  pub settled-start : (m : Packed) (x : ℕ) → x ≡ atoms table → SettledFrom table s₀ s₀ m x
+  settled-start m x e =
+      record { long = refl; below = omega arith; settled = record { rows = λ y l k. absurd (omega arith) }; first = record { is = λ k. absurd (omega arith) } }
 
-    pub settled-step : {s′ : List ℕ} → length s′ ≡ length s → Settled table s′ (x - 1) → SettledFrom table s₀ s′ (x - 1)
-    settled-step e h = record { long = e ∙ inv .long; below = omega (arith, inv .below); settled = h }
+  module _ {s : List ℕ} {m : Packed} {x : ℕ} (inv : SettledFrom table s₀ s m x) where
+    module _ (h : 0 < x) where
+      before : x ≡ suc (x - 1)
+      before = omega arith
 
-    pub first-row : row-size ≤ length s
-    first-row = omega (arith, room .room, inv .long, some-pattern (tree-of table))
+      pub settled-ready : Settling table s (x - 1)
+      settled-ready = record {
+        room = record { good = room .good; room = omega (arith, room .room, inv .long) };
+        there = omega (arith, inv .below);
+        after = subst (Settled table s) before (inv .settled);
+      }
 
-    pub settled-end : x ≤ 0 → (m : Packed) → m ≡ row s 0 → m ≡ packed-of (summary-of (tree-of table))
-    settled-end h m e = e ∙ inv .settled .rows 0 (omega arith) (some-pattern (tree-of table)) ∙ ap (λ (p : Syntax pattern). packed-of (summary-of p)) (node-first table)
+      pub next-ready : Next table (suc (x - 1)) m
+      next-ready = subst (λ (y : ℕ). Next table y m) before (inv .first)
+
+    pub settled-step : {s′ : List ℕ} {m′ : Packed} → length s′ ≡ length s → Settled table s′ (x - 1) → Next table (x - 1) m′ → SettledFrom table s₀ s′ m′ (x - 1)
+    settled-step e h k = record { long = e ∙ inv .long; below = omega (arith, inv .below); settled = h; first = k }
+
+    pub settled-end : x ≤ 0 → m ≡ packed-of (summary-of (tree-of table))
+    settled-end h =
+        let z : x ≡ 0 = omega arith in
+        inv .first .is (omega (arith, some-pattern (tree-of table)))
+        ∙ ap (λ (y : ℕ). packed-of (summary-of (node table y))) z ∙ ap (λ (p : Syntax pattern). packed-of (summary-of p)) (node-first table)

@@ -43,6 +43,10 @@ pub record Settling (table : Bytes) (s : List ℕ) (x : ℕ) : Type 0 where
   pub there : x < atoms table
   pub after : Settled table s (suc x)
 
+-- m is what row x has, if there is an atom x
+pub record Next (table : Bytes) (x : ℕ) (m : Packed) : Type 0 where
+  pub is : x < atoms table → m ≡ packed-of (summary-of (node table x))
+
 -- what a summary is worked out of, and where it goes
 pub record SummaryPre (table : Bytes) (n : ℕ) (rows : List ℕ) (out : Bytes) : Type 0 where
   pub good : GoodTable table

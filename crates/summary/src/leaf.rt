@@ -1,6 +1,7 @@
 // The summaries of bodies that are no groups.
 ghost use mathlib.Core.Path.{_≡_};
 ghost use mathlib.Core.Bool.{cond};
+ghost use mathlib.Core.List.{[]};
 ghost use Prim.Native.Nat.{_+_, _%_, _<_, _≤_};
 ghost use lib.Bits.{bitOr};
 ghost use lib.Dec.{eqb};
@@ -104,21 +105,25 @@ fn byte_word(byte: u8, i: u8) -> u64
     if byte / 64 == i { 1 << (byte % 64) } else { 0 }
 }
 
-// The literal that lies there.
+// The empty literal.
+pub fn empty() -> Packed
+    ensures { λ r. ⌜ r ≡ packed-of (of-literal []) ⌝ }
+{
+    Packed {
+        shortest: 0,
+        longest: 0,
+        a: 0,
+        b: 0,
+        c: 0,
+        d: 0,
+    }
+}
+
+// The literal that lies there, of one byte or more.
 pub fn literal(table: &[u8], from: usize, len: usize) -> Packed
-    requires { ⌜ from + len ≤ length (now table) ⌝ }
+    requires { ⌜ (0 < len) × (from + len ≤ length (now table)) ⌝ }
     ensures { λ r. ⌜ r ≡ packed-of (of-literal (slice from (from + len) (now (table .entry)))) ⌝ }
 {
-    if len == 0 {
-        return Packed {
-            shortest: 0,
-            longest: 0,
-            a: 0,
-            b: 0,
-            c: 0,
-            d: 0,
-        };
-    }
     let n = lesser(len as u64, LENGTH_CAP);
     let byte = table[from];
     Packed {

@@ -5,12 +5,11 @@ ghost use Rattle.pattern.specs.Decode.{high-of};
 ghost use Rattle.summary.specs.Summary.{length-cap, often};
 ghost use Rattle.summary.specs.Packing.{Capped, longest-both, both-packed, either-packed, repeat-packed};
 use super::packed::Packed;
-use pattern::repeat::Repeat;
 
 // A length that is above is written as this.
 pub const LENGTH_CAP: u64 = 256;
 
-fn wide(x: u16) -> u64
+fn wide64(x: u16) -> u64
     ensures { λ r. ⌜ (r ≡ x) × (r ≤ 65535) ⌝ }
 {
     x as u64
@@ -22,7 +21,7 @@ pub fn lesser(m: u64, n: u64) -> u64
     if m < n { m } else { n }
 }
 
-fn greater(m: u64, n: u64) -> u64
+fn larger(m: u64, n: u64) -> u64
     ensures { λ r. ⌜ r ≡ max m n ⌝ }
 {
     if m < n { n } else { m }
@@ -82,7 +81,7 @@ pub fn either(m: Packed, n: Packed) -> Packed
 {
     Packed {
         shortest: lesser(m.shortest, n.shortest),
-        longest: greater(m.longest, n.longest),
+        longest: larger(m.longest, n.longest),
         a: m.a | n.a,
         b: m.b | n.b,
         c: m.c | n.c,
@@ -90,15 +89,12 @@ pub fn either(m: Packed, n: Packed) -> Packed
     }
 }
 
-// A length as often as the high number allows.
+// A length as often as the high number allows: the number of an open one is above the cap.
 fn often(high: u16, n: u64) -> u64
     requires { ⌜ n ≤ length-cap ⌝ }
     ensures { λ r. ⌜ r ≡ often (high-of high) n ⌝ }
 {
-    if high == Repeat::OPEN {
-        return if n == 0 { 0 } else { LENGTH_CAP };
-    }
-    lesser(wide(high) * n, LENGTH_CAP)
+    lesser(wide64(high) * n, LENGTH_CAP)
 }
 
 // A body as often as a count says.
@@ -106,7 +102,7 @@ pub fn repeated(low: u16, high: u16, m: Packed) -> Packed
     requires { ⌜ Capped m ⌝ }
     ensures { λ r. ⌜ r ≡ repeat-packed low (high-of high) m ⌝ }
 {
-    let shortest = lesser(wide(low) * m.shortest, LENGTH_CAP);
+    let shortest = lesser(wide64(low) * m.shortest, LENGTH_CAP);
     let longest = often(high, m.longest);
     if high == 0 {
         return Packed {

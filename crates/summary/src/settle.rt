@@ -1,23 +1,25 @@
 // The rows of a table's atoms, from the last to the first: those that an atom needs are after its own.
 ghost use mathlib.Core.Path.{_≡_};
-ghost use Prim.Native.Nat.{_+_};
+ghost use Prim.Native.Nat.{suc};
 ghost use Rattle.pattern.specs.Decode.{tree-of};
+ghost use Rattle.table.specs.Headers.{header-of};
 ghost use Rattle.atoms.specs.Atoms.{atoms, node, head, body-of};
 ghost use Rattle.atoms.specs.Records.{GroupIn, RecordOf};
 ghost use Rattle.summary.specs.Summary.{summary-of};
 ghost use Rattle.summary.specs.Packing.{packed-of};
-ghost use Rattle.summary.specs.Rows.{Room, Settled, Settling};
+ghost use Rattle.summary.specs.Rows.{Room, Settled, Settling, Next};
 use super::leaf;
 use super::ops;
 use super::packed::Packed;
 use super::rows::load;
 use super::rows::store;
 use atoms::branch_end;
-use atoms::literal_at;
 use atoms::next_atom;
-use atoms::record_at;
 use pattern::kind;
+use table::header::Header;
+use table::header::header_at;
 use table::record::Record;
+use table::record::record_at;
 
 // The branches of the group x, which are this many.
 fn branches(table: &[u8], rows: &[u64], x: usize, count: usize) -> Packed
@@ -36,36 +38,50 @@ fn branches(table: &[u8], rows: &[u64], x: usize, count: usize) -> Packed
 }
 
 // The body of atom x, whose record is r.
-fn body(table: &[u8], rows: &[u64], x: usize, r: Record) -> Packed
-    requires { ⌜ Settling (now table) (now rows) x ⌝ ∗ ⌜ RecordOf (now table) x r ⌝ }
+fn body(table: &[u8], h: Header, rows: &[u64], x: usize, r: Record) -> Packed
+    requires { ⌜ Settling (now table) (now rows) x ⌝ ∗ ⌜ h ≡ header-of (now table) ⌝ ∗ ⌜ RecordOf (now table) x r ⌝ }
     ensures { λ m. ⌜ m ≡ packed-of (summary-of (body-of (head (node (now (table .entry)) x)))) ⌝ }
 {
     if r.kind == kind::CODES {
         return leaf::class(r.a);
     }
     if r.kind == kind::LITERAL {
-        let value = literal_at(table, x);
-        return leaf::literal(table, value.from, value.len);
+        if r.b == 0 {
+            return leaf::empty();
+        }
+        return leaf::literal(table, h.pool + r.a as usize, r.b as usize);
     }
     branches(table, rows, x, r.a as usize)
 }
 
-// Row x, the rows after it being settled.
-fn settle(table: &[u8], rows: &mut [u64], x: usize)
-    requires { ⌜ Settling (now table) (now rows) x ⌝ }
-    ensures { λ _. ⌜ Settled (now (table .entry)) (now (rows .exit)) x ⌝ }
+// Atom x with its followers; next is the row after its own, of which the lengths are enough for most leaves.
+fn atom(table: &[u8], h: Header, rows: &[u64], x: usize, next: Packed) -> Packed
+    requires { ⌜ Settling (now table) (now rows) x ⌝ ∗ ⌜ h ≡ header-of (now table) ⌝ ∗ ⌜ Next (now table) (suc x) next ⌝ }
+    ensures { λ m. ⌜ m ≡ packed-of (summary-of (node (now (table .entry)) x)) ⌝ }
 {
-    let r = record_at(table, x);
-    let inner = body(table, rows, x, r);
+    let r = record_at(table, h.records, x);
+    let inner = body(table, h, rows, x, r);
     let own = ops::repeated(r.low, r.high, inner);
     if r.ends == 1 {
-        store(rows, x, own);
-        return;
+        return own;
     }
-    let next = next_atom(table, x);
-    let rest = load(rows, next);
-    let m = ops::both(own, rest);
+    if own.shortest == 0 {
+        return ops::both(own, load(rows, next_atom(table, x)));
+    }
+    if r.kind == kind::GROUP {
+        return ops::both(own, load(rows, r.b as usize));
+    }
+    ops::both(own, next)
+}
+
+// Row x, the rows after it being settled.
+fn settle(table: &[u8], h: Header, rows: &mut [u64], x: usize, next: Packed) -> Packed
+    requires { ⌜ Settling (now table) (now rows) x ⌝ ∗ ⌜ h ≡ header-of (now table) ⌝ ∗ ⌜ Next (now table) (suc x) next ⌝ }
+    ensures { λ m. ⌜ Settled (now (table .entry)) (now (rows .exit)) x ⌝ ∗ ⌜ Next (now (table .entry)) x m ⌝ }
+{
+    let m = atom(table, h, rows, x, next);
     store(rows, x, m);
+    m
 }
 
 // The summary of a good table's pattern; there is a row for each of its atoms.
@@ -73,10 +89,12 @@ pub fn settle_all(table: &[u8], rows: &mut [u64], count: usize) -> Packed
     requires { ⌜ Room (now table) (now rows) ⌝ ∗ ⌜ count ≡ atoms (now table) ⌝ }
     ensures { λ r. ⌜ r ≡ packed-of (summary-of (tree-of (now (table .entry)))) ⌝ }
 {
+    let h = header_at(table);
+    let mut m = leaf::empty();
     let mut x = count;
     while 0 < x {
         x -= 1;
-        settle(table, rows, x);
+        m = settle(table, h, rows, x, m);
     }
-    load(rows, 0)
+    m
 }
