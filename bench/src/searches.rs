@@ -1,6 +1,6 @@
 //! (i): a search in a register of 256 patterns, of which 3, 26 and 256 can fit the label by their
-//! summaries, beside calls in turn of the same library, and beside plain Rust's search, with and
-//! without the test of the buffer. The searches are timed at four placements each, as in (c). A
+//! summaries, beside calls in turn of the same library, by number and with the tables themselves, and
+//! beside plain Rust's search, with and without the test of the buffer. The searches are timed at four placements each, as in (c). A
 //! library without a search has no rows.
 
 use crate::plain_registers::{search, Searched};
@@ -94,6 +94,25 @@ fn in_turn(register: &[u8], label: &[u8], scratch: &mut [u8], parts: &mut [u8]) 
     Searched::default()
 }
 
+/// The same with the tables themselves: a match for each, and neither register nor summary is looked at.
+fn with_tables(register: &[u8], label: &[u8], scratch: &mut [u8], parts: &mut [u8]) -> Searched {
+    let mut at = 8 + 44 * NUMBERS;
+    for number in 0..=255u8 {
+        let slot = 8 + 44 * usize::from(number);
+        let length = u32::from_le_bytes(register[slot..slot + 4].try_into().unwrap()) as usize;
+        let table = &register[at..at + length];
+        if proved::match_label(table, label, scratch, parts, u64::MAX).unwrap().0 {
+            return Searched {
+                yes: true,
+                number,
+                ..Searched::default()
+            };
+        }
+        at += length;
+    }
+    Searched::default()
+}
+
 /// A way to search, with what it is lent: scratch with some to spare, and parts. All is set before
 /// the first call.
 struct Run {
@@ -130,8 +149,8 @@ impl Row {
         }
     }
 
-    /// The last way, the calls in turn, says of none that it was skipped; otherwise all ways give the
-    /// same answer, parts and scratch.
+    /// The last two ways, the calls in turn, say of none that it was skipped; otherwise all ways give
+    /// the same answer, parts and scratch.
     fn time<const WAYS: usize>(&self, ways: [Search; WAYS], rounds: usize) -> Rounds<WAYS> {
         let mut runs = ways.map(|way| Run {
             way,
@@ -140,7 +159,7 @@ impl Row {
         });
         for (at, run) in runs.iter_mut().enumerate() {
             let mut answer = self.answer;
-            if at + 1 == WAYS {
+            if at + 2 >= WAYS {
                 answer.skipped = 0;
             }
             assert_eq!(self.search(run), answer);
@@ -175,16 +194,20 @@ fn search_row(library: [Search; 4], row: &Row, fitting: usize, rounds: usize) {
         search::<false, 1>,
         search::<false, 2>,
         search::<false, 3>,
+        with_tables,
         in_turn,
     ];
     let timed = row.time(ways, rounds);
     let matches = if row.answer.yes { "last" } else { "none" };
     print!("{:>3}{fitting:>5}  {matches:<5}", row.label.len());
-    for way in timed.times().chunks(4) {
+    let times = timed.times();
+    for way in times[..12].chunks(4).chain(times[12..].chunks(1)) {
         print!("{:>11.1}", median(way.to_vec()) / 1e3);
     }
-    let [_, to_turn, _] = timed.ratios((0..4).map(|place| (place, 12)));
-    print!("{to_turn:>9.4}");
+    for turn in [12, 13] {
+        let [_, to_turn, _] = timed.ratios((0..4).map(|place| (place, turn)));
+        print!("{to_turn:>9.4}");
+    }
     for plain in [4, 8] {
         let [least, middle, greatest] = timed.ratios(placements(0, plain));
         print!("{least:>8.2}{middle:>8.2}{greatest:>10.2}");
@@ -198,10 +221,10 @@ pub fn searches(rounds: usize) {
         return println!("not run: this library has no search");
     };
     print!("{:>3}{:>5}  {:<5}", "n", "fit", "match");
-    for way in ["search", "plain", "untested", "in turn"] {
+    for way in ["search", "plain", "untested", "tables", "in turn"] {
         print!("{way:>11}");
     }
-    print!("{:>9}", "to turn");
+    print!("{:>9}{:>9}", "to table", "to turn");
     for _ in 0..2 {
         print!("{:>8}{:>8}{:>10}", "least", "median", "greatest");
     }

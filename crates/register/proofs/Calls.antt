@@ -1,11 +1,12 @@
 -- The calls on a register, from where the table of a number lies. Assumes nothing.
-use mathlib.Core.Path.{_≡_, refl, sym, ap, _∙_}
+use mathlib.Core.Path.{_≡_, refl, sym, ap, subst, _∙_}
 use mathlib.Core.Bool.{true, false}
 use mathlib.Core.List.{[], _++_, append-nil}
 use mathlib.Core.Option.{Option, none, some}
 use Prim.Native.Nat.{ℕ, zero, suc, _+_, _*_, _-_, _≤_, _<_}
 use native.Mathlib.Omega.{arith}
 use borrow.Author.Tests.{le-ltb, eq-eqb, ne-eqb}
+use lib.Dec.{T}
 use borrow.Rule.Slice.PartMut.{putMid}
 use lib.ListN.{length, take, drop, set, replicate, length-drop, length-replicate, replicate-append-replicate, drop-of-length-le}
 use lib.Seq.{take-all, drop-drop}
@@ -44,6 +45,16 @@ none-there k o e = sym (ap is-register (none-located k o e))
 pub one-there : (k : ℕ) (o : Option Map) (at : Location) → location.At at ≡ located k o → true ≡ is-register o
 unfolding is-register
 one-there k o at e = let (m, l) = located-in o k at e in sym (ap is-register (l .holds))
+
+pub is-map : (o : Option Map) → true ≡ is-register o → (m : Map) × (o ≡ some m)
+unfolding is-register
+is-map none e = absurd (subst T e tt)
+is-map (some m) e = (m, refl)
+
+pub no-map : (o : Option Map) → false ≡ is-register o → o ≡ none
+unfolding is-register
+no-map none e = refl
+no-map (some m) e = absurd (subst T (sym e) tt)
 
 -- the part of lent bytes that is the section
 abbrev section-part : Bytes → Bytes

@@ -30,11 +30,11 @@ use Rattle.register.proofs.Maps.{allowed-short, others-stay, total-suc,
 use Rattle.register.proofs.Sections.{length-slot}
 use Rattle.register.proofs.Cases.{store-cases, remove-cases}
 use Rattle.register.proofs.Registers.{store-refused, remove-refused, store-follows, remove-follows}
-use Rattle.register.proofs.Meaning.{SectionIs, section-meant, found-split, found-is}
+use Rattle.register.proofs.Meaning.{SectionIs, section-meant, found-split, read, found-read, found-is}
 use Rattle.register.proofs.Putting.{directory-split, slot-place, old-is}
 
-by-slot : (u x w y : Bytes) → (u ++ (x ++ w)) ++ y ≡ u ++ (x ++ (w ++ y))
-by-slot u x w y = simp append-assoc
+by-directory : (u x w y : Bytes) → (u ++ (x ++ w)) ++ y ≡ u ++ (x ++ (w ++ y))
+by-directory u x w y = simp append-assoc
 
 field-drop : (s : Bytes) (n i j : ℕ) → n + i ≡ j → field (drop n s) i ≡ field s j
 field-drop s n i j e =
@@ -62,7 +62,7 @@ module _ (lent : Bytes) (m : Map) (e : registerOf lent ≡ some m) where
         let behind : Bytes = tables m ++ drop (directory-size + total m) rest in
         let after : Bytes = directory (drop (suc k) m) ++ behind in
         let s : rest ≡ directory (take k m) ++ (slot (table-of m k) ++ after) =
-        whole .bytes ∙ ap (λ (x : Bytes). x ++ behind) (directory-split m k there) ∙ by-slot (directory (take k m)) (slot (table-of m k)) (directory (drop (suc k) m)) behind in
+        whole .bytes ∙ ap (λ (x : Bytes). x ++ behind) (directory-split m k there) ∙ by-directory (directory (take k m)) (slot (table-of m k)) (directory (drop (suc k) m)) behind in
         (after, sym (drop-drop (slot-size * k) preamble-size lent) ∙ ap (drop (slot-size * k)) s ∙ drop-at (directory (take k m)) (slot (table-of m k) ++ after) (slot-size * k) (slot-place m k there))
 
     pub slot-is : take slot-size (drop (slot-start k) lent) ≡ slot (table-of m k)
@@ -131,6 +131,14 @@ pub summary-exact : (lent : Bytes) (m : Map) → registerOf lent ≡ some m → 
     → take summary-size (drop (slot-start k + summary-place) lent) ≡ summary-bytes u
 summary-exact lent m e k small p d u x =
     summary-is lent m e k small p d ∙ sym (exact-bytes p (good-ordered 0 p (good-limited (table-of m k) p d .tree)) u x)
+
+-- and a buffer with a slot other than that of the table which it tells of is refused
+pub wrong-slot-none : (lent : Bytes) (k : ℕ) → k < numbers → ¬ (take slot-size (drop (slot-start k) lent) ≡ slot (table-of (read lent) k)) → registerOf lent ≡ none
+wrong-slot-none lent k small n = go (registerOf lent) refl
+  where
+    go : (o : Option Map) → registerOf lent ≡ o → registerOf lent ≡ none
+    go none e = e
+    go (some m) e = absurd (n (slot-is lent m e k small ∙ ap (λ (x : Map). slot (table-of x k)) (sym (found-read lent m (found-is lent ∙ e)))))
 
 -- ---- "Changing one pattern keeps all other summaries"
 

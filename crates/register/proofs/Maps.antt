@@ -1,11 +1,13 @@
 -- Plain maps: what they keep, and how long it is. Assumes nothing.
-use mathlib.Core.Path.{_≡_, refl, sym, ap, _∙_}
+use mathlib.Core.Path.{_≡_, refl, sym, ap, subst, _∙_}
+use mathlib.Core.Logic.{_⊎_, inl, inr}
 use mathlib.Core.Bool.{Bool, true, false, _||_}
 use mathlib.Core.List.{[], _∷_, _++_, append-assoc}
 use mathlib.Core.Option.{Option, none, some}
 use Prim.Native.Nat.{ℕ, zero, suc, _+_, _*_, _≤_, _<_}
 use native.Mathlib.Omega.{arith}
-use lib.Dec.{eqb, eqb→eq}
+use borrow.Author.Tests.{eqb-true}
+use lib.Dec.{T, eqb, eqb→eq}
 use lib.ListN.{length, take, drop, set, replicate, length-append, length-set, length-replicate}
 use lib.Seq.{split-at, set-split, getD-set-same, getD-set-other, take-suc}
 use Rattle.pattern.specs.Versions.{table-room}
@@ -16,6 +18,7 @@ use Rattle.pattern.proofs.Tests.{true-T}
 use Rattle.pattern.proofs.Calls.{print-compiles}
 use Rattle.pattern.proofs.RoundTrip.{encode-length}
 use Rattle.pattern.proofs.Rooms.{good-fits}
+use Rattle.atoms.proofs.Views.{no-bytes}
 use Rattle.register.specs.Maps.{numbers, Map, table-of, empty, tables, total, is-table, missing}
 use Rattle.register.specs.Layout.{allowed, Proper, table-count}
 
@@ -49,6 +52,9 @@ no-bytes-no-tree = go (decode []) refl
     go none d = refl
     go (some x) d = absurd (omega (arith, ap length (print-compiles [] x d .whole), encode-length (version-of []) x))
 
+pub missing-tree : (t : Bytes) → length t ≡ 0 → decode t ≡ none
+missing-tree t z = ap decode (no-bytes t z) ∙ no-bytes-no-tree
+
 pub no-bytes-no-table : is-table [] ≡ false
 unfolding is-table
 no-bytes-no-table = ap (λ (o : Option (Syntax pattern)). elim o [ none ↦ false | some _ ↦ true ]) no-bytes-no-tree
@@ -56,6 +62,19 @@ no-bytes-no-table = ap (λ (o : Option (Syntax pattern)). elim o [ none ↦ fals
 pub there-is-table : (m : Map) → Proper m → (k : ℕ) → missing m k ≡ false → is-table (table-of m k) ≡ true
 unfolding allowed
 there-is-table m p k h = ap (λ (x : Bool). x || is-table (table-of m k)) (sym h) ∙ p .each k
+
+-- what is allowed is none or a good one
+pub table-cases : (t : Bytes) → allowed t ≡ true → (length t ≡ 0) ⊎ ((p : Syntax pattern) × (decode t ≡ some p))
+unfolding allowed is-table
+table-cases t a = go (eqb (length t) 0) refl a
+  where
+    there : (o : Option (Syntax pattern)) → decode t ≡ o → (elim o [ none ↦ false | some _ ↦ true ]) ≡ true → (p : Syntax pattern) × (decode t ≡ some p)
+    there none e a = absurd (subst T (sym a) tt)
+    there (some p) e a = (p, e)
+
+    go : (b : Bool) → eqb (length t) 0 ≡ b → b || is-table t ≡ true → (length t ≡ 0) ⊎ ((p : Syntax pattern) × (decode t ≡ some p))
+    go true e a = inl (eqb-true _ _ e)
+    go false e a = inr (there (decode t) refl a)
 
 -- ---- maps that are changed
 

@@ -109,10 +109,10 @@ held-cut (suc c) slots bytes m e =
     ap (λ (y : Map). first-table slots bytes ∷ y) (held-cut c _ _ n o) ∙ x
 
 -- the tables that the directory tells of
-abbrev read : Bytes → Map
+abbrev pub read : Bytes → Map
 read lent = cut numbers (drop preamble-size lent) (drop overhead lent)
 
-found-read : (lent : Bytes) (m : Map) → found lent ≡ some m → read lent ≡ m
+pub found-read : (lent : Bytes) (m : Map) → found lent ≡ some m → read lent ≡ m
 unfolding section-of
 found-read lent m e =
     let (o, r) = found-split lent m e in

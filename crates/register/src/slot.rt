@@ -72,7 +72,7 @@ pub fn slot_of(table: &[u8], sizes: Sizes) -> [u8; SLOT_SIZE]
     slot_in(table, sizes, &mut rows)
 }
 
-// Whether two slots are the same, four bytes at a time.
+// Whether two slots are the same.
 fn is_same(a: &[u8], b: &[u8]) -> bool
     requires { ⌜ (length (now a) ≡ slot-size) × (length (now b) ≡ slot-size) ⌝ }
     ensures { λ r. ⌜ r ≡ equal (now (a .entry)) (now (b .entry)) ⌝ }

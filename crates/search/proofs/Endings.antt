@@ -20,15 +20,16 @@ use Rattle.pattern.proofs.Longest.{yes-satisfies}
 use Rattle.pattern.proofs.Calls.{lent-fits, verdict-right, satisfied-yes}
 use Rattle.register.specs.Maps.{Map, table-of}
 use Rattle.register.specs.Layout.{allowed}
+use Rattle.register.proofs.Maps.{AllAllowed, table-cases}
 use Rattle.search.specs.Search.{SearchOutput, search-refused, search-from}
 use Rattle.search.specs.Found.{ruled-out-count, most-scratch, Passed, FoundAt, RefusedAt, NoneFound, found-output, none-output, refused-output, Ends, Answers}
 use Rattle.search.proofs.Steps.{fault-number, step-none, step-fault, step-satisfied}
-use Rattle.search.proofs.Passing.{table-cases, missing-none, scratch-is, count-take, most-take, Tables, kept-within, lent-same, passes-all, most-fits}
+use Rattle.search.proofs.Passing.{missing-none, scratch-is, count-take, most-take, kept-within, lent-same, passes-all, most-fits}
 
 module _ (label scratch parts : Bytes) (short : length label ≤ label-limit) where
   -- ---- each ending
 
-  module _ (m : Map) (each : Tables m) where
+  module _ (m : Map) (each : AllAllowed m) where
     -- past the numbers before k, which has a table
     comes-to : (k : ℕ) (p : Syntax pattern) → decode (table-of m k) ≡ some p → ((j : ℕ) → j < k → Passed label scratch parts (table-of m j))
         → search-from 0 m label 0 scratch parts
@@ -120,7 +121,7 @@ module _ (label scratch parts : Bytes) (short : length label ≤ label-limit) wh
   passed-all t m x h zero = x
   passed-all t m x h (suc j) = h j
 
-  one-ending : (m : Map) → Tables m → Ending m
+  one-ending : (m : Map) → AllAllowed m → Ending m
   one-ending [] a = inr (inl (λ j. missing-passed [] refl))
   one-ending (t ∷ m) a = go (one-ending m (λ k. a (suc k))) (role t (a 0))
     where
@@ -134,7 +135,7 @@ module _ (label scratch parts : Bytes) (short : length label ≤ label-limit) wh
           rest
 
   -- so each answer is given exactly where its ending is
-  module _ (m : Map) (each : Tables m) where
+  module _ (m : Map) (each : AllAllowed m) where
     abbrev o : SearchOutput
     o = search-from 0 m label 0 scratch parts
 

@@ -29,8 +29,8 @@ pub record Example : Type 0 where
 abbrev pub answered : (number verdict at skipped : ℕ) → (scratch parts : Bytes) → SearchOutput
 answered number verdict at skipped scratch parts = record { number = number; verdict = verdict; at = at; skipped = skipped; scratch = scratch; parts = parts }
 
--- found at 3 with one skipped by its length and one that was tried; at 2; not found, all skipped, one by its length and two by their first byte;
--- an empty label; three digits, for which one is tried, and two are skipped by their longest; too few part bytes for the second pattern, which the summary would skip; then too little scratch for it; too little for the first
+-- found at 3 with one skipped by its length and one that was tried; at 2; not found, all skipped, one by its length and two by their first byte; an empty
+-- label; three digits: one tried, two skipped by their longest; too few part bytes for a pattern that would be skipped; too little scratch for it, and for the first
 unfoldable pub examples : List Example
 examples =
     record { label = bytes "7"; scratch = 40; parts = 5; output = answered 0 1 3 1 (replicate 32 0 ++ replicate 8 9) (1 ∷ 0 ∷ 9 ∷ 9 ∷ 9 ∷ []) }

@@ -1,15 +1,14 @@
 -- A search past numbers that do not end it: what it counts, and what scratch comes to. Assumes nothing.
-use mathlib.Core.Path.{_≡_, refl, sym, ap, subst, _∙_}
-use mathlib.Core.Logic.{_⊎_, inl, inr, ⊎-elim}
+use mathlib.Core.Path.{_≡_, refl, sym, ap, _∙_}
+use mathlib.Core.Logic.{_⊎_, ⊎-elim}
 use mathlib.Core.Bool.{Bool, true, false, cond, _||_}
 use mathlib.Core.List.{[], _∷_}
-use mathlib.Core.Option.{Option, none, some}
+use mathlib.Core.Option.{some, Option·none-ne-some}
 use Prim.Native.Nat.{ℕ, zero, suc, _+_, max, _≤_, _<_}
 use native.Mathlib.Nat.{max-comm}
 use native.Mathlib.Omega.{arith}
-use lib.Dec.{T, eqb}
+use lib.Dec.{eqb}
 use lib.ListN.{length, take, drop, List·getD-eq-default}
-use borrow.Author.Tests.{eqb-true}
 use Rattle.pattern.specs.Numbers.{label-limit}
 use Rattle.pattern.specs.Bytes.{Bytes, zeroed}
 use Rattle.pattern.specs.Syntax.{pattern, Syntax}
@@ -19,11 +18,12 @@ use Rattle.pattern.specs.Answers.{MatchOutput, scratch-needed, lent-fault, matc
 use Rattle.pattern.proofs.Tests.{le-or-lt}
 use Rattle.pattern.proofs.Stores.{length-zeroed, zeroed-twice}
 use Rattle.pattern.proofs.Calls.{lent-fits, unsatisfied-no, Leaves, match-leaves}
-use Rattle.register.specs.Maps.{Map, table-of, is-table}
+use Rattle.register.specs.Maps.{Map, table-of}
 use Rattle.register.specs.Layout.{allowed}
+use Rattle.register.proofs.Maps.{AllAllowed, missing-tree, table-cases}
 use Rattle.search.specs.Search.{unlimited, SearchOutput, search-refused, is-ruled-out, search-from}
 use Rattle.search.specs.Found.{ruled-out-count, scratch-of, most-scratch, Passed}
-use Rattle.search.proofs.Steps.{good-some, step-none, step-missing, step-unsatisfied}
+use Rattle.search.proofs.Steps.{step-none, step-missing, step-unsatisfied}
 
 -- ---- lengths
 
@@ -61,29 +61,9 @@ from-lengths label (t ∷ m) k skipped scratch parts =
 
 -- ---- a table of a map
 
--- it is none or a good one
-pub table-cases : (t : Bytes) → allowed t ≡ true → (length t ≡ 0) ⊎ ((p : Syntax pattern) × (decode t ≡ some p))
-unfolding allowed is-table
-table-cases t a = go (eqb (length t) 0) refl a
-  where
-    there : (o : Option (Syntax pattern)) → decode t ≡ o → (elim o [ none ↦ false | some _ ↦ true ]) ≡ true → (p : Syntax pattern) × (decode t ≡ some p)
-    there none e a = absurd (subst T (sym a) tt)
-    there (some p) e a = (p, e)
-
-    go : (b : Bool) → eqb (length t) 0 ≡ b → b || is-table t ≡ true → (length t ≡ 0) ⊎ ((p : Syntax pattern) × (decode t ≡ some p))
-    go true e a = inl (eqb-true _ _ e)
-    go false e a = inr (there (decode t) refl a)
-
 -- none is no pattern's
 pub missing-none : (t : Bytes) → length t ≡ 0 → (p : Syntax pattern) → ¬ (decode t ≡ some p)
-missing-none t z p e = let h = good-some t p e in omega arith
-
-missing-decode : (t : Bytes) → length t ≡ 0 → decode t ≡ none
-missing-decode t z = go (decode t) refl
-  where
-    go : (o : Option (Syntax pattern)) → decode t ≡ o → o ≡ none
-    go none e = refl
-    go (some p) e = absurd (missing-none t z p e)
+missing-none t z p e = Option·none-ne-some p (sym (missing-tree t z) ∙ e)
 
 -- ---- what it uses, and what its summary says
 
@@ -95,11 +75,11 @@ module _ (t : Bytes) (p : Syntax pattern) (good : decode t ≡ some p) (label : 
 module _ (t : Bytes) (z : length t ≡ 0) (label : Bytes) where
   missing-scratch : scratch-of t label ≡ 0
   unfolding scratch-of
-  missing-scratch = rw (scratch-of, missing-decode t z)
+  missing-scratch = rw (scratch-of, missing-tree t z)
 
   missing-kept : is-ruled-out t label ≡ false
   unfolding is-ruled-out
-  missing-kept = rw (is-ruled-out, missing-decode t z)
+  missing-kept = rw (is-ruled-out, missing-tree t z)
 
 -- ---- the numbers before the last that is looked at
 
@@ -124,10 +104,6 @@ count-le (t ∷ m) label = omega (arith, count-le m label, one (is-ruled-out t l
     one : (b : Bool) → cond b 1 0 ≤ 1
     one true = omega arith
     one false = omega arith
-
--- each table is none or a good one
-abbrev pub Tables : Map → Type 0
-Tables m = (k : ℕ) → allowed (table-of m k) ≡ true
 
 -- a number that has a pattern is in the map
 pub kept-within : (m : Map) (k : ℕ) (p : Syntax pattern) → decode (table-of m k) ≡ some p → k < length m
@@ -164,7 +140,7 @@ module _ (label scratch parts : Bytes) (short : length label ≤ label-limit) wh
           ∙ ap (λ n. search-from (suc k) m label (skipped + cond (is-ruled-out t label) 1 0) (zeroed n s) parts) (sym (scratch-is t p good label))
 
   -- past the first j
-  pub passes-all : (j : ℕ) (m : Map) → Tables m → ((i : ℕ) → i < j → Passed label scratch parts (table-of m i)) → (k skipped : ℕ) (s : Bytes) → length s ≡ length scratch
+  pub passes-all : (j : ℕ) (m : Map) → AllAllowed m → ((i : ℕ) → i < j → Passed label scratch parts (table-of m i)) → (k skipped : ℕ) (s : Bytes) → length s ≡ length scratch
       → search-from k m label skipped s parts
       ≡ search-from (k + j) (drop j m) label (skipped + ruled-out-count (take j m) label) (zeroed (most-scratch (take j m) label) s) parts
   unfolding ruled-out-count most-scratch
@@ -188,7 +164,7 @@ module _ (label scratch parts : Bytes) (short : length label ≤ label-limit) wh
       ∙ passes-all j m (λ i. a (suc i)) (λ i l. h (suc i) (omega arith)) (suc k) (skipped + c) (zeroed u s) (length-zeroed u s fits ∙ e)
       ∙ (λ i. search-from (x i) (drop j m) label (y i) (z i) parts)
 
-  pub most-fits : (j : ℕ) (m : Map) → Tables m → ((i : ℕ) → i < j → Passed label scratch parts (table-of m i)) → most-scratch (take j m) label ≤ length scratch
+  pub most-fits : (j : ℕ) (m : Map) → AllAllowed m → ((i : ℕ) → i < j → Passed label scratch parts (table-of m i)) → most-scratch (take j m) label ≤ length scratch
   unfolding most-scratch
   most-fits zero m a h = omega arith
   most-fits (suc j) [] a h = omega arith

@@ -91,7 +91,7 @@ module _ (t label scratch parts : Bytes) (p : Syntax pattern) (good : decode t �
         go none f = inl (verdict-exactly t label scratch parts p good f unlimited .1 never-exhausted)
         go (some n) f = let e = ap (λ (x : MatchOutput). x .answer .number) (match-fault n unlimited f) in ⊎-elim (λ h. inr (inl (e ∙ h))) (λ h. inr (inr (e ∙ h))) (fault-number n f)
 
-  -- and with no label 15
+  -- so never 15, whatever the label
   pub never-budget : ¬ (matchOf t label scratch parts unlimited .answer .number ≡ BUDGET)
   unfolding ended
   never-budget z =

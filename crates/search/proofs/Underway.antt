@@ -1,12 +1,10 @@
 -- The loop over the numbers of a register: what is left of the search after some of them. Assumes nothing.
-use mathlib.Core.Path.{_≡_, refl, sym, ap, subst, _∙_}
+use mathlib.Core.Path.{_≡_, refl, sym, ap, _∙_}
 use mathlib.Core.Logic.{⊎-elim}
-use mathlib.Core.Bool.{true, false}
 use mathlib.Core.List.{[], _∷_}
-use mathlib.Core.Option.{Option, none, some}
+use mathlib.Core.Option.{some}
 use Prim.Native.Nat.{ℕ, suc, _+_, _-_, _≤_, _<_}
 use native.Mathlib.Omega.{arith}
-use lib.Dec.{T}
 use lib.ListN.{length, take, drop, drop-of-length-le}
 use lib.Seq.{drop-cons}
 use Rattle.pattern.specs.Bytes.{Bytes}
@@ -16,9 +14,8 @@ use Rattle.summary.specs.Summary.{summary-size}
 use Rattle.register.specs.Maps.{numbers, Map, table-of, tables, total}
 use Rattle.register.specs.Layout.{slot-size, overhead, slot-start}
 use Rattle.register.specs.declared.slot.Kept.{Kept}
-use Rattle.register.specs.Sections.{is-register}
 use Rattle.register.specs.Slots.{summary-place, kept-at}
-use Rattle.register.proofs.Maps.{total-suc}
+use Rattle.register.proofs.Maps.{table-cases, total-suc}
 use Rattle.register.proofs.Meaning.{meant}
 use Rattle.register.proofs.Kept.{kept-length, kept-atoms, kept-top, summary-is, table-is, table-within}
 use Rattle.search.specs.declared.Searched.{Searched}
@@ -27,21 +24,9 @@ use Rattle.search.specs.declared.look.Looked.the-variants.{Refused, Yes,
 use Rattle.search.specs.Search.{search-refused, search-from, searchOf}
 use Rattle.search.specs.Looking.{search-output, Zeros, LookAtPre, looked, LookAtPost, LookPre}
 use Rattle.search.proofs.Steps.{step-missing, search-goes}
-use Rattle.search.proofs.Passing.{table-cases}
 
 pub same-answer : (a b : Searched) (scratch parts : Bytes) → a ≡ b → search-output a scratch parts ≡ search-output b scratch parts
 same-answer a b scratch parts e = ap (λ (x : Searched). search-output x scratch parts) e
-
--- whether there is a register
-pub is-map : (o : Option Map) → true ≡ is-register o → (m : Map) × (o ≡ some m)
-unfolding is-register
-is-map none e = absurd (subst T e tt)
-is-map (some m) e = (m, refl)
-
-pub no-map : (o : Option Map) → false ≡ is-register o → o ≡ none
-unfolding is-register
-no-map none e = refl
-no-map (some m) e = absurd (subst T (sym e) tt)
 
 -- the numbers below k were looked at, and what is left of the search begins with these values
 pub record Underway (lent label scratch₀ parts₀ scratch parts : Bytes) (k at skipped cleared : ℕ) : Type 0 where

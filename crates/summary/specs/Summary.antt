@@ -27,13 +27,13 @@ pub record Summary : Type 0 where
 
 -- ---- when it is exact: of any set P of byte strings, "over strings of any length"
 
--- "the shortest length of any byte string that satisfies it"; 256 if there is none
+-- "the shortest length of any byte string that satisfies it"; 256 if no string is in the set
 pub record IsShortest (P : Bytes → Type 0) (n : ℕ) : Type 0 where
   pub capped : n ≤ length-cap
   pub least : (s : Bytes) → P s → n ≤ length s
   pub met : n < length-cap → (s : Bytes) × P s × (length s ≡ n)
 
--- "the longest"; 0 if there is none
+-- "the longest"; 0 if no string is in the set
 pub record IsLongest (P : Bytes → Type 0) (n : ℕ) : Type 0 where
   pub capped : n ≤ length-cap
   pub most : (s : Bytes) → P s → min (length s) length-cap ≤ n

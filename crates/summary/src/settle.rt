@@ -54,7 +54,7 @@ fn body(table: &[u8], h: Header, rows: &[u64], x: usize, r: Record) -> Packed
     branches(table, rows, x, r.a as usize)
 }
 
-// Atom x with its followers; next is the row after its own, of which the lengths are enough for most leaves.
+// Atom x with its followers; next is the row after its own. Only an atom that can be empty needs more of a follower than its lengths.
 fn atom(table: &[u8], h: Header, rows: &[u64], x: usize, next: Packed) -> Packed
     requires { ⌜ Settling (now table) (now rows) x ⌝ ∗ ⌜ h ≡ header-of (now table) ⌝ ∗ ⌜ Next (now table) (suc x) next ⌝ }
     ensures { λ m. ⌜ m ≡ packed-of (summary-of (node (now (table .entry)) x)) ⌝ }

@@ -1,8 +1,9 @@
 -- `search` meets its contract: 18, 12, then the numbers. Assumes nothing.
 use mathlib.Core.Path.{sym, _∙_}
+use Rattle.register.proofs.Calls.{is-map, no-map}
 use Rattle.search.specs.Search.{search-refused}
 use Rattle.search.proofs.Steps.{search-bad, search-long}
-use Rattle.search.proofs.Underway.{same-answer, is-map, no-map}
+use Rattle.search.proofs.Underway.{same-answer}
 use borrow.Author.Needs.{needs}
 use Rattle.search.proofs.search.Statement.{statement}
 use Rattle.search.proofs.search.Tie as tie
