@@ -11,7 +11,7 @@
  * slices to write.
  *
  * The answer area is MPT_ANSWER_SIZE bytes: four little-endian 64-bit numbers, position; table or source length, or verdict
- * (1 yes, 0 no); trials (with MPT_BUDGET the budget), or the number that a search found; the patterns that a search skipped,
+ * (1 yes, 0 no); trials (with MPT_BUDGET the budget), or the number at which a search ended; the patterns that a search skipped,
  * else 0. A batch and the calls on a register other than a match and a search answer 0 in all four. A shorter area gives
  * MPT_ANSWER, looked at before all else, and nothing is written; the bytes after the 32 stay as they were.
  *
@@ -118,7 +118,7 @@ uint32_t mpt_register_match(const uint8_t *reg, size_t reg_len, uint8_t number, 
 /* The lowest number whose pattern matches the label: mpt_answer_value is 1, mpt_answer_pattern the number, and parts has its
  * parts. If none matches, both are 0 and no parts are written. The numbers that have a table are looked at upwards, none after
  * the first that matches, as by mpt_register_match with a budget that is always enough; so there is no budget, no trials are
- * answered, and the call may take long. A pattern whose summary rules out the label's length, or its first byte, is skipped,
+ * answered, and the call may take long. A pattern whose summary rules out the label's length, or its first byte if it has one, is skipped,
  * which leaves scratch as its match would; mpt_answer_skipped counts these. Scratch or parts too short for a pattern that is
  * looked at, also for one to be skipped, end the search with MPT_WORK or MPT_PARTS, and mpt_answer_pattern is its number. */
 uint32_t mpt_register_search(const uint8_t *reg, size_t reg_len, const uint8_t *label, size_t label_len, uint8_t *scratch,
