@@ -1,5 +1,5 @@
 // A register of tables by number in one lent buffer, which answers as a plain map does.
-pub mod locate;
+mod locate;
 mod put;
 pub mod slot;
 
@@ -25,6 +25,8 @@ ghost use Rattle.pattern.specs.Bytes.{equal};
 ghost use Rattle.register.specs.Layout.{preamble, preamble-size, registerOf};
 ghost use Rattle.register.specs.Register.{initOf, storeOf, removeOf, matchNumberOf};
 ghost use Rattle.register.specs.Sections.{is-register, located};
+
+pub const NUMBERS: usize = 256;
 
 pub const PREAMBLE_SIZE: usize = 8;
 

@@ -1,4 +1,5 @@
 // The tables of a section: whether all are good and their slots right, and where they lie.
+use crate::NUMBERS;
 use crate::slot::SLOT_SIZE;
 use crate::slot::is_intact;
 use stores::read32;
@@ -9,8 +10,6 @@ ghost use Rattle.register.specs.Maps.{numbers};
 ghost use Rattle.register.specs.Layout.{slot-size};
 ghost use Rattle.register.specs.Slots.{rows-room};
 ghost use Rattle.register.specs.Sections.{held, section-of, tables-end, located, PassPre};
-
-pub const NUMBERS: usize = 256;
 
 pub const DIRECTORY_SIZE: usize = SLOT_SIZE * NUMBERS;
 

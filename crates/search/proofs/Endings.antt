@@ -23,8 +23,8 @@ use Rattle.register.specs.Layout.{allowed}
 use Rattle.register.proofs.Maps.{AllAllowed, table-cases}
 use Rattle.search.specs.Search.{SearchOutput, search-refused, search-from}
 use Rattle.search.specs.Found.{ruled-out-count, most-scratch, Passed, FoundAt, RefusedAt, NoneFound, found-output, none-output, refused-output, Ends, Answers}
-use Rattle.search.proofs.Steps.{fault-number, step-none, step-fault, step-satisfied}
-use Rattle.search.proofs.Passing.{missing-none, scratch-is, count-take, most-take, kept-within, lent-same, passes-all, most-fits}
+use Rattle.search.proofs.Steps.{missing-none, fault-number, step-none, step-fault, step-satisfied}
+use Rattle.search.proofs.Passing.{scratch-is, count-take, most-take, kept-within, lent-same, passes-all, most-fits}
 
 module _ (label scratch parts : Bytes) (short : length label ≤ label-limit) where
   -- ---- each ending

@@ -93,8 +93,8 @@ module _ {table label scratch parts : Bytes} (p : MatchPre table label scratch p
   a-verdict : Verdict output
   a-verdict = subst Verdict (sym is-decided) (verdict-of (verdict label (p .tree)))
 
-  pub match-zeroed : output .scratch ≡ zeroed (scratch-needed (p .tree) (length label)) scratch
-  match-zeroed = a-verdict .zeroed-is
+  pub verdict-zeroed : output .scratch ≡ zeroed (scratch-needed (p .tree) (length label)) scratch
+  verdict-zeroed = a-verdict .zeroed-is
 
   pub matched : (a : Answer) (r : Bool) (scratch′ parts′ : Bytes) → record { answer = a; scratch = scratch′; parts = parts′ } ≡ output → r ≡ eqb (a .value) 1
       → IsMatchPost table label scratch parts r scratch′ parts′
@@ -190,6 +190,6 @@ module _ {summary table : Bytes} {kept : Kept} {label scratch : Bytes} {cleared 
           pub look-no : IsMatchPost table label scratch parts false scratch′ parts′ → (reach : ℕ) → reach ≡ max cleared needed → LookAtPost table label scratch parts (No 0 reach) scratch′ parts′
           unfolding look-fits
           look-no i =
-              pass 0 scratch′ parts′ (omega arith) (i .scratch-is ∙ match-zeroed look-fits ∙ ap (λ n. zeroed n scratch) (sym needs))
+              pass 0 scratch′ parts′ (omega arith) (i .scratch-is ∙ verdict-zeroed look-fits ∙ ap (λ n. zeroed n scratch) (sym needs))
               (λ k m skipped. let c : skipped + 0 ≡ skipped = omega arith in
               rw (c, i .scratch-is, i .parts-is) (step-passed k table m label skipped scratch parts (p .tree) (p .good) (sym out) _ refl (i .number) (i .value)))

@@ -3,7 +3,7 @@ use mathlib.Core.Path.{_≡_, refl, sym, ap, _∙_}
 use mathlib.Core.Logic.{_⊎_, ⊎-elim}
 use mathlib.Core.Bool.{Bool, true, false, cond, _||_}
 use mathlib.Core.List.{[], _∷_}
-use mathlib.Core.Option.{some, Option·none-ne-some}
+use mathlib.Core.Option.{some}
 use Prim.Native.Nat.{ℕ, zero, suc, _+_, max, _≤_, _<_}
 use native.Mathlib.Nat.{max-comm}
 use native.Mathlib.Omega.{arith}
@@ -23,7 +23,7 @@ use Rattle.register.specs.Layout.{allowed}
 use Rattle.register.proofs.Maps.{AllAllowed, missing-tree, table-cases}
 use Rattle.search.specs.Search.{unlimited, SearchOutput, search-refused, is-ruled-out, search-from}
 use Rattle.search.specs.Found.{ruled-out-count, scratch-of, most-scratch, Passed}
-use Rattle.search.proofs.Steps.{step-none, step-missing, step-unsatisfied}
+use Rattle.search.proofs.Steps.{missing-none, step-none, step-missing, step-unsatisfied}
 
 -- ---- lengths
 
@@ -59,13 +59,7 @@ from-lengths label (t ∷ m) k skipped scratch parts =
     lengths-step k n scratch parts o (match-leaves t label scratch parts unlimited) (eqb (length t) 0) (eqb (o .answer .number) 0) (eqb (o .answer .value) 1)
     (from-lengths label m (suc k) skipped scratch parts) (from-lengths label m (suc k) n (o .scratch) (o .parts))
 
--- ---- a table of a map
-
--- none is no pattern's
-pub missing-none : (t : Bytes) → length t ≡ 0 → (p : Syntax pattern) → ¬ (decode t ≡ some p)
-missing-none t z p e = Option·none-ne-some p (sym (missing-tree t z) ∙ e)
-
--- ---- what it uses, and what its summary says
+-- ---- a table: what it uses, and what its summary says
 
 module _ (t : Bytes) (p : Syntax pattern) (good : decode t ≡ some p) (label : Bytes) where
   pub scratch-is : scratch-of t label ≡ scratch-needed p (length label)

@@ -18,19 +18,19 @@ use Rattle.pattern.specs.Scan.{refuse}
 use Rattle.pattern.specs.Decode.{decode}
 use Rattle.pattern.specs.Answers.{MatchOutput, scratch-needed, part-bytes, lent-fault, untried, decided, ended, ending, match-ending, matchOf}
 use Rattle.pattern.proofs.Tests.{le-or-lt, if-true, if-false}
-use Rattle.pattern.proofs.RoundTrip.{encode-length, good-exactly}
 use Rattle.pattern.proofs.Calls.{good-limited, within-budget, verdict-exactly, trials-fit}
 use Rattle.summary.specs.Summary.{rules-out, summary-of}
 use Rattle.summary.proofs.RulingOut.{ruled-out-verdict}
 use Rattle.register.specs.Maps.{Map}
 use Rattle.register.specs.Layout.{registerOf}
+use Rattle.register.proofs.Maps.{missing-tree}
 use Rattle.search.specs.Search.{unlimited, search-refused, is-ruled-out, search-from, searchOf}
 
 -- ---- a match of a good table with unlimited budget
 
--- a good table has bytes
-pub good-some : (t : Bytes) (p : Syntax pattern) → decode t ≡ some p → 0 < length t
-good-some t p good = let (v, source, c) = good-exactly t p .0 good in omega (arith, encode-length v p, ap length (c .whole))
+-- no bytes are no good table
+pub missing-none : (t : Bytes) → length t ≡ 0 → (p : Syntax pattern) → ¬ (decode t ≡ some p)
+missing-none t z p e = Option·none-ne-some p (sym (missing-tree t z) ∙ e)
 
 -- what is lent, by its lengths
 pub fault-label : (p : Syntax pattern) (label scratch parts : Bytes) → label-limit < length label → lent-fault p label scratch parts ≡ some LABEL
@@ -120,7 +120,7 @@ module _ (k : ℕ) (t : Bytes) (m : Map) (label : Bytes) (skipped : ℕ) (scratc
 
   module _ (p : Syntax pattern) (good : decode t ≡ some p) where
     present : eqb (length t) 0 ≡ false
-    present = ne-eqb (length t) 0 (λ e. let h = good-some t p good in omega arith)
+    present = ne-eqb (length t) 0 (λ e. missing-none t e p good)
 
     -- by what an ordinary call answers
     pub step-refused : (o : MatchOutput) → o ≡ output → ¬ (o .answer .number ≡ 0) → search-from k (t ∷ m) label skipped scratch parts ≡ search-refused (o .answer .number) k (o .scratch) (o .parts)
