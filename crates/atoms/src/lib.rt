@@ -1,4 +1,6 @@
 // The atoms of a good table by their index: their records, their literals, and where they and their branches end.
+#![tactic(auto)]
+
 ghost use Rattle.std.specs.Prelude.{◌≡◌, ◌+◌};
 ghost use Rattle.pattern.specs.Syntax.{size};
 ghost use Rattle.atoms.specs.Atoms.{node, head, AtomIn};

@@ -1,4 +1,6 @@
 // One pattern and a batch of labels in one call, which answers as single calls in turn.
+#![tactic(auto)]
+
 ghost use Rattle.std.specs.Prelude.{◌≡◌, ◌*◌};
 ghost use Rattle.pattern.specs.Bytes.{numbers_in};
 ghost use Rattle.batch.specs.Batch.{batch_output, labels_from, in_turn, batch_of};

@@ -1,4 +1,6 @@
 // The code letters with their bytes: one table for reading and writing back, and the class test by a list that agrees with it.
+#![tactic(auto)]
+
 ghost use Rattle.std.specs.Prelude.{◌≡◌, ◌<◌};
 ghost use Rattle.pattern.specs.Codes.{in_set, bit};
 ghost use Rattle.codes.specs.Rows.{row_at, letter_at};

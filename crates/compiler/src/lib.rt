@@ -1,4 +1,6 @@
 // Compiling pattern source to a table: read into local buffers, and then, if there is room, write.
+#![tactic(auto)]
+
 ghost use Rattle.std.specs.Prelude.{◌≡◌};
 ghost use Rattle.pattern.specs.Answers.{compile_of};
 ghost use Rattle.compiler.specs.Readers.{BuffersFit};

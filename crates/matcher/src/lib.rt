@@ -1,4 +1,6 @@
 // Matching a label against a table, each trial counted against a budget.
+#![tactic(auto)]
+
 ghost use Rattle.std.specs.Prelude.{◌≡◌};
 ghost use Rattle.pattern.specs.Decode.{decode};
 ghost use Rattle.pattern.specs.Answers.{ended};

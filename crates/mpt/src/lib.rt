@@ -1,4 +1,6 @@
 // The calls from C. Each returns the refusal number, 0 for none; the numbers of its answer go to the answer area.
+#![tactic(auto)]
+
 mod area;
 
 ghost use Rattle.std.specs.Prelude.{◌≡◌};

@@ -1,5 +1,7 @@
 // The line tool: reads lines of a source, a tab and a label, and writes an answer for each. What it does with what it
 // reads, and what it writes when, is told by lines::session.
+#![tactic(auto)]
+
 ghost use Rattle.lines.specs.Chunk.{lend};
 ghost use Rattle.lines.specs.Session.{state_of, started};
 ghost use Rattle.lines.specs.Trace.{Moves};

@@ -29,8 +29,8 @@ From f i (accepted t) = (j : ℕ) → f j ≡ none
 -- a position without a fault, and then the others
 later : (f g : ℕ → Option ℕ) (i : ℕ) (o : Outcome) → f zero ≡ none → ((j : ℕ) → f (suc j) ≡ g j) → From g (suc i) o → From f i o
 unfolding From
-later f g i (refused x p) e m (d, a, h, k) = (suc d, omega arith, m d ∙ h, λ j. elim j [ zero ↦ λ l. e | suc n ↦ λ l. m n ∙ k n (omega arith) ])
-later f g i (accepted t) e m h = λ j. elim j [ zero ↦ e | suc n ↦ m n ∙ h n ]
+later f g i (refused x p) e m (d, a, h, k) = (suc d, omega arith, m d ∙ h, λ j. elim j as (λ j. j < suc d → f j ≡ none) [ zero ↦ λ l. e | suc n ↦ λ l. m n ∙ k n (omega arith) ])
+later f g i (accepted t) e m h = λ j. elim j as (λ j. f j ≡ none) [ zero ↦ e | suc n ↦ m n ∙ h n ]
 
 first_of : (f : ℕ → Option ℕ) (i x : ℕ) → f zero ≡ some x → From f i (refused x i)
 unfolding From

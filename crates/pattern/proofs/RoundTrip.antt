@@ -120,12 +120,12 @@ module _ (v : Version) (t : Syntax pattern) where
   encode_length =
       let n = length_record_bytes (records 1 t 0 0) (pool t) in
       let m = count_records 1 t 0 0 in
-      elim v [ v1 ↦ omega (arith, n, m) | v2 ↦ omega (arith, n, m) ]
+      elim v as (λ v. length (encode_in v t) ≡ header_size v + record_size * size t + length (pool t)) [ v1 ↦ omega (arith, n, m) | v2 ↦ omega (arith, n, m) ]
 
   -- it names its version
   pub version_encode : version_of (encode_in v t) ≡ v
   unfolding version_of encode_in header little
-  version_encode = elim v [ v1 ↦ refl | v2 ↦ refl ]
+  version_encode = elim v as (λ v. version_of (encode_in v t) ≡ v) [ v1 ↦ refl | v2 ↦ refl ]
 
 -- its records begin after the header, and its pool after them, if there are no more atoms than the version allows
 pub encode_placed : (v : Version) (t : Syntax pattern) → size t ≤ (format v).atoms → Placed (encode_in v t) (layout (encode_in v t)) 1 t 0 0

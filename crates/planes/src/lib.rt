@@ -1,4 +1,5 @@
 // The planes of a match: relations on the stretches of a label, joined with each trial counted against a budget.
+#![tactic(auto)]
 
 pub mod cells;
 pub mod fill;

@@ -1,4 +1,6 @@
 // Writing a table back as its shortest source.
+#![tactic(auto)]
+
 mod tokens;
 mod walk;
 

@@ -1,4 +1,6 @@
 // A register of tables by number in one lent buffer, which answers as a plain map does.
+#![tactic(auto)]
+
 mod locate;
 mod put;
 pub mod slot;

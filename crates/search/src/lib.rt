@@ -1,4 +1,6 @@
 // The search of a register: the lowest number whose pattern a label satisfies, without a match where a summary rules the label out.
+#![tactic(auto)]
+
 ghost use Rattle.std.specs.Prelude.{◌≡◌};
 ghost use Rattle.search.specs.Search.{search_of};
 ghost use Rattle.search.specs.Looking.{search_output, LookPre};

@@ -1,4 +1,6 @@
 // Bytes and numbers of a fixed width in lent bytes: read, stored, copied, moved, compared and zeroed. What stores answers the place after.
+#![tactic(auto)]
+
 ghost use Rattle.std.specs.Prelude.{◌≡◌, [], ◌∷◌, ◌+◌, ◌≤◌, ◌<◌, length, take, drop};
 ghost use Rattle.std.proofs.Math.Seq.{slice};
 ghost use Rattle.pattern.specs.Bytes.{equal, le16, little, number_in, zeroed};

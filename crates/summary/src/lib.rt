@@ -1,4 +1,6 @@
 // The summary of a good table, worked out in one backward pass over its records, and what a summary rules out.
+#![tactic(auto)]
+
 ghost use Rattle.std.specs.Prelude.{◌≡◌};
 ghost use Rattle.pattern.specs.Bytes.{overwrite};
 ghost use Rattle.pattern.specs.Decode.{tree_of};

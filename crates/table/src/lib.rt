@@ -1,4 +1,6 @@
 // Tables: their layout, header and records, the writer, and the test whether bytes are a good table.
+#![tactic(auto)]
+
 pub mod header;
 mod layout;
 mod lengths;
