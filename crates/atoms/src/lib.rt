@@ -12,7 +12,7 @@ use table::record;
 use table::record::Record;
 
 // Where the value of a literal lies in the table, and its length.
-#[derive(Drop)]
+#[derive(Clone, Copy)]
 pub struct Span {
     pub from: usize,
     pub len: usize,

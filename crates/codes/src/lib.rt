@@ -10,7 +10,7 @@ use crate::classes::word;
 mod classes;
 
 // A capital letter, and four ranges of bytes, each its first and its last; a range from 1 to 0 is empty.
-#[derive(Drop)]
+#[derive(Clone, Copy)]
 struct Code {
     letter: u8,
     ranges: [u8; 8],

@@ -14,7 +14,7 @@ use scanner::cursor::Cursor;
 use table::write::{RECORDS_ROOM, SHORT_RECORDS, SHORT_SOURCE, TableWritten, write_table};
 
 // The length of the table, or a refusal and its position.
-#[derive(Drop)]
+#[derive(Clone, Copy)]
 pub enum Compiled {
     Table(usize),
     Refused(u32, usize),

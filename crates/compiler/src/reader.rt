@@ -11,7 +11,7 @@ use scanner::cursor::{Class, Cursor, Separator, ends_at};
 use table::write::put_record;
 
 // How far a reader has come: the place in the source, the atoms so far, and the length of the pool.
-#[derive(Drop)]
+#[derive(Clone, Copy)]
 pub struct ReaderState {
     pub at: Cursor,
     pub atoms: usize,
@@ -19,14 +19,14 @@ pub struct ReaderState {
 }
 
 // Where a pattern or an atom ends, or a refusal and its position.
-#[derive(Drop)]
+#[derive(Clone, Copy)]
 pub enum Parsed {
     Done(ReaderState),
     Fault(u32, usize),
 }
 
 // Where a group ends and how many branches it has, or a refusal and its position.
-#[derive(Drop)]
+#[derive(Clone, Copy)]
 pub enum Grouped {
     Done(ReaderState, usize),
     Fault(u32, usize),

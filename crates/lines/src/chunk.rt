@@ -12,7 +12,7 @@ use stores::clear;
 
 // The first end bytes of the output are to be written. Then the bytes from..to of the input are still to be answered, with
 // held bytes of a line before them; or, if it was the last output, nothing.
-#[derive(Drop)]
+#[derive(Clone, Copy)]
 pub struct Pending {
     pub from: usize,
     pub to: usize,

@@ -6,7 +6,7 @@ ghost use Rattle.lines.specs.Taking.{TakeLinePost};
 use replies::sizes::{HELD_LIMIT, NEWLINE};
 
 // How many bytes of a line are held, where to go on in the chunk, and whether the line ended.
-#[derive(Drop)]
+#[derive(Clone, Copy)]
 pub struct Taken {
     pub held: usize,
     pub next: usize,

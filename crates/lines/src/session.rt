@@ -14,7 +14,7 @@ const FIRST_SIZE: usize = 6;
 const FIRST_LINE: [u8; FIRST_SIZE] = *b"MPT 2\n";
 
 // What a read gave: nothing, since it failed; the end of the input; or the first bytes of the buffer.
-#[derive(Drop)]
+#[derive(Clone, Copy)]
 pub enum Input {
     Failed,
     Ended,
@@ -22,7 +22,7 @@ pub enum Input {
 }
 
 // What the program is to do: write; read, with so many bytes of a line held; or stop.
-#[derive(Drop)]
+#[derive(Clone, Copy)]
 pub enum Next {
     Write(Pending),
     Read(usize),

@@ -22,7 +22,7 @@ use stores::clear;
 use table::{Sizes, Tested};
 
 // The answer to a match: a refusal by its name in the paper, or the verdict with the trials made.
-#[derive(Drop)]
+#[derive(Clone, Copy)]
 pub enum Matched {
     Table,
     Label,
@@ -34,7 +34,7 @@ pub enum Matched {
 }
 
 // The numbers of an answer; value is the verdict, 1 for yes.
-#[derive(Drop)]
+#[derive(Clone, Copy)]
 pub struct Answer {
     pub number: u32,
     pub value: u64,

@@ -15,7 +15,7 @@ pub const LABEL_LIMIT: usize = 255;
 // Sets of codes are below this; it is the bit of every letter other than the seven.
 pub const SET_LIMIT: u8 = 128;
 
-#[derive(Drop)]
+#[derive(Clone, Copy)]
 pub struct Limits {
     pub source: usize,
     pub atoms: usize,

@@ -3,7 +3,7 @@ ghost use Rattle.std.specs.Prelude.{◌≡◌};
 ghost use Rattle.std.proofs.Math.Option.{none, some};
 ghost use Rattle.pattern.specs.Repeats.{repeat_of};
 
-#[derive(Drop)]
+#[derive(Clone, Copy)]
 pub struct Repeat {
     pub low: u16,
     pub high: u16,

@@ -6,7 +6,7 @@ use crate::cells::{blank, set_stretch};
 use stores::equal;
 
 // What a plane is filled with: the empty stretches; one byte of a set; some bytes from a place of the table on.
-#[derive(Drop)]
+#[derive(Clone, Copy)]
 pub enum Content {
     Empty,
     Codes(u16),

@@ -5,7 +5,7 @@ ghost use Rattle.planes.specs.Join.{JoinPre, JoinPost};
 use crate::cells::{blank, cell, set_stretch};
 
 // What a search over ends found: the end, or none, or that the budget ran out.
-#[derive(Drop)]
+#[derive(Clone, Copy)]
 enum Search {
     Found(usize),
     Missing,
@@ -13,7 +13,7 @@ enum Search {
 }
 
 // The trials so far, and whether the budget ran out.
-#[derive(Drop)]
+#[derive(Clone, Copy)]
 pub struct Tally {
     pub trials: u64,
     pub stopped: bool,

@@ -11,7 +11,7 @@ ghost use Rattle.printer.specs.Outputs.{output_of};
 use table::Tested;
 
 // Refusal 11, refusal 8, or the length of the source.
-#[derive(Drop)]
+#[derive(Clone, Copy)]
 pub enum Written {
     Table,
     Room,

@@ -11,7 +11,7 @@ use pattern::kind;
 use table::record::Record;
 
 // The next atom, and the place after what is written.
-#[derive(Drop)]
+#[derive(Clone, Copy)]
 pub struct Progress {
     pub atom: usize,
     pub at: usize,

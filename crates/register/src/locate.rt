@@ -12,21 +12,21 @@ use stores::read32;
 pub const DIRECTORY_SIZE: usize = SLOT_SIZE * NUMBERS;
 
 // Where tables end, if all of them are good.
-#[derive(Drop)]
+#[derive(Clone, Copy)]
 pub enum TablesEnd {
     Bad,
     At(usize),
 }
 
 // Where the table of a number begins and ends, and where the last table ends.
-#[derive(Drop)]
+#[derive(Clone, Copy)]
 pub struct Location {
     pub start: usize,
     pub end: usize,
     pub used: usize,
 }
 
-#[derive(Drop)]
+#[derive(Clone, Copy)]
 pub enum Located {
     Bad,
     At(Location),

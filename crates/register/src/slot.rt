@@ -24,7 +24,7 @@ pub const SUMMARY_PLACE: usize = 8;
 const STEP: usize = 4;
 
 // The numbers of a slot: the bytes of the table, the atoms of its pattern, and how many of them stand in no group.
-#[derive(Drop)]
+#[derive(Clone, Copy)]
 pub struct Kept {
     pub length: usize,
     pub atoms: usize,

@@ -7,14 +7,14 @@ use crate::cursor::{Class, Cursor, Text};
 use pattern::limits::SET_LIMIT;
 
 // The set of a run of code letters, or the place of a letter that is no code.
-#[derive(Drop)]
+#[derive(Clone, Copy)]
 pub enum LettersRead {
     Set(u8, Cursor),
     Fault(usize),
 }
 
 // Where a literal ends, with the length of the pool after it; or the place where it breaks off.
-#[derive(Drop)]
+#[derive(Clone, Copy)]
 pub enum LiteralRead {
     Value(Cursor, usize),
     Fault(usize),

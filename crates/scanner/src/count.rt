@@ -7,21 +7,21 @@ use pattern::repeat::Repeat;
 use pattern::{limits, refusal};
 
 // A run of digits: its value, 0 for none, and where it ends; or the place of the digit that takes the value over the limit.
-#[derive(Drop)]
+#[derive(Clone, Copy)]
 enum DigitsRead {
     Number(u16, Cursor),
     Large(usize),
 }
 
 // What stands at a place: a count and where it ends, the digit that takes a number of it over the limit, or no count.
-#[derive(Drop)]
+#[derive(Clone, Copy)]
 enum CountRead {
     Repeat(Repeat, Cursor),
     Large(usize),
     None,
 }
 
-#[derive(Drop)]
+#[derive(Clone, Copy)]
 pub enum CountResult {
     Repeat(Cursor, Repeat),
     Fault(u32, usize),

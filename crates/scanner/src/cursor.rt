@@ -4,32 +4,32 @@ ghost use Rattle.std.specs.Prelude.{◌≡◌};
 ghost use Rattle.scanner.specs.Places.{is_digit, is_letter, is_plain, ends_at, BytePost, DigitPost, PointPost, ClassPost, SeparatorPost};
 ghost use Rattle.scanner.specs.Bodies.{TextPost};
 
-#[derive(Drop)]
+#[derive(Clone, Copy)]
 pub struct Cursor {
     pub at: usize,
 }
 
-#[derive(Drop)]
+#[derive(Clone, Copy)]
 enum Byte {
     Is(u8, Cursor),
     End,
 }
 
-#[derive(Drop)]
+#[derive(Clone, Copy)]
 pub enum Digit {
     Is(u16, Cursor),
     None,
 }
 
 // Whether the point of a count stands at a cursor.
-#[derive(Drop)]
+#[derive(Clone, Copy)]
 pub enum Point {
     Is(Cursor),
     None,
 }
 
 // With what a body begins, or goes on if it is of letters.
-#[derive(Drop)]
+#[derive(Clone, Copy)]
 pub enum Class {
     Letter(u8, Cursor),
     Quote(Cursor),
@@ -38,7 +38,7 @@ pub enum Class {
 }
 
 // With what a branch ends.
-#[derive(Drop)]
+#[derive(Clone, Copy)]
 pub enum Separator {
     Comma(Cursor),
     Closing(Cursor),
@@ -46,7 +46,7 @@ pub enum Separator {
 }
 
 // Inside a literal: a byte of its value, a quote inside undoubled; its end; or neither.
-#[derive(Drop)]
+#[derive(Clone, Copy)]
 pub enum Text {
     Byte(u8, Cursor),
     End(Cursor),

@@ -14,7 +14,7 @@ use register::slot::{SLOT_SIZE, SUMMARY_PLACE, kept_at};
 use register::{NUMBERS, OVERHEAD, PREAMBLE_SIZE, is_register};
 
 // The refusal number, 0 for none; the verdict, 1 for yes; the number at which the search ended; how many were skipped.
-#[derive(Drop)]
+#[derive(Clone, Copy)]
 pub struct Searched {
     pub number: u32,
     pub verdict: u64,

@@ -13,7 +13,7 @@ use summary::rules::rules_out;
 const UNLIMITED: u64 = 18446744073709551615;
 
 // What came of a number that is kept: a refusal, a match, or none. None comes with 1 if it was skipped, else 0, and how far scratch is zero.
-#[derive(Drop)]
+#[derive(Clone, Copy)]
 pub enum Looked {
     Refused(u32),
     Yes,

@@ -1,5 +1,5 @@
 // A summary as the code holds it: two lengths, each 256 if above 255, and a set of bytes, 64 to a word.
-#[derive(Drop)]
+#[derive(Clone, Copy)]
 pub struct Packed {
     pub shortest: u64,
     pub longest: u64,

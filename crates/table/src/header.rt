@@ -10,7 +10,7 @@ use crate::layout::{ATOMS_PLACE, Format, RECORD_SIZE};
 use stores::{equal, read16, wide};
 
 // How many atoms and how many bytes of pool there are, where the records and the pool begin, and what depends on the version.
-#[derive(Drop)]
+#[derive(Clone, Copy)]
 pub struct Header {
     pub atoms: usize,
     pub length: usize,
@@ -19,7 +19,7 @@ pub struct Header {
     pub format: Format,
 }
 
-#[derive(Drop)]
+#[derive(Clone, Copy)]
 pub enum HeaderRead {
     Is(Header),
     Bad,

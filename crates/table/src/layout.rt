@@ -28,7 +28,7 @@ const FIRST_BYTES_1: [u8; ATOMS_PLACE] = *b"MPT\x01\x00";
 const FIRST_BYTES_2: [u8; ATOMS_PLACE] = *b"MPT\x02\x00";
 
 // The bytes of the header that hold the atom count, and the limits: the most atoms, and the longest source.
-#[derive(Drop)]
+#[derive(Clone, Copy)]
 pub struct Format {
     pub width: usize,
     pub atoms: usize,

@@ -14,7 +14,7 @@ use stores::decimal::decimal_length;
 const LETTERS: [u8; 16] = *b"\x00\x01\x01\x02\x01\x02\x02\x03\x01\x02\x02\x03\x02\x03\x03\x04";
 
 // The bytes of a literal's value with its quotes doubled.
-#[derive(Drop)]
+#[derive(Clone, Copy)]
 pub enum TextLength {
     Length(usize),
     Bad,

@@ -16,14 +16,14 @@ use header::HeaderRead;
 use walk::{Place, Walked};
 
 // A good table: its atoms, how many of them stand in no group, and the bytes of its shortest source.
-#[derive(Drop)]
+#[derive(Clone, Copy)]
 pub struct Sizes {
     pub atoms: usize,
     pub top: usize,
     pub source: usize,
 }
 
-#[derive(Drop)]
+#[derive(Clone, Copy)]
 pub enum Tested {
     Bad,
     Good(Sizes),

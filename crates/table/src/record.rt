@@ -8,7 +8,7 @@ use crate::layout::RECORD_SIZE;
 use stores::read16;
 
 // What a record says.
-#[derive(Drop)]
+#[derive(Clone, Copy)]
 pub struct Record {
     pub kind: u8,
     pub ends: u8,

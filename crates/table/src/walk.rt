@@ -15,14 +15,14 @@ use pattern::limits::{DEPTH_LIMIT, NUMBER_LIMIT, SET_LIMIT};
 use pattern::repeat::Repeat;
 
 // The bytes of a leaf in the pool and in the source.
-#[derive(Drop)]
+#[derive(Clone, Copy)]
 pub enum Leaf {
     Is(usize, usize),
     Bad,
 }
 
 // An atom, and the bytes of the pool and of the source before it.
-#[derive(Drop)]
+#[derive(Clone, Copy)]
 pub struct Place {
     pub atom: usize,
     pub pool: usize,
@@ -30,14 +30,14 @@ pub struct Place {
 }
 
 // The place after an atom or a group.
-#[derive(Drop)]
+#[derive(Clone, Copy)]
 pub enum Passed {
     To(Place),
     Bad,
 }
 
 // The place after a pattern, and how many atoms it has of its own.
-#[derive(Drop)]
+#[derive(Clone, Copy)]
 pub enum Walked {
     To(Place, usize),
     Bad,

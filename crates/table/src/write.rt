@@ -22,7 +22,7 @@ pub const SHORT_RECORDS: usize = layout::RECORD_SIZE * SHORT_SOURCE;
 pub const SHORT_TABLE: usize = layout::HEADER_SIZE + SHORT_RECORDS;
 
 // The length of the table, or that the lent bytes are too short.
-#[derive(Drop)]
+#[derive(Clone, Copy)]
 pub enum TableWritten {
     Length(usize),
     Room,
