@@ -3,16 +3,11 @@ use mathlib.Core.Path.{◌≡◌, ap}
 use Prim.Native.Nat.{ℕ, ◌+◌, ◌*◌}
 use native.Mathlib.Omega.{arith}
 use lib.ListN.{get_or}
-use borrow.Author.Rules.{rules}
 use Rattle.pattern.specs.Numbers.{record_size}
-use Rattle.table.proofs.walk.ends_of.Statement.{statement}
-use Rattle.table.proofs.walk.ends_of.Tie as tie
+use Rattle.table.proofs.walk.ends_of.Goals as goal
 
-returns : tie.Need-returns
+pub returns : goal.returns
 returns c =
-    let a = c.before.args in
+    let a = c.args in
     let z : record_size * a.i ≡ 0 + record_size * a.i = omega arith in
     ap (λ (k : ℕ). get_or a.payload.now (k + 1) 0) z
-
-pub ends-of-spec : {M : Type 1} → statement M
-ends-of-spec = tie.close (tie.spec (search rules) (search rules) (search rules) returns)
