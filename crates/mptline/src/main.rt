@@ -110,5 +110,12 @@ fn main(rt: HostRuntime) {
     let mut line = [0u8; sizes::HELD_LIMIT];
     let mut scratch = [0u8; sizes::SCRATCH_SIZE];
     let mut out = [0u8; BUFFER_SIZE];
-    answer_input(&mut input, &mut output, &mut buf, &mut line, &mut scratch, &mut out);
+    answer_input(
+        &mut input,
+        &mut output,
+        &mut buf,
+        &mut line,
+        &mut scratch,
+        &mut out,
+    );
 }
