@@ -8,7 +8,7 @@ use native.Mathlib.Numerals.{add-one}
 use lib.ListN.{length}
 use Rattle.pattern.specs.Numbers.{atom_limit, depth_limit, comma_byte, group_kind, FORM, DEPTH}
 use Rattle.pattern.specs.Bytes.{Bytes}
-use Rattle.pattern.specs.Syntax.{pattern, atom, body, branches, Syntax, last, then, repeat, group, only, or, size}
+use Rattle.pattern.specs.Syntax.{pattern, atom, branches, Syntax, last, then, repeat, group, only, or, size}
 use Rattle.pattern.specs.Grammar.{quote, opening, body_start}
 use Rattle.pattern.specs.Parser.{counting, empty, Stack, within, fork, next}
 use Rattle.pattern.specs.Scan.{low, high, depth}

@@ -18,7 +18,6 @@ use Rattle.table.specs.declared.Sizes.{Sizes}
 use Rattle.table.specs.declared.Tested.TheVariants.{Bad, Good}
 use Rattle.table.specs.Tested.{tested}
 use Rattle.atoms.proofs.Goods.{GoodSizes, tested_good, tested_bad}
-use Rattle.atoms.specs.Atoms.{atoms}
 use Rattle.matcher.specs.Answered.{MatchPost}
 use Rattle.matcher.specs.Run.{RunPre, unrefused}
 use Rattle.matcher.specs.declared.Matched.TheVariants.{Table, Label, Work, Parts}

@@ -13,7 +13,6 @@ use Rattle.pattern.specs.Bytes.{Bytes, zeroed}
 use Rattle.pattern.specs.Syntax.{pattern, Syntax}
 use Rattle.pattern.specs.Decision.{decide}
 use Rattle.pattern.specs.Parts.{parts, verdict}
-use Rattle.pattern.specs.Trials.{trials}
 use Rattle.pattern.specs.Decode.{tree_of}
 use Rattle.pattern.specs.Answers.{result, scratch_needed, ended, MatchOutput as Outcome}
 use Rattle.pattern.proofs.Tests.{if_true, if_false}

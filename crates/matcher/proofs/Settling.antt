@@ -9,7 +9,7 @@ use lib.Dec.{leb, eqb}
 use lib.ListN.{length}
 use Rattle.pattern.specs.Numbers.{label_limit, open_high}
 use Rattle.pattern.specs.Bytes.{Bytes}
-use Rattle.pattern.specs.Syntax.{atom, body, Syntax, repeat}
+use Rattle.pattern.specs.Syntax.{atom, Syntax, repeat}
 use Rattle.pattern.specs.Decision.{Rel, power, max_count, repeated, decide}
 use Rattle.pattern.specs.Trials.{sum, joins, repeats}
 use Rattle.pattern.specs.Decode.{high_of}

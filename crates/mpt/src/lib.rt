@@ -66,7 +66,7 @@ pub extern "C" fn mpt_match(
     budget: u64,
     answer: &mut [u8],
 ) -> u32
-    ensures { record { number = result; lent = record { scratch = scratch.exit.now; parts = parts.new }; answer = answer.new } ≡ match_call table.now label.now scratch.entry.now parts.old budget answer.old }
+    ensures { record { number = result; lent = record { scratch = scratch.new; parts = parts.new }; answer = answer.new } ≡ match_call table.now label.now scratch.old parts.old budget answer.old }
 {
     if answer.len() < AREA_SIZE {
         return refusal::ANSWER;
@@ -87,7 +87,7 @@ pub extern "C" fn mpt_match_batch(
     budget: u64,
     answer: &mut [u8],
 ) -> u32
-    ensures { record { number = result; lent = record { scratch = scratch.exit.now; verdicts = verdicts.new; parts = parts.new }; answer = answer.new } ≡ batch_call table.now labels.now ends.now scratch.entry.now verdicts.old parts.old budget answer.old }
+    ensures { record { number = result; lent = record { scratch = scratch.new; verdicts = verdicts.new; parts = parts.new }; answer = answer.new } ≡ batch_call table.now labels.now ends.now scratch.old verdicts.old parts.old budget answer.old }
 {
     if answer.len() < AREA_SIZE {
         return refusal::ANSWER;
@@ -148,7 +148,7 @@ pub extern "C" fn mpt_register_match(
     budget: u64,
     answer: &mut [u8],
 ) -> u32
-    ensures { record { number = result; lent = record { scratch = scratch.exit.now; parts = parts.new }; answer = answer.new } ≡ match_number_call reg.now number label.now scratch.entry.now parts.old budget answer.old }
+    ensures { record { number = result; lent = record { scratch = scratch.new; parts = parts.new }; answer = answer.new } ≡ match_number_call reg.now number label.now scratch.old parts.old budget answer.old }
 {
     if answer.len() < AREA_SIZE {
         return refusal::ANSWER;
@@ -166,7 +166,7 @@ pub extern "C" fn mpt_register_search(
     parts: &mut [u8],
     answer: &mut [u8],
 ) -> u32
-    ensures { record { number = result; lent = record { scratch = scratch.exit.now; parts = parts.new }; answer = answer.new } ≡ search_call reg.now label.now scratch.entry.now parts.old answer.old }
+    ensures { record { number = result; lent = record { scratch = scratch.new; parts = parts.new }; answer = answer.new } ≡ search_call reg.now label.now scratch.old parts.old answer.old }
 {
     if answer.len() < AREA_SIZE {
         return refusal::ANSWER;

@@ -7,7 +7,6 @@ use native.Mathlib.Omega.{arith}
 use lib.Bits.{bit_or, or_lt, or_zero_l, or_add_and, and_le_l}
 use lib.ListN.{length, get_or, set, length-append, length-set}
 use borrow.Author.Tests.{le-leb, lt-leb}
-use denote.Enum.Declared.{tag_of}
 use Rattle.pattern.specs.Numbers.{CODE, set_limit}
 use Rattle.pattern.specs.Bytes.{Bytes}
 use Rattle.pattern.specs.Codes.{bit}
@@ -24,7 +23,6 @@ use Rattle.scanner.specs.declared.body.LiteralRead.TheVariants as literals
 use Rattle.scanner.specs.Places.{Onward, LetterIs, ClassPost}
 use Rattle.pattern.specs.Stores.{store_at}
 use Rattle.scanner.specs.Bodies.{Passes, Refuses, after_codes, in_literal, TextPost, CodesFromPost, QuotedPost}
-use Rattle.scanner.specs.contracts.cursor.Class.{the_type}
 use Rattle.scanner.proofs.Places.{letter_place, class_letter, class_none}
 use Rattle.scanner.proofs.Steps.{onward, faulty}
 use Rattle.pattern.proofs.Tests.{le_or_lt}
@@ -69,7 +67,7 @@ module _ (s : Bytes) (i : ℕ) (at : Cursor) (set : ℕ) (c : Coding s i at set)
     pub coding_more : (b x : ℕ) (next : Cursor) → r ≡ class.Letter b next → x ≡ bit b → Coding s i next (bit_or set x)
     coding_more b x next e f = rw f (coding_next s i at.at b next (class_letter s at.at r b next e read) (omega (arith, c.on)) set small (c.passes small))
 
-    pub coding_end : ¬ (tag_of the_type r ≡ 0) → CodesFromPost s i (sets.Set set at)
+    pub coding_end : ((b : ℕ) (next : Cursor) → ¬ (r ≡ class.Letter b next)) → CodesFromPost s i (sets.Set set at)
     unfolding CodesFromPost
     coding_end d = (small, omega (arith, c.on), c.within, c.passes small, class_none s at.at r d read)
 

@@ -1,12 +1,11 @@
 -- What the byte at a place says of it. Assumes nothing.
 use mathlib.Core.Path.{◌≡◌, refl, sym, ap, ◌∙◌, subst}
-use mathlib.Core.Bool.{Bool, true, false, not, cond}
+use mathlib.Core.Bool.{Bool, true, false, cond}
 use Prim.Native.Nat.{ℕ, ◌-◌, ◌≤◌, ◌<◌, ◌/◌, ◌%◌}
 use native.Mathlib.Omega.{arith}
 use lib.Dec.{leb, eqb}
 use lib.ListN.{length}
 use borrow.Author.Tests.{leb-true, lt-ltb, le-ltb}
-use denote.Enum.Declared.{tag_of}
 use Rattle.pattern.specs.Bytes.{Bytes, between}
 use Rattle.pattern.specs.Grammar.{letter, quote, opening, digit, point, CharClass, count_char, body_start, branch_end, char_class, literal_class}
 use Rattle.pattern.proofs.Tests.{agree, agreed, all, all_at}
@@ -17,7 +16,6 @@ use Rattle.scanner.specs.declared.cursor.Byte.TheVariants as byte
 use Rattle.scanner.specs.declared.cursor.Class.{Class}
 use Rattle.scanner.specs.declared.cursor.Class.TheVariants as class
 use Rattle.scanner.specs.Places.{digit_class, letter_class, is_digit, is_letter, is_plain, ends_class, ends_at, ByteIs, ClassIs, LetterIs, ClassNot, BytePost, ClassPost}
-use Rattle.scanner.specs.contracts.cursor.Class.{the_type}
 
 -- the code's tests of a byte, each compared at all 256 of them
 pub digit_test : (b : ℕ) → b < 256 → cond (leb 48 b) (leb b 57) false ≡ is_digit b
@@ -135,9 +133,9 @@ pub class_letter : (s : Bytes) (at : ℕ) (r : Class) (c : ℕ) (next : Cursor) 
 unfolding ClassPost
 class_letter s at r c next e h = subst (λ r. ClassPost s at r) e h
 
-pub class_none : (s : Bytes) (at : ℕ) (r : Class) → ¬ (tag_of the_type r ≡ 0) → ClassPost s at r → ClassNot s at (body_start letter)
+pub class_none : (s : Bytes) (at : ℕ) (r : Class) → ((c : ℕ) (next : Cursor) → ¬ (r ≡ class.Letter c next)) → ClassPost s at r → ClassNot s at (body_start letter)
 unfolding ClassPost
-class_none s at (class.Letter c next) d h = absurd (d refl)
+class_none s at (class.Letter c next) d h = absurd (d c next refl)
 class_none s at (class.Quote next) d h = record { not = λ l e. let z = h.kind in let y : ◌≡◌ {A = ℕ} 0 1 = cc in omega arith }
 class_none s at (class.Opening next) d h = record { not = λ l e. let z = h.kind in let y : ◌≡◌ {A = ℕ} 0 1 = cc in omega arith }
 class_none s at class.Other d h = h.0

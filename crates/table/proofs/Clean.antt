@@ -5,7 +5,7 @@ use mathlib.Core.List.{[], ◌∷◌}
 use mathlib.Core.Option.{Option, none, some}
 use Prim.Native.Nat.{ℕ, suc, ◌≤◌}
 use native.Mathlib.Omega.{arith}
-use lib.Dec.{T, leb, eqb}
+use lib.Dec.{leb, eqb}
 use borrow.Author.Tests.{eqb-true, leb-true, ne_eqb, le-leb}
 use Rattle.pattern.specs.Numbers.{number_limit, quote_byte, open_high}
 use Rattle.pattern.specs.Bytes.{Bytes, between}

@@ -11,7 +11,7 @@ use lib.ListN.{length, length-append}
 use borrow.Author.Tests.{lt-ltb, le-ltb, eq-eqb, ne_eqb}
 use Rattle.pattern.specs.Numbers.{depth_limit, opening_byte, closing_byte, comma_byte, group_kind}
 use Rattle.pattern.specs.Bytes.{Bytes}
-use Rattle.pattern.specs.Syntax.{Sort, pattern, atom, body, branches, Syntax, then, repeat, group, or, size, top_size}
+use Rattle.pattern.specs.Syntax.{Sort, pattern, body, branches, Syntax, then, repeat, group, or, size, top_size}
 use Rattle.pattern.specs.Table.{pool}
 use Rattle.pattern.specs.Print.{print_count, print}
 use Rattle.pattern.specs.Decode.{high_of}

@@ -40,8 +40,15 @@ use Rattle.table.proofs.Complete.{found}
 -- the first bytes of a version name it
 first_version : (v : Version) (s : Bytes) → take atoms_place s ≡ first_bytes v → version_of s ≡ v
 unfolding version_of
-first_version v s e = ap (λ (n : ℕ). elim (eqb n 1) [ true ↦ v1 | false ↦ v2 ]) (named v s e) ∙ elim v [ v1 ↦ refl | v2 ↦ refl ]
+first_version v s e = ap by_number (named v s e) ∙ again v
   where
+    by_number : ℕ → Version
+    by_number n = elim (eqb n 1) [ true ↦ v1 | false ↦ v2 ]
+
+    again : (v : Version) → by_number (format v).version ≡ v
+    again v1 = refl
+    again v2 = refl
+
     named : (v : Version) (s : Bytes) → take atoms_place s ≡ first_bytes v → field s version_place ≡ (format v).version
     named v1 s e = omega (arith, get_or-take 5 s 3 0 (omega arith), get_or-take 5 s 4 0 (omega arith), ap (λ (x : Bytes). get_or x 3 0) e, ap (λ (x : Bytes). get_or x 4 0) e)
     named v2 s e = omega (arith, get_or-take 5 s 3 0 (omega arith), get_or-take 5 s 4 0 (omega arith), ap (λ (x : Bytes). get_or x 3 0) e, ap (λ (x : Bytes). get_or x 4 0) e)

@@ -1,0 +1,26 @@
+-- The measures and invariants of the cycle: what is left of the source falls. A pattern reads an atom at the same place, a group a pattern
+-- at the same place, and an atom a group further on: the measure is three times what is left, with 1 more for a pattern and 2 for a group.
+use Rattle.std.proofs.Common.{◌+◌}
+use Rattle.compiler.proofs.Readers.{read_measure, ReadPatternAt, ReadGroupAt}
+use Rattle.compiler.proofs.reader.+read_atom_read_group_read_pattern.Given as goal
+
+abbrev pub decreases-read_atom : goal.decreases-read_atom
+decreases-read_atom l = read_measure l.s.now l.st
+
+abbrev pub decreases-read_group : goal.decreases-read_group
+decreases-read_group l = read_measure l.s.now l.st + 2
+
+abbrev pub decreases-read_pattern : goal.decreases-read_pattern
+decreases-read_pattern l = read_measure l.s.now l.st + 1
+
+abbrev pub invariant-read_group-loop-next : goal.invariant-read_group-loop-next
+invariant-read_group-loop-next l = ReadGroupAt l.s l.depth l.initial.from l.from l.initial.recs l.recs l.initial.pool l.pool l.before
+
+abbrev pub decreases-read_group-loop-next : goal.decreases-read_group-loop-next
+decreases-read_group-loop-next l = read_measure l.s l.from
+
+abbrev pub invariant-read_pattern-loop-next : goal.invariant-read_pattern-loop-next
+invariant-read_pattern-loop-next l = ReadPatternAt l.s l.depth l.initial.from l.from l.initial.recs l.recs l.initial.pool l.pool
+
+abbrev pub decreases-read_pattern-loop-next : goal.decreases-read_pattern-loop-next
+decreases-read_pattern-loop-next l = read_measure l.s l.from

@@ -1,0 +1,6 @@
+-- `ops::either` meets its contract. Assumes nothing.
+use Rattle.summary.proofs.Packings.{either_made}
+use Rattle.summary.proofs.ops.either.Goals as goal
+
+pub returns : goal.returns
+returns c = either_made _ _ _ _ c.lesser.ensures c.larger.ensures
