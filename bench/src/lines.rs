@@ -7,7 +7,7 @@ use std::io::{stdin, stdout, BufRead, BufWriter, Write};
 use std::path::{Path, PathBuf};
 use std::process::{Command, Stdio};
 
-const TOOL: &str = concat!(env!("CARGO_MANIFEST_DIR"), "/../target/bin/mptline");
+const TOOL: &str = concat!(env!("CARGO_MANIFEST_DIR"), "/../crates/mptline/out/mptline");
 const EXAMPLES: &str = concat!(env!("CARGO_MANIFEST_DIR"), "/../crates/mptline/stdin");
 const LINE_MOST: usize = 1_024;
 const BUDGET: u64 = 10_000_000;
@@ -103,7 +103,7 @@ fn process(command: &[&str], input: &Path) -> Command {
 pub fn lines(rounds: usize) {
     println!("\n(e) the line tool, lines a second");
     if !Path::new(TOOL).exists() {
-        return println!("not run: rt check mptline makes target/bin/mptline");
+        return println!("not run: ./mptline makes crates/mptline/out/mptline");
     }
     println!(
         "{:<32}{:>10}{:>12}{:>12}{:>8}",

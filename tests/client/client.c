@@ -1,7 +1,7 @@
 /* A C client of libmpt.a: compiles, matches labels one by one, in batches and by numbers of a register, searches it, writes
  * back, and exits 1 on any surprise.
  * cc -std=c99 -pedantic -Wall -Wextra -Wconversion -Werror -I../../include client.c \
- *    ../../target/staticlib/libmpt.a -o client
+ *    ../../crates/mpt/out/libmpt.a -o client
  * A C++11 compiler takes it too. */
 
 #include <stdint.h>

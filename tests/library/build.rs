@@ -25,7 +25,7 @@ fn run(command: &mut Command) {
 }
 
 fn main() {
-    let library = std::env::var("MPT_LIB").unwrap_or("../../target/staticlib/libmpt.a".to_string());
+    let library = std::env::var("MPT_LIB").unwrap_or("../../crates/mpt/out/libmpt.a".to_string());
     let library = PathBuf::from(&library)
         .canonicalize()
         .unwrap_or_else(|e| panic!("{library}: {e}"));

@@ -9,37 +9,62 @@ ghost use Rattle.lines.specs.Invariant.{Sound};
 ghost use Rattle.mptline.specs.Run.{RunPost};
 ghost use Rattle.lines.specs.declared.session.Next.TheVariants.{Write, Read, Stop};
 
-use libc::{STDIN_FILENO, STDOUT_FILENO};
 use lines::chunk::Pending;
 use lines::session;
 use lines::session::Next;
 use replies::sizes;
+use std::io::{Read, Write};
 
 // Bytes of input and of output that are taken at a time.
 const BUFFER_SIZE: usize = 65536;
 
 // Writes what is to be written.
-fn write(p: Pending, buf: &mut [u8], line: &mut [u8], scratch: &mut [u8], out: &mut [u8]) -> Next
+fn write<W: Write>(
+    output: &mut W,
+    p: Pending,
+    buf: &mut [u8],
+    line: &mut [u8],
+    scratch: &mut [u8],
+    out: &mut [u8],
+) -> Next
     requires { Sound (state_of (Write p) buf.old line.old scratch.old out.old) }
     ensures { Moves (state_of (Write p) buf.old line.old scratch.old out.old) (state_of result buf.new line.new scratch.new out.new) }
 {
     let end = p.end;
-    let wrote = io::write_all(STDOUT_FILENO, &out[..end]);
+    let wrote = output.write_all(&out[..end]).is_ok();
     session::after_write(p, wrote, buf, line, scratch, out)
 }
 
 // Reads once.
-fn read(held: usize, buf: &mut [u8], line: &mut [u8], scratch: &mut [u8], out: &mut [u8]) -> Next
+fn read<R: Read>(
+    input: &mut R,
+    held: usize,
+    buf: &mut [u8],
+    line: &mut [u8],
+    scratch: &mut [u8],
+    out: &mut [u8],
+) -> Next
     requires { Sound (state_of (Read held) buf.old line.old scratch.old out.old) }
     ensures { Moves (state_of (Read held) buf.old line.old scratch.old out.old) (state_of result buf.new line.new scratch.new out.new) }
 {
-    let got = libc::read(STDIN_FILENO, buf);
+    let got = match input.read(buf) {
+        Ok(n) => n as isize,
+        Err(_) => -1,
+    };
     session::after_read(held, got, buf, line, scratch, out)
 }
 
 // Reads and writes until it is told to stop. A proved loop has to end, so its turns are counted down from a number that no
 // run uses up in practice; what is answered says which it was.
-fn run(first: Next, buf: &mut [u8], line: &mut [u8], scratch: &mut [u8], out: &mut [u8]) -> Next
+fn run<R: Read, W: Write>(
+    input: &mut R,
+    output: &mut W,
+    first: Next,
+    buf: &mut [u8],
+    line: &mut [u8],
+    scratch: &mut [u8],
+    out: &mut [u8],
+) -> Next
     requires { Sound (state_of first buf.old line.old scratch.old out.old) }
     ensures { RunPost (state_of first buf.old line.old scratch.old out.old) (state_of result buf.new line.new scratch.new out.new) }
 {
@@ -48,10 +73,10 @@ fn run(first: Next, buf: &mut [u8], line: &mut [u8], scratch: &mut [u8], out: &m
     while turns > 0 {
         match next {
             Next::Write(p) => {
-                next = write(p, buf, line, scratch, out);
+                next = write(output, p, buf, line, scratch, out);
             }
             Next::Read(held) => {
-                next = read(held, buf, line, scratch, out);
+                next = read(input, held, buf, line, scratch, out);
             }
             Next::Stop => {
                 return next;
@@ -63,18 +88,34 @@ fn run(first: Next, buf: &mut [u8], line: &mut [u8], scratch: &mut [u8], out: &m
 }
 
 // All of it, from buffers of zeros.
-fn answer_input(buf: &mut [u8], line: &mut [u8], scratch: &mut [u8], out: &mut [u8]) -> Next
+fn answer_input<R: Read, W: Write>(
+    input: &mut R,
+    output: &mut W,
+    buf: &mut [u8],
+    line: &mut [u8],
+    scratch: &mut [u8],
+    out: &mut [u8],
+) -> Next
     requires { Sound (state_of Stop buf.old line.old scratch.old out.old) }
     ensures { RunPost (started buf.old (lend line.old scratch.old out.old)) (state_of result buf.new line.new scratch.new out.new) }
 {
     let first = session::start(out);
-    run(first, buf, line, scratch, out)
+    run(input, output, first, buf, line, scratch, out)
 }
 
-fn main() {
+fn main(rt: HostRuntime) {
+    let mut input = rt.stdin();
+    let mut output = rt.stdout();
     let mut buf = [0u8; BUFFER_SIZE];
     let mut line = [0u8; sizes::HELD_LIMIT];
     let mut scratch = [0u8; sizes::SCRATCH_SIZE];
     let mut out = [0u8; BUFFER_SIZE];
-    answer_input(&mut buf, &mut line, &mut scratch, &mut out);
+    answer_input(
+        &mut input,
+        &mut output,
+        &mut buf,
+        &mut line,
+        &mut scratch,
+        &mut out,
+    );
 }
