@@ -139,6 +139,10 @@ pub record TableAt (lent : Bytes) (k : ℕ) (at : Location) : Type 0 where
   pub lies : location.At at ≡ located k (register_of lent)
   pub small : k < numbers
 
+-- what `find` said
+pub table_found : {lent : Bytes} {k : ℕ} {at : Location} {r : Located} → r ≡ location.At at → r ≡ located k (register_of lent) → k < numbers → TableAt lent k at
+table_found e f s = record { lies = sym e ∙ f; small = s }
+
 module _ {lent : Bytes} {k : ℕ} {at : Location} (w : TableAt lent k at) where
   in_map : (m : Map) × LocatedIn (register_of lent) k at m
   in_map = located_in (register_of lent) k at w.lies
