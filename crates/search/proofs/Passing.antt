@@ -1,7 +1,7 @@
 -- A search past numbers that do not end it: what it counts, and what scratch comes to. Assumes nothing.
 use mathlib.Core.Path.{◌≡◌, refl, sym, ap, ◌∙◌}
-use mathlib.Core.Logic.{◌⊎◌, ⊎_elim}
-use mathlib.Core.Bool.{Bool, true, false, cond, ◌||◌}
+use mathlib.Core.Logic.{⊎_elim}
+use mathlib.Core.Bool.{Bool, true, false, cond}
 use mathlib.Core.List.{[], ◌∷◌}
 use mathlib.Core.Option.{some}
 use Prim.Native.Nat.{ℕ, zero, suc, ◌+◌, max, ◌≤◌, ◌<◌}
@@ -12,7 +12,6 @@ use lib.ListN.{length, take, drop, get_or-eq_default}
 use Rattle.pattern.specs.Numbers.{label_limit}
 use Rattle.pattern.specs.Bytes.{Bytes, zeroed}
 use Rattle.pattern.specs.Syntax.{pattern, Syntax}
-use Rattle.pattern.specs.Parts.{verdict}
 use Rattle.pattern.specs.Decode.{decode}
 use Rattle.pattern.specs.Answers.{MatchOutput, scratch_needed, lent_fault, match_of}
 use Rattle.pattern.proofs.Tests.{le_or_lt}
