@@ -1,0 +1,18 @@
+-- `mpt_match_batch` meets its contract. Assumes nothing.
+use mathlib.Core.Path.{refl}
+use Rattle.pattern.specs.Answers.{refusal}
+use Rattle.batch.specs.Batch.{BatchOutput}
+use Rattle.mpt.specs.Area.{area}
+use Rattle.mpt.specs.Calls.{batch_call}
+use Rattle.mpt.proofs.Returns.{short_area, long_area}
+use Rattle.mpt.proofs.mpt_match_batch.Goals as goal
+
+pub returns-then-answer-lt-AREA_SIZE : goal.returns-then-answer-lt-AREA_SIZE
+unfolding batch_call
+returns-then-answer-lt-AREA_SIZE c = short_area _ _ _ _ c.if-answer-lt-AREA_SIZE.true
+
+pub returns : goal.returns
+unfolding batch_call area
+returns c =
+    let m = c.match_batch-number in
+    long_area (λ (o : BatchOutput). refusal o.number 0) (λ (o : BatchOutput). record { scratch = o.scratch; verdicts = o.verdicts; parts = o.parts }) _ _ (refusal m.result 0) c.if-answer-lt-AREA_SIZE.false m.ensures refl c.put_answer.ensures

@@ -1,0 +1,14 @@
+-- `mpt_register_remove` meets its contract. Assumes nothing.
+use Rattle.mpt.specs.Area.{area}
+use Rattle.mpt.specs.Calls.{remove_call}
+use Rattle.mpt.proofs.Returns.{short_change, long_change}
+use Rattle.mpt.proofs.mpt_register_remove.Goals as goal
+
+pub returns-then-answer-lt-AREA_SIZE : goal.returns-then-answer-lt-AREA_SIZE
+unfolding remove_call
+returns-then-answer-lt-AREA_SIZE c = short_change _ _ _ c.if-answer-lt-AREA_SIZE.true
+
+pub returns : goal.returns
+unfolding remove_call area
+returns c =
+    long_change _ _ _ _ _ c.if-answer-lt-AREA_SIZE.false c.remove-refused.ensures c.put_answer.ensures
