@@ -23,7 +23,7 @@ use Rattle.replies.specs.Text.{unmatched_text, matched_text, ending_text}
 use Rattle.replies.specs.Reply.{Reply, ending_reply, label_reply}
 use Rattle.matcher.specs.declared.Matched as call
 use Rattle.matcher.specs.declared.Answer as called
-use Rattle.matcher.specs.Answered.{answer_of as Numbers-of, match_output}
+use Rattle.matcher.specs.Answered.{answer_of as numbers_of, match_output}
 use Rattle.replies.proofs.Ends.{parts_read}
 use Rattle.matcher.proofs.Refusals.{few_tops}
 
@@ -84,7 +84,7 @@ bad_reply table label scratch e = sym (rw (tested_bad table e))
 -- what the matching call answers, and the scratch and parts that it leaves
 module _ (table label scratch : Bytes) (sizes : Sizes) (g : Good sizes ≡ tested (decode table)) (r : call.Matched) (s p : Bytes)
     (e : match_output budget r s p ≡ match_of table label scratch (replicate parts_room 0) budget)
-    (a : called.Answer) (n : record { number = a.number; position = 0; value = a.value; trials = a.trials } ≡ Numbers-of budget r) where
+    (a : called.Answer) (n : record { number = a.number; position = 0; value = a.value; trials = a.trials } ≡ numbers_of budget r) where
   pub match_reply : MatchReply sizes.top (record { answer = record { number = a.number; position = 0; value = a.value; trials = a.trials }; scratch = s; parts = p }) (label_reply table label scratch)
   unfolding label_reply match_of
   match_reply =
