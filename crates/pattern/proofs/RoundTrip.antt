@@ -163,7 +163,7 @@ accepted_compiles source t e =
     record { derives = h; within = g.tree; short = n; few = g.atoms; whole = refl }
 
 module _ (v : Version) (s : Bytes) where
-  -- what `is-table-in` tests
+  -- what `is_table_in` tests
   abbrev TableIn : Syntax pattern → Type 0
   TableIn t = (length (print t) ≤ (format v).source) × ((size t ≤ (format v).atoms) × (encode_in v t ≡ s))
 

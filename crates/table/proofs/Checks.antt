@@ -56,6 +56,9 @@ pub record HeadRead (s : Bytes) (h : Header) : Type 0 where
   pub bytes : Octets s
   pub head : head.Is h ≡ read_header s
 
+pub head_read : {s : Bytes} {h : Header} {x : HeaderRead} → Octets s → x ≡ read_header s → x ≡ head.Is h → HeadRead s h
+head_read bytes e z = record { bytes = bytes; head = sym z ∙ e }
+
 -- what follows the header, as a slice
 abbrev payload_slice : Bytes → Header → Bytes
 payload_slice s h = take (length s - h.records) (drop h.records s)
@@ -68,6 +71,9 @@ pub record BodyRead (s : Bytes) (h : Header) (x : Walked) : Type 0 where
   pub read_head : HeadRead s h
   pub few : h.atoms ≤ h.format.atoms
   pub walks : PatternPost (payload_slice s h) h.atoms start 0 x
+
+pub body_read : {s : Bytes} {h : Header} {x : Walked} → HeadRead s h → h.atoms ≤ h.format.atoms → PatternPost (payload_slice s h) h.atoms start 0 x → BodyRead s h x
+body_read r few walks = record { read_head = r; few = few; walks = walks }
 
 module _ (s : Bytes) (bytes : Octets s) where
   -- a table that is not read is not good

@@ -1,6 +1,6 @@
 -- The answers of the walk, as its contracts say them, and where its loops stand. Assumes nothing.
 use mathlib.Core.Path.{◌≡◌, sym, subst, ◌∙◌}
-use mathlib.Core.Bool.{true}
+use mathlib.Core.Bool.{Bool, true}
 use Prim.Native.Nat.{ℕ, ◌+◌, ◌-◌, ◌<◌, ◌≤◌}
 use native.Mathlib.Omega.{arith}
 use lib.ListN.{length}
@@ -33,6 +33,10 @@ pub record CountMeasured (s : Bytes) (A : ℕ) (at : Place) (d : ℕ) (r : Recor
   pub fits : ordered r.low r.high ≡ true
   pub count : c ≡ length (print_count r.low (high_of r.high))
   pub short : c ≤ 11
+
+pub counted : {s : Bytes} {A : ℕ} {at : Place} {d : ℕ} {r : Record} {o : Bool} {c : ℕ} → WalkPre s A at d → at.atom < A → r ≡ record_of (payload_record s at.atom)
+    → o ≡ ordered r.low r.high → o ≡ true → (c ≡ length (print_count r.low (high_of r.high))) × (c ≤ 11) → CountMeasured s A at d r c
+counted ready on same tested fits (count, short) = record { ready = ready; on = on; same = same; fits = sym tested ∙ fits; count = count; short = short }
 
 module _ {s : Bytes} {A : ℕ} {at : Place} {d : ℕ} {r : Record} {c : ℕ} (h : CountMeasured s A at d r c) where
   module _ (k : r.kind ≡ group_kind → ⊥) {x : Leaf} (l : LeafPost s A at.pool (leaf_read s A r.kind r.a r.b at.pool) x) where

@@ -2,7 +2,7 @@
 use mathlib.Core.Path.{sym, ◌∙◌}
 use native.Mathlib.Omega.{arith}
 use Rattle.table.proofs.Steps.{atom_over, atom_unordered}
-use Rattle.table.proofs.Walks.{leaf_bad, leaf_passed, too_deep, group_bad, group_elsewhere, group_passed, pattern_at_start, going_bad, pattern_at_last, going_other, pattern_at_more, group_at_over, branching_bad, group_at_last, group_at_more}
+use Rattle.table.proofs.Walks.{counted, leaf_bad, leaf_passed, too_deep, group_bad, group_elsewhere, group_passed, pattern_at_start, going_bad, pattern_at_last, going_other, pattern_at_more, group_at_over, branching_bad, group_at_last, group_at_more}
 use Rattle.table.proofs.walk.+atom_group_pattern.Goals as goal
 
 pub atom-returns-then-atoms-i : goal.atom-returns-then-atoms-i
@@ -10,67 +10,25 @@ atom-returns-then-atoms-i t c = record { past = tt; reads = atom_over _ _ _ _ c.
 
 pub atom-returns-then-end-r : goal.atom-returns-then-end-r
 atom-returns-then-end-r t c =
-    group_passed (record {
-      ready = c.requires;
-      on = c.if-atoms-i.false;
-      same = c.record_at-r.ensures;
-      fits = sym c.is_ordered.ensures ∙ c.if-is_ordered.true;
-      count = c.count_length.ensures.0;
-      short = c.count_length.ensures.1;
-    }) c.if-r-eq-GROUP.true c.if-depth-lt-DEPTH_LIMIT.true c.group.ensures c.in-To.is c.if-end-r.true
+    group_passed (counted c.requires c.if-atoms-i.false c.record_at-r.ensures c.is_ordered.ensures c.if-is_ordered.true c.count_length.ensures) c.if-r-eq-GROUP.true c.if-depth-lt-DEPTH_LIMIT.true c.group.ensures c.in-To.is c.if-end-r.true
 
 pub atom-returns-in-To : goal.atom-returns-in-To
 atom-returns-in-To t c =
-    group_elsewhere (record {
-      ready = c.requires;
-      on = c.if-atoms-i.false;
-      same = c.record_at-r.ensures;
-      fits = sym c.is_ordered.ensures ∙ c.if-is_ordered.true;
-      count = c.count_length.ensures.0;
-      short = c.count_length.ensures.1;
-    }) c.if-r-eq-GROUP.true c.if-depth-lt-DEPTH_LIMIT.true c.group.ensures c.in-To.is c.if-end-r.false
+    group_elsewhere (counted c.requires c.if-atoms-i.false c.record_at-r.ensures c.is_ordered.ensures c.if-is_ordered.true c.count_length.ensures) c.if-r-eq-GROUP.true c.if-depth-lt-DEPTH_LIMIT.true c.group.ensures c.in-To.is c.if-end-r.false
 
 pub atom-returns-in-Bad : goal.atom-returns-in-Bad
 atom-returns-in-Bad t c =
-    group_bad (record {
-      ready = c.requires;
-      on = c.if-atoms-i.false;
-      same = c.record_at-r.ensures;
-      fits = sym c.is_ordered.ensures ∙ c.if-is_ordered.true;
-      count = c.count_length.ensures.0;
-      short = c.count_length.ensures.1;
-    }) c.if-r-eq-GROUP.true c.if-depth-lt-DEPTH_LIMIT.true c.group.ensures c.in-Bad.is
+    group_bad (counted c.requires c.if-atoms-i.false c.record_at-r.ensures c.is_ordered.ensures c.if-is_ordered.true c.count_length.ensures) c.if-r-eq-GROUP.true c.if-depth-lt-DEPTH_LIMIT.true c.group.ensures c.in-Bad.is
 
 pub atom-returns-then-r-eq-GROUP : goal.atom-returns-then-r-eq-GROUP
-atom-returns-then-r-eq-GROUP t c = too_deep (record {
-  ready = c.requires;
-  on = c.if-atoms-i.false;
-  same = c.record_at-r.ensures;
-  fits = sym c.is_ordered.ensures ∙ c.if-is_ordered.true;
-  count = c.count_length.ensures.0;
-  short = c.count_length.ensures.1;
-}) c.if-r-eq-GROUP.true c.if-depth-lt-DEPTH_LIMIT.false
+atom-returns-then-r-eq-GROUP t c = too_deep (counted c.requires c.if-atoms-i.false c.record_at-r.ensures c.is_ordered.ensures c.if-is_ordered.true c.count_length.ensures) c.if-r-eq-GROUP.true c.if-depth-lt-DEPTH_LIMIT.false
 
 pub atom-returns-in-Is : goal.atom-returns-in-Is
 atom-returns-in-Is t c =
-    leaf_passed (record {
-      ready = c.requires;
-      on = c.if-atoms-i.false;
-      same = c.record_at-r.ensures;
-      fits = sym c.is_ordered.ensures ∙ c.if-is_ordered.true;
-      count = c.count_length.ensures.0;
-      short = c.count_length.ensures.1;
-    }) c.if-r-eq-GROUP.false c.leaf_at.ensures c.in-Is.is
+    leaf_passed (counted c.requires c.if-atoms-i.false c.record_at-r.ensures c.is_ordered.ensures c.if-is_ordered.true c.count_length.ensures) c.if-r-eq-GROUP.false c.leaf_at.ensures c.in-Is.is
 
 pub atom-returns-in-Bad-leaf_at : goal.atom-returns-in-Bad-leaf_at
-atom-returns-in-Bad-leaf_at t c = leaf_bad (record {
-  ready = c.requires;
-  on = c.if-atoms-i.false;
-  same = c.record_at-r.ensures;
-  fits = sym c.is_ordered.ensures ∙ c.if-is_ordered.true;
-  count = c.count_length.ensures.0;
-  short = c.count_length.ensures.1;
-}) c.if-r-eq-GROUP.false c.leaf_at.ensures c.in-Bad-leaf_at.is
+atom-returns-in-Bad-leaf_at t c = leaf_bad (counted c.requires c.if-atoms-i.false c.record_at-r.ensures c.is_ordered.ensures c.if-is_ordered.true c.count_length.ensures) c.if-r-eq-GROUP.false c.leaf_at.ensures c.in-Bad-leaf_at.is
 
 pub atom-returns : goal.atom-returns
 atom-returns t c = record { past = tt; reads = atom_unordered _ _ _ _ _ c.record_at-r.ensures c.if-atoms-i.false (sym c.is_ordered.ensures ∙ c.if-is_ordered.false) }
