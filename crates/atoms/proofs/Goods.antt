@@ -15,7 +15,8 @@ use Rattle.pattern.proofs.Bound.{nodes_size}
 use Rattle.pattern.proofs.RoundTrip.{tree_encode}
 use Rattle.pattern.proofs.Calls.{good_limited, print_compiles}
 use Rattle.table.specs.declared.Sizes.{Sizes}
-use Rattle.table.specs.declared.Tested.TheVariants as verdict
+use Rattle.std.specs.Prelude.{Some, None}
+use Rattle.std.proofs.lemmas.Option.{none-some}
 use Rattle.table.specs.Tested.{tested}
 use Rattle.atoms.specs.Atoms.{GoodTable, atoms, node, head, AtomIn}
 
@@ -34,12 +35,12 @@ pub record GoodSizes (table : Bytes) (s : Sizes) : Type 0 where
   pub few : atoms table ≤ atom_limit
 
 module _ (table : Bytes) where
-  pub tested_good : (s : Sizes) → verdict.Good s ≡ tested (decode table) → GoodSizes table s
+  pub tested_good : (s : Sizes) → Some s ≡ tested (decode table) → GoodSizes table s
   unfolding tested
   tested_good s e = go (decode table) refl e
     where
-      go : (o : Option (Syntax pattern)) → decode table ≡ o → verdict.Good s ≡ tested o → GoodSizes table s
-      go none d e = let z : ◌≡◌ {A = ℕ} 0 1 = cc in absurd (omega arith)
+      go : (o : Option (Syntax pattern)) → decode table ≡ o → Some s ≡ tested o → GoodSizes table s
+      go none d e = absurd (none-some s (sym e))
       go (some t) d e =
           let g = good_limited table t d in
           let r = tree_is table t d in
@@ -52,13 +53,13 @@ module _ (table : Bytes) where
             few = rw r g.atoms;
           }
 
-  pub tested_bad : verdict.Bad ≡ tested (decode table) → decode table ≡ none
+  pub tested_bad : None ≡ tested (decode table) → decode table ≡ none
   unfolding tested
   tested_bad e = go (decode table) e
     where
-      go : (o : Option (Syntax pattern)) → verdict.Bad ≡ tested o → o ≡ none
+      go : (o : Option (Syntax pattern)) → None ≡ tested o → o ≡ none
       go none e = refl
-      go (some t) e = let z : ◌≡◌ {A = ℕ} 0 1 = cc in absurd (omega arith)
+      go (some t) e = absurd (none-some _ e)
 
 -- ---- the counts of a good table fit
 

@@ -1,16 +1,21 @@
 -- The record of an atom says what stands there, in a good table. Assumes nothing.
 use mathlib.Core.Path.{◌≡◌, refl, sym, ap, ap₂, subst, ◌∙◌}
-use mathlib.Core.List.{List, [], ◌∷◌, ◌++◌, append-nil}
+use mathlib.Core.List.{List, [], ◌++◌, append-nil}
 use mathlib.Core.Option.{Option}
 use Prim.Native.Nat.{ℕ, zero, suc, ◌+◌, ◌*◌, ◌-◌, ◌≤◌, ◌<◌}
 use native.Mathlib.Omega.{arith}
 use lib.ListN.{length, get_or, take, drop, length-append, length-drop}
+use Rattle.std.proofs.lemmas.List.{nil_from_length}
 use lib.Seq.{get_or-drop, take-append_seam}
 use Rattle.pattern.specs.Numbers.{codes_kind, group_kind, literal_kind, record_size}
 use Rattle.pattern.specs.Bytes.{Bytes}
 use Rattle.pattern.specs.Syntax.{pattern, atom, body, branches, Syntax, last, then, repeat, codes, literal, group, only, or, size, nodes}
 use Rattle.pattern.specs.Table.{pool, branch_count, kind_field, a_field, b_field, rec, records}
 use Rattle.pattern.specs.Decode.{rec_at, version_of, dummy, layout, record_at, high_of, tree_of}
+use Rattle.std.specs.Prelude.{None}
+use Rattle.pattern.specs.Kinds.{kind_of}
+use Rattle.pattern.specs.declared.kind.Kind.TheVariants.{Codes, Literal, Group}
+use Rattle.pattern.proofs.KindBytes.{kind_none}
 use Rattle.pattern.proofs.Bound.{all_nodes, nodes_size, outside}
 use Rattle.pattern.proofs.Stretch.{slice_take}
 use Rattle.pattern.proofs.Records.{Placed, head_there, then_there}
@@ -128,6 +133,12 @@ module _ (table : Bytes) (x : ℕ) (ok : AtomIn table x) where
 
 -- ---- what the fields say
 
+kinds_known : (b : Syntax body) → kind_of (kind_field b) ≡ None → ⊥
+unfolding kind_field
+kinds_known (codes set) e = kind_none codes_kind Codes e refl
+kinds_known (literal value) e = kind_none literal_kind Literal e refl
+kinds_known (group bs) e = kind_none group_kind Group e refl
+
 kinds_leaf : (b : Syntax body) → (kind_field b ≡ group_kind → ⊥) → size b ≡ 0
 unfolding kind_field size
 kinds_leaf (codes set) n = refl
@@ -161,10 +172,6 @@ kinds_group (group bs) i p n m = (bs, refl, refl, refl, refl)
 at_group : {xs : List (Syntax pattern)} {k : ℕ} {b : Syntax body} (bs : Syntax branches) → b ≡ group bs → At xs k b → At xs k bs
 unfolding nodes
 at_group bs e h = record { rest = h.rest; from = h.from ∙ ap (λ (y : Syntax body). nodes y ++ h.rest) e }
-
-pub no_bytes : (l : Bytes) → length l ≡ 0 → l ≡ []
-no_bytes [] e = refl
-no_bytes (b ∷ l) e = absurd (omega arith)
 
 module _ (table : Bytes) (x : ℕ) (ok : AtomIn table x) where
   -- the header and the record lie in the table
@@ -233,6 +240,7 @@ module _ (table : Bytes) (x : ℕ) (ok : AtomIn table x) where
           fields = got;
           count = c;
           fits = count_fits table x ok r.low (high_of r.high) _ c;
+          known = λ e. kinds_known b (ap kind_of (sym kind_is) ∙ e);
           is_codes = λ e. inside_is ∙ kinds_codes b v.text (sym kind_is ∙ e) ∙ ap codes (sym a_is);
           is_literal = λ e. record { atom = ok; value = pool b; is = inside_is ∙ kinds_literal b (sym kind_is ∙ e) };
           is_group = group_is;
@@ -247,7 +255,7 @@ module _ (table : Bytes) (x : ℕ) (ok : AtomIn table x) where
       pub literal_none : r.b ≡ 0 → LiteralAt table x 0 r.b
       literal_none z =
           let (p, a, l) = literal_fields b w x v.text (sym inside_is ∙ e) in
-          record { is = rw z (e ∙ ap literal (no_bytes w (omega (arith, b_is)))); within = omega arith }
+          record { is = rw z (e ∙ ap literal (nil_from_length w (omega (arith, b_is)))); within = omega arith }
 
       pub literal_there : (r.b ≡ 0 → ⊥) → LiteralAt table x ((layout table).pool + r.a) r.b
       literal_there n =
@@ -258,6 +266,10 @@ module _ (table : Bytes) (x : ℕ) (ok : AtomIn table x) where
             is = e ∙ ap literal (sym (slice_take table from (from + r.b) ∙ ap₂ take z t ∙ take-append_seam w v.over));
             within = omega (arith, b_is, simp (length-drop, length-append) at (ap length t));
           }
+
+-- a record of kind 3 is a group's
+pub group_of : {table : Bytes} {x : ℕ} {r : Record} → RecordOf table x r → r.kind ≡ group_kind → GroupIn table x r.a
+group_of got k = got.is_group (λ e. omega arith) (λ e. omega arith)
 
 -- ---- branches one by one
 

@@ -1,7 +1,8 @@
 -- What the record of an atom says of it, in a good table. Private: a model for contracts inside the library.
-use Rattle.std.specs.Prelude.{◌≡◌, ℕ, suc, ◌+◌, ◌-◌, ◌≤◌, ◌<◌, length}
+use Rattle.std.specs.Prelude.{◌≡◌, None, ℕ, suc, ◌+◌, ◌-◌, ◌≤◌, ◌<◌, length}
 use Rattle.std.proofs.Math.Seq.{slice}
 use Rattle.pattern.specs.Numbers.{codes_kind, literal_kind, group_kind}
+use Rattle.pattern.specs.Kinds.{kind_of}
 use Rattle.pattern.specs.Bytes.{Bytes}
 use Rattle.pattern.specs.Syntax.{last, then, repeat, codes, literal, group, size}
 use Rattle.pattern.specs.Within.{Fits}
@@ -38,6 +39,7 @@ pub record RecordOf (table : Bytes) (x : ℕ) (r : Record) : Type 0 where
   pub fields : r ≡ record_of (record_at table (layout table) x)
   pub count : head (node table x) ≡ repeat r.low (high_of r.high) (body_of (head (node table x)))
   pub fits : Fits r.low (high_of r.high)
+  pub known : kind_of r.kind ≡ None → ⊥
   pub is_codes : r.kind ≡ codes_kind → body_of (head (node table x)) ≡ codes r.a
   pub is_literal : r.kind ≡ literal_kind → LiteralIn table x
   pub is_group : (r.kind ≡ codes_kind → ⊥) → (r.kind ≡ literal_kind → ⊥) → GroupIn table x r.a

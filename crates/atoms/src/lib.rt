@@ -1,4 +1,5 @@
-// The atoms of a good table by their index: their records, their literals, and where they and their branches end.
+// The atoms of a good table by their index: their records, their literals, and where they and their branches end. `AtomIn` ties a table and
+// an index; a struct of both would be made for one look.
 #![tactic(auto)]
 
 ghost use Rattle.std.specs.Prelude.{◌≡◌, ◌+◌};
@@ -6,12 +7,11 @@ ghost use Rattle.pattern.specs.Syntax.{size};
 ghost use Rattle.atoms.specs.Atoms.{node, head, AtomIn};
 ghost use Rattle.atoms.specs.Records.{RecordOf, LiteralIn, LiteralAt};
 
-use pattern::kind;
 use table::header::header_at;
 use table::record;
 use table::record::Record;
 
-// Where the value of a literal lies in the table, and its length.
+// Where the value of a literal lies in the table, and its length: planes are filled from a place of the table.
 #[derive(Clone, Copy)]
 pub struct Span {
     pub from: usize,
@@ -50,11 +50,7 @@ pub fn next_atom(table: &[u8], x: usize) -> usize
     ensures { result ≡ x + size (head (node table.now x)) }
 {
     let r = record_at(table, x);
-    if r.kind == kind::GROUP {
-        r.b as usize
-    } else {
-        x + 1
-    }
+    if r.is_group() { r.b as usize } else { x + 1 }
 }
 
 // The index after the branch that goes on at atom x.
@@ -62,13 +58,9 @@ pub fn branch_end(table: &[u8], x: usize) -> usize
     requires { AtomIn table.now x }
     ensures { result ≡ x + size (node table.now x) }
 {
-    let mut y = x;
-    loop {
-        let next = next_atom(table, y);
-        let r = record_at(table, y);
-        if r.ends == 1 {
-            return next;
-        }
-        y = next;
+    let mut last = x; // how many atoms there are to pass stands in their records alone
+    while record_at(table, last).ends != 1 {
+        last = next_atom(table, last);
     }
+    next_atom(table, last)
 }

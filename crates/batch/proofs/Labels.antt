@@ -7,9 +7,14 @@ use native.Mathlib.Omega.{arith}
 use lib.ListN.{length, get_or, take, drop}
 use lib.Seq.{slice, drop-drop}
 use Rattle.pattern.specs.Bytes.{Bytes, numbers_in}
-use Rattle.pattern.proofs.Pairs.{numbers_length, numbers_at}
+use Rattle.pattern.specs.Decode.{field}
+use Rattle.pattern.proofs.Pairs.{numbers_more, numbers_length, numbers_at}
 use Rattle.batch.specs.Batch.{labels_from}
 use Rattle.batch.specs.Labels.{label_start, label_at, part_at}
+
+-- the ends from k on: end k, and those after it
+pub numbers_next : (ends : Bytes) (k : ℕ) → k < length ends / 2 → numbers_in (drop (2 * k) ends) ≡ field ends (2 * k) ∷ numbers_in (drop (2 * (k + 1)) ends)
+numbers_next ends k h = let n : 2 * k + 2 ≡ 2 * (k + 1) = omega arith in numbers_more ends (2 * k) (omega arith) ∙ ap (λ i. field ends (2 * k) ∷ numbers_in (drop i ends)) n
 
 pub labels_length : (from : ℕ) (ends : List ℕ) (buffer : Bytes) → length (labels_from from ends buffer) ≡ length ends
 unfolding labels_from

@@ -1,17 +1,17 @@
 -- Ends that don't fall or run past the buffer. Assumes nothing.
 use mathlib.Core.Path.{◌≡◌, refl, sym, ap, ◌∙◌}
-use mathlib.Core.Logic.{◌↔◌}
+use mathlib.Core.Logic.{◌↔◌, ◌⊎◌, ⊎_elim}
 use mathlib.Core.Bool.{true, false, ◌||◌, or-true}
-use mathlib.Core.List.{List, [], ◌∷◌}
-use Prim.Native.Nat.{ℕ, zero, suc, ◌+◌, ◌*◌, ◌/◌, ◌≤◌, ◌<◌}
+use mathlib.Core.List.{List, [], ◌∷◌, ◌++◌}
+use Prim.Native.Nat.{ℕ, zero, suc, ◌*◌, ◌/◌, ◌≤◌, ◌<◌}
 use native.Mathlib.Omega.{arith}
 use lib.Dec.{ltb}
-use lib.ListN.{length, get_or, drop}
+use lib.ListN.{length, get_or}
 use borrow.Author.Tests.{ltb-false, lt-ltb, le-ltb}
 use Rattle.pattern.specs.Bytes.{Bytes, numbers_in}
 use Rattle.pattern.specs.Decode.{field}
 use Rattle.pattern.proofs.Tests.{neither}
-use Rattle.pattern.proofs.Pairs.{numbers_more, numbers_none, numbers_length, numbers_at}
+use Rattle.pattern.proofs.Pairs.{numbers_length, numbers_at}
 use Rattle.batch.specs.Batch.{misplaced}
 use Rattle.batch.specs.Labels.{label_start}
 use Rattle.batch.proofs.Labels.{begin, begins}
@@ -30,27 +30,30 @@ module _ (from end size : ℕ) (ends : List ℕ) (h : misplaced from (end ∷ en
   unfolding misplaced
   later_placed = (neither (ltb end from || ltb size end) _ h).1
 
--- by the tests of the end at a place
-module _ (ends : Bytes) (i from size end : ℕ) (h : i + 1 < length ends) (e : end ≡ field ends i) where
-  abbrev ends_on : ℕ → List ℕ
-  ends_on k = numbers_in (drop k ends)
+numbers_pair : (pair rest : Bytes) → length pair ≡ 2 → numbers_in (pair ++ rest) ≡ field pair 0 ∷ numbers_in rest
+unfolding numbers_in
+numbers_pair [] rest h = absurd (omega arith)
+numbers_pair (a ∷ []) rest h = absurd (omega arith)
+numbers_pair (a ∷ b ∷ []) rest h = refl
+numbers_pair (a ∷ b ∷ d ∷ s) rest h = absurd (omega arith)
 
-  placed_more : misplaced from (ends_on i) size ≡ (ltb end from || ltb size end || misplaced end (ends_on (i + 2)) size)
+-- by the tests of the first end
+module _ (ends pair rest : Bytes) (e : ends ≡ pair ++ rest) (h : length pair ≡ 2) (from size end : ℕ) (is : end ≡ field pair 0) where
+  placed_more : misplaced from (numbers_in ends) size ≡ (ltb end from || ltb size end || misplaced end (numbers_in rest) size)
   unfolding misplaced
-  placed_more = ap (λ es. misplaced from es size) (numbers_more ends i h) ∙ ap (λ x. ltb x from || ltb size x || misplaced x (ends_on (i + 2)) size) (sym e)
+  placed_more = ap (λ es. misplaced from es size) (ap numbers_in e ∙ numbers_pair pair rest h) ∙ ap (λ x. ltb x from || ltb size x || misplaced x (numbers_in rest) size) (sym is)
 
-  pub fallen : end < from → misplaced from (ends_on i) size ≡ true
-  fallen f = placed_more ∙ rw (lt-ltb _ _ f) refl
+  pub misplaced_here : (end < from) ⊎ ((from ≤ end) × (size < end)) → misplaced from (numbers_in ends) size ≡ true
+  misplaced_here = ⊎_elim (λ f. placed_more ∙ rw (lt-ltb _ _ f) refl) (λ p. placed_more ∙ rw (lt-ltb _ _ p.1, or-true (ltb end from)) refl)
 
-  pub past : size < end → misplaced from (ends_on i) size ≡ true
-  past f = placed_more ∙ rw (lt-ltb _ _ f, or-true (ltb end from)) refl
-
-  pub placed_next : from ≤ end → end ≤ size → misplaced end (ends_on (i + 2)) size ≡ misplaced from (ends_on i) size
+  pub placed_next : from ≤ end → end ≤ size → misplaced end (numbers_in rest) size ≡ misplaced from (numbers_in ends) size
   placed_next f g = sym (placed_more ∙ rw (le-ltb _ _ f, le-ltb _ _ g) refl)
 
-pub all_placed : (ends : Bytes) (i from size : ℕ) → length ends ≤ i + 1 → misplaced from (numbers_in (drop i ends)) size ≡ false
-unfolding misplaced
-all_placed ends i from size h = ap (λ es. misplaced from es size) (numbers_none ends i h)
+pub all_placed : (rest : Bytes) (from size : ℕ) → length rest < 2 → misplaced from (numbers_in rest) size ≡ false
+unfolding misplaced numbers_in
+all_placed [] from size h = refl
+all_placed (a ∷ []) from size h = refl
+all_placed (a ∷ b ∷ s) from size h = absurd (omega arith)
 
 -- ---- end by end
 

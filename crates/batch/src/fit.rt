@@ -8,42 +8,34 @@ use stores::read16;
 
 const BATCH_LIMIT: usize = 96;
 
-// Some end is before the one before it, or past the buffer.
+// Some end is before the one before it, or past the buffer. C lends the ends as bytes.
+#[tactic(auto, using(crate::proofs::Placing::misplaced_here, crate::proofs::Placing::placed_next, crate::proofs::Placing::all_placed))]
 fn is_misplaced(ends: &[u8], size: usize) -> bool
     ensures { result ≡ misplaced 0 (numbers_in ends.now) size }
 {
     let mut from = 0;
-    let mut i = 0;
-    while i + 1 < ends.len() {
-        let end = read16(ends, i) as usize;
-        if end < from {
-            return true;
-        }
-        if size < end {
+    for pair in ends.chunks_exact(2) {
+        let end = usize::from(read16(pair, 0));
+        if end < from || size < end {
             return true;
         }
         from = end;
-        i += 2;
     }
     false
 }
 
 // The labels, their ends or the outputs are refused as a whole; width is the part bytes of each label.
+#[tactic(auto, using(crate::proofs::Fitting::half_end, crate::proofs::Fitting::many_labels, crate::proofs::Fitting::verdicts_short, crate::proofs::Fitting::parts_short, crate::proofs::Fitting::by_places))]
 pub fn is_unfit(labels: &[u8], ends: &[u8], verdicts: &[u8], parts: &[u8], width: usize) -> bool
     requires { width ≤ parts_room }
     ensures { result ≡ unfit width labels.now ends.now verdicts.now parts.now }
 {
     let count = ends.len() / 2;
-    if ends.len() % 2 == 1 {
-        return true;
-    }
-    if BATCH_LIMIT < count {
-        return true;
-    }
-    if verdicts.len() < count {
-        return true;
-    }
-    if parts.len() < count * width {
+    if ends.len() % 2 == 1
+        || BATCH_LIMIT < count
+        || verdicts.len() < count
+        || parts.len() < count * width
+    {
         return true;
     }
     is_misplaced(ends, labels.len())

@@ -1,38 +1,34 @@
 // One pattern and a batch of labels in one call, which answers as single calls in turn.
 #![tactic(auto)]
 
-ghost use Rattle.std.specs.Prelude.{◌≡◌, ◌*◌};
+ghost use Rattle.std.specs.Prelude.{◌≡◌, false, ◌*◌};
 ghost use Rattle.pattern.specs.Bytes.{numbers_in};
-ghost use Rattle.batch.specs.Batch.{batch_output, labels_from, in_turn, batch_of};
-ghost use Rattle.batch.specs.Each.{ByteOfPost, MatchEachPre};
+ghost use Rattle.pattern.specs.Refusals.{number_of_result};
+ghost use Rattle.batch.specs.Batch.{batch_output, labels_from, in_turn, batch_of, unfit};
+ghost use Rattle.batch.specs.Each.{ByteOfPost};
 
 mod fit;
 
 use fit::is_unfit;
-use matcher::{Matched, match_good};
-use pattern::refusal;
+use matcher::{Verdict, match_good};
+use pattern::refusal::Refusal;
 use stores::read16;
-use table::{Sizes, Tested};
+use table::TestedTable;
 
-// The byte of a label's answer: 0 for no, 1 for yes, else the refusal number.
-fn byte_of(matched: Matched) -> u8
-    ensures { ByteOfPost matched result }
+// The byte of a label's answer, as C reads it: 0 for no, 1 for yes, else the refusal number.
+#[tactic(auto, unfolding(crate::specs::Batch::answer_byte))]
+fn byte_of(answer: Result<Verdict, Refusal>) -> u8
+    ensures { ByteOfPost answer result }
 {
-    match matched {
-        Matched::Table => refusal::TABLE as u8,
-        Matched::Label => refusal::LABEL as u8,
-        Matched::Work => refusal::WORK as u8,
-        Matched::Parts => refusal::PARTS as u8,
-        Matched::Budget => refusal::BUDGET as u8,
-        Matched::No(_) => 0,
-        Matched::Yes(_) => 1,
+    match answer {
+        Ok(verdict) => u8::from(verdict.matches),
+        Err(refusal) => refusal as u8,
     }
 }
 
-// Each label in turn, with the scratch that the one before it left.
+// Each label in turn, with the scratch that the one before it left. By number: its end, its byte and its parts lie apart.
 fn match_each(
-    table: &[u8],
-    sizes: Sizes,
+    table: TestedTable<'_>,
     labels: &[u8],
     ends: &[u8],
     scratch: &mut [u8],
@@ -40,32 +36,26 @@ fn match_each(
     parts: &mut [u8],
     budget: u64,
 )
-    requires { MatchEachPre table.now labels.now ends.now verdicts.old parts.old sizes }
-    ensures { batch_output 0 scratch.new verdicts.new parts.new ≡ in_turn table.now (2 * sizes.top) budget (labels_from 0 (numbers_in ends.now) labels.now) scratch.old verdicts.old parts.old }
+    requires { unfit (2 * table.sizes.top) labels.now ends.now verdicts.old parts.old ≡ false }
+    ensures { batch_output 0 scratch.new verdicts.new parts.new ≡ in_turn table.entry.bytes.now (2 * table.entry.sizes.top) budget (labels_from 0 (numbers_in ends.now) labels.now) scratch.old verdicts.old parts.old }
 {
-    let width = 2 * sizes.top;
-    let count = ends.len() / 2;
-    let mut k = 0;
+    let width = 2 * table.sizes.top;
     let mut from = 0;
-    let mut at = 0;
-    while k < count {
-        let to = read16(ends, 2 * k) as usize;
-        let next = at + width;
+    for k in 0..ends.len() / 2 {
+        let to = usize::from(read16(ends, 2 * k));
+        let at = k * width;
         verdicts[k] = byte_of(match_good(
             table,
-            sizes,
             &labels[from..to],
             scratch,
-            &mut parts[at..next],
+            &mut parts[at..at + width],
             budget,
         ));
         from = to;
-        at = next;
-        k += 1;
     }
 }
 
-// Answers the refusal number, 0 for none.
+// Refuses a batch as a whole, or matches each label. Plain slices, as the call from C lends them.
 pub fn match_batch(
     table: &[u8],
     labels: &[u8],
@@ -74,17 +64,15 @@ pub fn match_batch(
     verdicts: &mut [u8],
     parts: &mut [u8],
     budget: u64,
-) -> u32
-    ensures { batch_output result scratch.new verdicts.new parts.new ≡ batch_of table.now labels.now ends.now scratch.old verdicts.old parts.old budget }
+) -> Result<(), Refusal>
+    ensures { batch_output (number_of_result result) scratch.new verdicts.new parts.new ≡ batch_of table.now labels.now ends.now scratch.old verdicts.old parts.old budget }
 {
-    match table::test(table) {
-        Tested::Bad => refusal::TABLE,
-        Tested::Good(sizes) => {
-            if is_unfit(labels, ends, verdicts, parts, 2 * sizes.top) {
-                return refusal::BATCH;
-            }
-            match_each(table, sizes, labels, ends, scratch, verdicts, parts, budget);
-            0
-        }
+    let Some(good) = table::test(table) else {
+        return Err(Refusal::Table);
+    };
+    if is_unfit(labels, ends, verdicts, parts, 2 * good.sizes.top) {
+        return Err(Refusal::Batch);
     }
+    match_each(good, labels, ends, scratch, verdicts, parts, budget);
+    Ok(())
 }

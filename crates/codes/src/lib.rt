@@ -56,28 +56,22 @@ fn row(k: usize) -> Code
     CODES[k]
 }
 
-// The letter of the code with bit k, 0 past the last one.
+// The letter of the code with bit k, 0 past the last one. No `Option`: its one caller asks for k below 7, and would have an arm that is never taken.
 pub fn letter(k: usize) -> u8
     ensures { result ≡ letter_at k }
 {
     if k < 7 { row(k).letter } else { 0 }
 }
 
-// The bit of a code letter of either case, 128 for any other byte.
+// The bit of a code letter of either case, 128 for any other byte. No `Option`: 128 takes a set to its limit, so one test of the set tells a run of letters.
 pub fn bit(c: u8) -> u8
     ensures { result ≡ bit c }
 {
-    let mut k: usize = 0;
-    let mut b: u8 = 1;
-    while k < 7 {
-        let l = letter(k);
-        if l == c {
+    let mut b = 1;
+    for code in CODES {
+        if code.letter.eq_ignore_ascii_case(&c) {
             return b;
         }
-        if l + 32 == c {
-            return b;
-        }
-        k += 1;
         b *= 2;
     }
     b

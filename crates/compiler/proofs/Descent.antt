@@ -116,15 +116,6 @@ flag_count s j = ⊎_elim (λ h. rw (le-ltb j (length s) h) (λ e. absurd (omega
     go h (body_start b) e f = absurd (omega arith)
     go h (branch_end b) e f = absurd (omega arith)
 
-pub flag_one : (s : Bytes) (j : ℕ) → ¬ (ends_at s j ≡ 0) → ends_at s j ≡ 1
-unfolding ends_at
-flag_one s j = ⊎_elim (λ h. rw (le-ltb j (length s) h) (λ e. refl)) (λ h. rw (lt-ltb j (length s) h) (go (class_at s j))) (le_or_lt (length s) j)
-  where
-    go : (y : CharClass) → ¬ (ends_class y ≡ 0) → ends_class y ≡ 1
-    go (count_char x) e = absurd (e refl)
-    go (body_start b) e = refl
-    go (branch_end b) e = refl
-
 -- at the end of a branch no other fault is looked for
 module _ (s : Bytes) (j m : ℕ) (w : j < length s) (e : BranchEnd) (f : class_at s j ≡ branch_end e) where
   ended_quiet : (t : Syntax pattern) (k : Stack) → (fault_here s (after_pattern k t) j m ≡ none) × (begun_here s (after_pattern k t) j m ≡ m)

@@ -1,5 +1,5 @@
 -- What the readers of atoms, patterns and groups promise: two scans are equal, and the buffers hold the records and the text of the tree between. Private: a model for contracts inside the library.
-use Rattle.std.specs.Prelude.{◌≡◌, List, [], ◌∷◌, ℕ, suc, ◌+◌, ◌*◌, ◌<◌, ◌≤◌, length}
+use Rattle.std.specs.Prelude.{◌≡◌, List, [], ◌∷◌, ℕ, suc, ◌+◌, ◌*◌, ◌<◌, ◌≤◌, length, Result, Ok, Err}
 use Rattle.std.proofs.Math.Option.{Option}
 use Rattle.pattern.specs.Numbers.{source_limit, atom_limit, depth_limit, record_size}
 use Rattle.pattern.specs.Bytes.{Bytes}
@@ -8,13 +8,11 @@ use Rattle.pattern.specs.Grammar.{letter, quote, body_start}
 use Rattle.pattern.specs.Parser.{counting, empty, after, Stack, within, fork}
 use Rattle.pattern.specs.Scan.{depth, refused}
 use Rattle.pattern.specs.Table.{pool, branch_count, kind_field, a_field, b_field, records}
+use Rattle.pattern.specs.Refusals.{number_of}
 use Rattle.pattern.specs.declared.repeat.Repeat.{Repeat}
+use Rattle.pattern.specs.declared.refusal.Fault.{Fault}
 use Rattle.pattern.proofs.ParserComplete.{after_pattern}
 use Rattle.compiler.specs.declared.reader.ReaderState.{ReaderState}
-use Rattle.compiler.specs.declared.reader.Parsed.{Parsed}
-use Rattle.compiler.specs.declared.reader.Parsed.TheVariants as parsed
-use Rattle.compiler.specs.declared.reader.Grouped.{Grouped}
-use Rattle.compiler.specs.declared.reader.Grouped.TheVariants as grouped
 use Rattle.scanner.specs.Places.{ends_at, ClassNot}
 use Rattle.scanner.specs.Scans.{scanned}
 use Rattle.pattern.specs.Stores.{store_at}
@@ -29,11 +27,14 @@ pub record ReadPre (s : Bytes) (st : ReaderState) (d : ℕ) : Type 0 where
   pub pool : st.pool ≤ st.at.at
   pub shallow : d ≤ depth_limit
 
--- room for the record of each atom that the source can have, and for the text of the whole source
-pub record BuffersFit (s recs text : Bytes) : Type 0 where
+-- room in so many bytes for the record of each atom that the source can have, and in so many for the text of the whole source
+pub record SizesFit (s : Bytes) (recs text : ℕ) : Type 0 where
   pub source : length s ≤ source_limit
-  pub recs_fit : (n : ℕ) → n < atom_limit → n < length s → record_size * n + record_size ≤ length recs
-  pub text_fits : length s ≤ length text
+  pub recs_fit : (n : ℕ) → n < atom_limit → n < length s → record_size * n + record_size ≤ recs
+  pub text_fits : length s ≤ text
+
+abbrev pub BuffersFit : (s recs text : Bytes) → Type 0
+BuffersFit s recs text = SizesFit s (length recs) (length text)
 
 -- how a reader has moved
 pub record Moved (s : Bytes) (st u : ReaderState) : Type 0 where
@@ -76,9 +77,9 @@ pub record LeafIs (s : Bytes) (from : Inside) (P : Bytes → Type 0) (i n p : �
   pub scan : (l : ℕ) (h : Option ℕ) (k : Stack) (m : ℕ) → scanned s (from l h k) i m ≡ scanned s (after l h body, k) u.at.at m
   pub body_ends : BodyEnds s u.at.at body
 
-unfoldable pub ReadLeafPost : Bytes → Inside → (Bytes → Type 0) → (i n p : ℕ) → Repeat → (recs recs' : Bytes) → Parsed → Type 0
-ReadLeafPost s from P i n p rep recs recs' (parsed.Done u) = LeafIs s from P i n p rep recs recs' u
-ReadLeafPost s from P i n p rep recs recs' (parsed.Fault f q) = Refuses s from i f q
+unfoldable pub ReadLeafPost : Bytes → Inside → (Bytes → Type 0) → (i n p : ℕ) → Repeat → (recs recs' : Bytes) → Result ReaderState Fault → Type 0
+ReadLeafPost s from P i n p rep recs recs' (Ok u) = LeafIs s from P i n p rep recs recs' u
+ReadLeafPost s from P i n p rep recs recs' (Err f) = Refuses s from i (number_of f.refusal) f.position
 
 -- where a leaf may start
 pub record ReadLeafPre (s : Bytes) (i n p : ℕ) (recs : Bytes) : Type 0 where
@@ -88,10 +89,10 @@ pub record ReadLeafPre (s : Bytes) (i n p : ℕ) (recs : Bytes) : Type 0 where
   pub source : length s ≤ source_limit
   pub room : record_size * n + record_size ≤ length recs
 
-abbrev pub ReadCodesPost : Bytes → (i n p : ℕ) → Repeat → (recs recs' : Bytes) → Parsed → Type 0
+abbrev pub ReadCodesPost : Bytes → (i n p : ℕ) → Repeat → (recs recs' : Bytes) → Result ReaderState Fault → Type 0
 ReadCodesPost s i n p rep recs recs' r = ReadLeafPost s (after_codes 0) (λ v. v ≡ []) i n p rep recs recs' r
 
-abbrev pub ReadLiteralPost : Bytes → (i n p : ℕ) → Repeat → (recs recs' text text' : Bytes) → Parsed → Type 0
+abbrev pub ReadLiteralPost : Bytes → (i n p : ℕ) → Repeat → (recs recs' text text' : Bytes) → Result ReaderState Fault → Type 0
 ReadLiteralPost s i n p rep recs recs' text text' r = ReadLeafPost s (in_literal []) (λ v. text' ≡ store_at text p v) i n p rep recs recs' r
 
 -- an atom or a pattern in d groups is refused
@@ -107,9 +108,9 @@ pub record AtomIs (s : Bytes) (st : ReaderState) (d : ℕ) (recs recs' text text
   pub scan : (k : Stack) → depth k ≡ d → scanned s (counting empty, k) st.at.at st.atoms ≡ scanned s (after low high body, k) u.at.at u.atoms
   pub body_ends : BodyEnds s u.at.at body
 
-unfoldable pub ReadAtomPost : Bytes → ReaderState → ℕ → (recs recs' text text' : Bytes) → Parsed → Type 0
-ReadAtomPost s st d recs recs' text text' (parsed.Done u) = AtomIs s st d recs recs' text text' u
-ReadAtomPost s st d recs recs' text text' (parsed.Fault f q) = Refused s st.at.at st.atoms d f q
+unfoldable pub ReadAtomPost : Bytes → ReaderState → ℕ → (recs recs' text text' : Bytes) → Result ReaderState Fault → Type 0
+ReadAtomPost s st d recs recs' text text' (Ok u) = AtomIs s st d recs recs' text text' u
+ReadAtomPost s st d recs recs' text text' (Err f) = Refused s st.at.at st.atoms d (number_of f.refusal) f.position
 
 pub record PatternIs (s : Bytes) (st : ReaderState) (d : ℕ) (recs recs' text text' : Bytes) (u : ReaderState) : Type 0 where
   pub tree : Syntax pattern
@@ -119,9 +120,9 @@ pub record PatternIs (s : Bytes) (st : ReaderState) (d : ℕ) (recs recs' text t
   pub body_ends : BodyEnds s u.at.at (tail tree)
   pub over : ends_at s u.at.at ≡ 1
 
-unfoldable pub ReadPatternPost : Bytes → ReaderState → ℕ → (recs recs' text text' : Bytes) → Parsed → Type 0
-ReadPatternPost s st d recs recs' text text' (parsed.Done u) = PatternIs s st d recs recs' text text' u
-ReadPatternPost s st d recs recs' text text' (parsed.Fault f q) = Refused s st.at.at st.atoms d f q
+unfoldable pub ReadPatternPost : Bytes → ReaderState → ℕ → (recs recs' text text' : Bytes) → Result ReaderState Fault → Type 0
+ReadPatternPost s st d recs recs' text text' (Ok u) = PatternIs s st d recs recs' text text' u
+ReadPatternPost s st d recs recs' text text' (Err f) = Refused s st.at.at st.atoms d (number_of f.refusal) f.position
 
 -- the branches of a group, itself in d - 1 groups, with the closing parenthesis
 pub record GroupIs (s : Bytes) (st : ReaderState) (d : ℕ) (recs recs' text text' : Bytes) (u : ReaderState) (c : ℕ) : Type 0 where
@@ -136,6 +137,6 @@ pub record GroupRefused (s : Bytes) (i n d f q : ℕ) : Type 0 where
   pub scan : (k : Stack) (l : ℕ) (h : Option ℕ) (others : List (Syntax pattern)) → suc (depth k) ≡ d
       → scanned s (counting empty, within k l h others []) i n ≡ refused f q
 
-unfoldable pub ReadGroupPost : Bytes → ReaderState → ℕ → (recs recs' text text' : Bytes) → Grouped → Type 0
-ReadGroupPost s st d recs recs' text text' (grouped.Done u c) = GroupIs s st d recs recs' text text' u c
-ReadGroupPost s st d recs recs' text text' (grouped.Fault f q) = GroupRefused s st.at.at st.atoms d f q
+unfoldable pub ReadGroupPost : Bytes → ReaderState → ℕ → (recs recs' text text' : Bytes) → Result (ReaderState × ℕ) Fault → Type 0
+ReadGroupPost s st d recs recs' text text' (Ok (u, c)) = GroupIs s st d recs recs' text text' u c
+ReadGroupPost s st d recs recs' text text' (Err f) = GroupRefused s st.at.at st.atoms d (number_of f.refusal) f.position

@@ -14,7 +14,6 @@ use Rattle.replies.specs.Stores.{Replied}
 use Rattle.lines.specs.Output.{prefixed, answers, last_line, LinesIn, lines_in, wiped}
 use Rattle.lines.specs.Taking.{one_line, TakeLinePost}
 use Rattle.lines.specs.Chunk.{Buffers, lend, Done}
-use Rattle.lines.specs.declared.chunk.Pending.{Pending}
 use Rattle.lines.specs.declared.line.Taken.{Taken}
 use Rattle.lines.proofs.Lines.{lines_append, slice_join}
 
@@ -82,44 +81,44 @@ drop_replied {end} {r} {out} a =
     ap (drop end) (w.stores.bytes ∙ store_at_overwrite out r.text (omega (arith, w.short, w.stores.next))) ∙ drop_overwrite end r.text out (omega (arith, w.stores.next))
 
 -- and what is held in the line's bytes
-pub held_overwrite : {l : LinesIn} {b b' : Buffers} {p : Pending} → Done l b b' p → take p.held b'.line ≡ l.held
+pub held_overwrite : {l : LinesIn} {b b' : Buffers} {end n : ℕ} → Done l b b' end n → take n b'.line ≡ l.held
 held_overwrite {l} {b} d = ap₂ (λ n s. take n s) d.held d.line ∙ take_overwrite l.held (wiped l.ended b.line)
 
 -- ---- turns over a chunk
 
-pub done_none : (held : ℕ) (b : Buffers) {from to : ℕ} → held ≤ length b.line → held ≤ held_limit → Done (one_line false (take held b.line)) b b (record { from = from; to = to; held = held; end = 0; last = false })
+pub done_none : (held : ℕ) (b : Buffers) → held ≤ length b.line → held ≤ held_limit → Done (one_line false (take held b.line)) b b 0 held
 unfolding one_line answers wiped
 done_none held b h l =
     record { replied = replied_none _ _ _ _; line = overwrite_same held b.line b.line h refl; held = sym (length-take-le held b.line h); held_fits = l }
 
 -- a line more is taken
-module _ (held₀ : Bytes) (from : ℕ) {b₀ b : Buffers} {p : Pending} {chunk after : Bytes} {r : Taken} (d : Done (lines_in held₀ (slice from p.from chunk)) b₀ b p) (f : from ≤ p.from)
-    (t : TakeLinePost chunk p.from b.line p.held after r) (h : r.held ≤ length after) where
+module _ (held₀ : Bytes) (from : ℕ) {b₀ b : Buffers} {next n end : ℕ} {chunk after : Bytes} {r : Taken} (d : Done (lines_in held₀ (slice from next chunk)) b₀ b end n) (f : from ≤ next)
+    (t : TakeLinePost chunk next b.line n after r) (h : r.held ≤ length after) where
   abbrev before : LinesIn
-  before = lines_in held₀ (slice from p.from chunk)
+  before = lines_in held₀ (slice from next chunk)
 
   abbrev line : Bytes
   line = take r.held after
 
   more_lines : (e : Bool) → r.ended ≡ e → record { ended = before.ended ++ (one_line e line).ended; held = (one_line e line).held } ≡ lines_in held₀ (slice from r.next chunk)
   more_lines e q =
-      let rest = slice p.from r.next chunk in
+      let rest = slice next r.next chunk in
       ap (λ (m : LinesIn). record { ended = before.ended ++ m.ended; held = m.held }) (ap (λ x. one_line x line) (sym q) ∙ sym t.equal ∙ ap (λ v. lines_in v rest) (held_overwrite d))
-      ∙ sym (lines_append held₀ (slice from p.from chunk) rest) ∙ ap (lines_in held₀) (sym (slice_join chunk from p.from r.next f t.forward t.next_fits))
+      ∙ sym (lines_append held₀ (slice from next chunk) rest) ∙ ap (lines_in held₀) (sym (slice_join chunk from next r.next f t.forward t.next_fits))
 
   rest_stays : drop r.held after ≡ drop r.held (wiped before.ended b₀.line)
   rest_stays = t.stays ∙ ap (drop r.held) d.line ∙ drop_overwrite r.held before.held _ (omega (arith, t.longer, d.held))
 
   -- it did not end
-  pub done_held : r.ended ≡ false → Done (lines_in held₀ (slice from r.next chunk)) b₀ (lend after b.scratch b.out) (record { from = r.next; to = p.to; held = r.held; end = p.end; last = false })
+  pub done_held : r.ended ≡ false → Done (lines_in held₀ (slice from r.next chunk)) b₀ (lend after b.scratch b.out) end r.held
   unfolding one_line
   done_held q =
       rw (← more_lines false q, append-nil)
       (record { replied = d.replied; line = overwrite_same r.held after _ h rest_stays; held = sym (length-take-le r.held after h); held_fits = t.held_fits })
 
   -- it ended: the reply stands after those before, and its bytes are zeroed
-  pub done_ended : {scratch' out' line' : Bytes} {room j : ℕ} → r.ended ≡ true → Replied room (answer_to line b.scratch) b.out p.end scratch' out' j → p.end + room ≤ length b.out
-      → line' ≡ zeroed r.held after → Done (lines_in held₀ (slice from r.next chunk)) b₀ (lend line' scratch' out') (record { from = r.next; to = p.to; held = 0; end = j; last = false })
+  pub done_ended : {scratch' out' line' : Bytes} {room j : ℕ} → r.ended ≡ true → Replied room (answer_to line b.scratch) b.out end scratch' out' j → end + room ≤ length b.out
+      → line' ≡ zeroed r.held after → Done (lines_in held₀ (slice from r.next chunk)) b₀ (lend line' scratch' out') j 0
   unfolding one_line wiped overwrite
   done_ended q a g z =
       rw (← more_lines true q)

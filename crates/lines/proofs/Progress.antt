@@ -11,7 +11,7 @@ use Rattle.replies.specs.Sizes.{out_room}
 use Rattle.lines.specs.Output.{answers, LinesIn, lines_in}
 use Rattle.lines.specs.Taking.{one_line}
 use Rattle.lines.specs.Chunk.{Buffers, AnswerChunkPost}
-use Rattle.lines.specs.declared.chunk.Pending.{Pending}
+use Rattle.lines.specs.declared.chunk.Rest.{Rest}
 use Rattle.lines.proofs.Lines.{taken_nothing}
 
 -- where nothing is taken nothing is written
@@ -20,11 +20,11 @@ unfolding answers one_line
 nothing_written held chunk scratch from = ap (λ (l : LinesIn). length (answers l.ended scratch).text) (taken_nothing held chunk from)
 
 -- and then there is room for a reply, so more would be taken
-pub answers_move : {chunk : Bytes} {from held : ℕ} {b b' : Buffers} {p : Pending} → AnswerChunkPost chunk from held b b' p → out_room ≤ length b.out → from < length chunk → from < p.from
-answers_move {chunk} {from} {held} {b} {b'} {p} a o h = ⊎_elim stands (λ l. l) (le_or_lt p.from from)
+pub answers_move : {chunk : Bytes} {from held : ℕ} {b b' : Buffers} {end : ℕ} {r : Rest} → AnswerChunkPost chunk from held b b' end r → out_room ≤ length b.out → from < length chunk → from < r.from
+answers_move {chunk} {from} {held} {b} {b'} {end} {r} a o h = ⊎_elim stands (λ l. l) (le_or_lt r.from from)
   where
-    stands : p.from ≤ from → from < p.from
+    stands : r.from ≤ from → from < r.from
     stands l =
-        let e : p.from ≡ from = omega (arith, a.forward) in
-        let n : length (answers (lines_in (take held b.line) (slice from p.from chunk)).ended b.scratch).text ≡ 0 = rw e (nothing_written (take held b.line) chunk b.scratch from) in
+        let e : r.from ≡ from = omega (arith, a.forward) in
+        let n : length (answers (lines_in (take held b.line) (slice from r.from chunk)).ended b.scratch).text ≡ 0 = rw e (nothing_written (take held b.line) chunk b.scratch from) in
         absurd (omega (arith, a.fills (omega (arith, a.to)), a.done.replied.within.stores.next))

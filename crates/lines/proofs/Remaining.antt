@@ -1,23 +1,23 @@
 -- What the line tool writes is the output: at each step what was written and what is still to come make it up. Assumes nothing.
 use mathlib.Core.Path.{◌≡◌, refl, sym, ap, ap₂, ◌∙◌}
 use mathlib.Core.Logic.{◌⊎◌, inl, inr, ⊎_elim}
-use mathlib.Core.Bool.{Bool, true, false, not, ◌&&◌, ◌||◌}
+use mathlib.Core.Bool.{Bool, true, false, ◌&&◌, ◌||◌}
 use mathlib.Core.List.{List, [], ◌∷◌, ◌++◌, append_assoc, append-nil}
 use Prim.Native.Nat.{ℕ, ◌≤◌}
 use native.Mathlib.Omega.{arith}
 use lib.Dec.{ltb}
+use Rattle.std.specs.Prelude.{Option, Some, None, IfSome}
 use lib.ListN.{length, take, drop, replicate, drop_of_length-le, take-append-drop}
 use lib.Seq.{slice, take_all, take-take, length-take-le}
 use borrow.Author.Tests.{ltb-false}
 use Rattle.pattern.specs.Bytes.{Bytes}
-use Rattle.pattern.proofs.Tests.{if_true, if_false}
 use Rattle.replies.specs.Reply.{zeros}
 use Rattle.lines.specs.Output.{answers, last_line, first_line, output, lines_in, joined}
 use Rattle.lines.specs.Chunk.{Buffers}
-use Rattle.lines.specs.Session.{started, State, halted, Continues, finished, AfterRead, PendingIn, written, waiting, GoesOn, AfterWrite}
+use Rattle.lines.specs.Session.{started, State, halted, Continues, finished, AfterRead, RestIn, written, waiting, GoesOn, Follows}
 use Rattle.lines.specs.Trace.{Trace, followed_by, Steps, read, end, write, read_fails, write_fails, Runs, none, more, to_come}
 use Rattle.lines.specs.Invariant.{Sound}
-use Rattle.lines.specs.declared.chunk.Pending.{Pending}
+use Rattle.lines.specs.declared.chunk.Rest.{Rest}
 use Rattle.lines.specs.declared.session.Next.{Next}
 use Rattle.lines.specs.declared.session.Next.TheVariants.{Write, Read, Stop}
 use Rattle.lines.proofs.Lines.{slice_join}
@@ -27,45 +27,52 @@ use Rattle.lines.proofs.Answering.{take_replied, held_overwrite}
 use Rattle.lines.proofs.Chunks.{in_chunks, in_parts, chunks_hold}
 
 -- what is still to be written, if the input goes on with these chunks and nothing fails
+unfoldable unanswered : Option Rest → (input : Bytes) → Buffers → List Bytes → Bytes
+unanswered None input b chunks = []
+unanswered (Some r) input b chunks = in_chunks (take r.held b.line) (slice r.from r.to input ∷ chunks) b.scratch
+
 unfoldable remaining : State → List Bytes → Bytes
 remaining s chunks =
     elim s.next [
       | Stop ↦ []
       | Read held ↦ in_chunks (take held s.buffers.line) chunks s.buffers.scratch
-      | Write p ↦ take p.end s.buffers.out ++ elim p.last [ true ↦ [] | false ↦ in_chunks (take p.held s.buffers.line) (slice p.from p.to s.input ∷ chunks) s.buffers.scratch ]
+      | Write p ↦ take p.end s.buffers.out ++ unanswered p.rest s.input s.buffers chunks
     ]
 
 -- the chunks that may still come: none after the input's end
+unfoldable ahead_of : Option Rest → List Bytes → List Bytes
+ahead_of None chunks = []
+ahead_of (Some r) chunks = chunks
+
 unfoldable ahead : Next → List Bytes → List Bytes
 ahead Stop chunks = []
 ahead (Read held) chunks = chunks
-ahead (Write p) chunks = elim p.last [ true ↦ [] | false ↦ chunks ]
+ahead (Write p) chunks = ahead_of p.rest chunks
 
 -- part of a chunk is answered
 module _ {chunk input : Bytes} {from held : ℕ} {b : Buffers} {s : State} (a : Continues chunk from held input b s) where
   continues_remaining : take (length chunk) input ≡ chunk → (chunks : List Bytes) → remaining s chunks ≡ in_chunks (take held b.line) (drop from chunk ∷ chunks) b.scratch
-  unfolding remaining
+  unfolding remaining unanswered
   continues_remaining e chunks =
-      let p = a.part in
+      let r = a.rest in
       let d = a.answered.done in
       let b' = a.after in
-      let l = lines_in (take held b.line) (slice from p.from chunk) in
+      let l = lines_in (take held b.line) (slice from r.from chunk) in
       ap (λ x. remaining x chunks) a.state
-      ∙ ap (λ v. take p.end b'.out ++ v) (if_false p.last [] _ a.answered.last)
-      ∙ ap₂ (λ v s. v ++ in_chunks (take p.held b'.line) (drop p.from s ∷ chunks) b'.scratch) (take_replied d.replied) (ap (λ n. take n input) a.answered.to ∙ e)
-      ∙ ap₂ (λ h s. (answers l.ended b.scratch).text ++ in_chunks h (drop p.from chunk ∷ chunks) s) (held_overwrite d) d.replied.works
-      ∙ sym (in_parts (take held b.line) (slice from p.from chunk) (drop p.from chunk) b.scratch chunks)
+      ∙ ap₂ (λ v s. v ++ in_chunks (take r.held b'.line) (drop r.from s ∷ chunks) b'.scratch) (take_replied d.replied) (ap (λ n. take n input) a.answered.to ∙ e)
+      ∙ ap₂ (λ h s. (answers l.ended b.scratch).text ++ in_chunks h (drop r.from chunk ∷ chunks) s) (held_overwrite d) d.replied.works
+      ∙ sym (in_parts (take held b.line) (slice from r.from chunk) (drop r.from chunk) b.scratch chunks)
       ∙ ap (λ s. in_chunks (take held b.line) (s ∷ chunks) b.scratch) (sym parts)
     where
-      parts : drop from chunk ≡ slice from a.part.from chunk ++ drop a.part.from chunk
+      parts : drop from chunk ≡ slice from a.rest.from chunk ++ drop a.rest.from chunk
       parts =
           let whole = take_all (length chunk) chunk (omega arith) in
-          ap (drop from) (sym whole) ∙ slice_join chunk from a.part.from (length chunk) a.answered.forward (omega (arith, a.answered.from_fits, a.answered.to)) (omega arith)
-          ∙ ap (λ s. slice from a.part.from chunk ++ drop a.part.from s) whole
+          ap (drop from) (sym whole) ∙ slice_join chunk from a.rest.from (length chunk) a.answered.forward (omega (arith, a.answered.from_fits, a.answered.to)) (omega arith)
+          ∙ ap (λ s. slice from a.rest.from chunk ++ drop a.rest.from s) whole
 
   continues_ahead : (chunks : List Bytes) → ahead s.next chunks ≡ chunks
-  unfolding ahead
-  continues_ahead chunks = ap (λ (x : State). ahead x.next chunks) a.state ∙ if_false a.part.last [] chunks a.answered.last
+  unfolding ahead ahead_of
+  continues_ahead chunks = ap (λ (x : State). ahead x.next chunks) a.state
 
 -- ---- a step that goes well: what it wrote, and what remains then, is what remained before
 record StepWell (s : State) (t : Trace) (s' : State) : Type 0 where
@@ -74,55 +81,53 @@ record StepWell (s : State) (t : Trace) (s' : State) : Type 0 where
   keeps : (chunks : List Bytes) → ahead s.next (t.chunks ++ ahead s'.next chunks) ≡ t.chunks ++ ahead s'.next chunks
   awaits : (chunks : List Bytes) → ahead s'.next chunks ≡ to_come t.ended (ahead s.next chunks)
 
-module _ (p : Pending) (input : Bytes) (b : Buffers) (s : State) (f : PendingIn p input b) where
-  abbrev pending : State
-  pending = record { next = Write p; input = input; buffers = b }
+module _ (end : ℕ) (input : Bytes) (b : Buffers) (s : State) where
+  abbrev pending : Option Rest → State
+  pending rest = record { next = Write (record { end = end; rest = rest }); input = input; buffers = b }
 
   abbrev replies : Trace
-  replies = record { chunks = []; ended = false; text = take p.end b.out; well = true }
+  replies = record { chunks = []; ended = false; text = take end b.out; well = true }
 
-  last_well : (rest : Bool) → p.last ≡ true → GoesOn false rest p input b s → StepWell pending replies s
-  unfolding GoesOn halted remaining ahead to_come
-  last_well rest l a =
+  last_well : s ≡ halted input b → StepWell (pending None) replies s
+  unfolding halted remaining unanswered ahead ahead_of to_come
+  last_well a =
       record {
         well = refl;
-        totals = λ chunks. ap (λ (x : State). take p.end b.out ++ remaining x chunks) a ∙ ap (λ v. take p.end b.out ++ v) (sym (if_true p.last [] _ l));
-        keeps = λ chunks. if_true p.last [] _ l ∙ ap (λ (x : State). ahead x.next chunks) (sym a);
-        awaits = λ chunks. ap (λ (x : State). ahead x.next chunks) a ∙ sym (if_true p.last [] _ l);
+        totals = λ chunks. ap (λ (x : State). take end b.out ++ remaining x chunks) a;
+        keeps = λ chunks. ap (λ (x : State). ahead x.next chunks) (sym a);
+        awaits = λ chunks. ap (λ (x : State). ahead x.next chunks) a;
       }
 
-  rest_well : (rest : Bool) → ltb p.from p.to ≡ rest → p.last ≡ false → GoesOn true rest p input b s → StepWell pending replies s
-  unfolding GoesOn written waiting remaining ahead in_chunks joined to_come
-  rest_well true e l a =
-      record {
-        well = refl;
-        totals =
-            λ chunks.
-            ap (λ v. take p.end b.out ++ v)
-            (continues_remaining a (ap (λ k. take k input) (length-take-le p.to input f.to_fits)) chunks ∙ sym (if_false p.last [] _ l)
-            ∙ ap (λ v. elim p.last [ true ↦ [] | false ↦ in_chunks (take p.held b.line) (slice p.from p.to input ∷ v) b.scratch ]) (sym (continues_ahead a chunks)));
-        keeps = λ chunks. if_false p.last [] _ l;
-        awaits = λ chunks. continues_ahead a chunks ∙ sym (if_false p.last [] _ l);
-      }
-  rest_well false e l a =
-      let nothing : slice p.from p.to input ≡ [] = drop_of_length-le (take p.to input) {i = p.from} (omega (arith, length-take-le p.to input f.to_fits, ltb-false p.from p.to e)) in
+  rest_well : (r : Rest) → RestIn r input b → (more : Bool) → ltb r.from r.to ≡ more → GoesOn more end r input b s → StepWell (pending (Some r)) replies s
+  unfolding GoesOn written waiting remaining unanswered ahead ahead_of in_chunks joined to_come
+  rest_well r f true e a =
       record {
         well = refl;
         totals =
             λ chunks.
-            ap (λ v. take p.end b.out ++ v)
-            (ap (λ x. remaining x chunks) a ∙ ap (λ v. in_chunks (take p.held b.line) (v ∷ chunks) b.scratch) (sym nothing) ∙ sym (if_false p.last [] _ l)
-            ∙ ap (λ (x : State). elim p.last [ true ↦ [] | false ↦ in_chunks (take p.held b.line) (slice p.from p.to input ∷ ahead x.next chunks) b.scratch ]) (sym a));
-        keeps = λ chunks. if_false p.last [] _ l;
-        awaits = λ chunks. ap (λ (x : State). ahead x.next chunks) a ∙ sym (if_false p.last [] _ l);
+            ap (λ v. take end b.out ++ v)
+            (continues_remaining a (ap (λ k. take k input) (length-take-le r.to input f.to_fits)) chunks
+            ∙ ap (λ v. in_chunks (take r.held b.line) (slice r.from r.to input ∷ v) b.scratch) (sym (continues_ahead a chunks)));
+        keeps = λ chunks. refl;
+        awaits = λ chunks. continues_ahead a chunks;
+      }
+  rest_well r f false e a =
+      let nothing : slice r.from r.to input ≡ [] = drop_of_length-le (take r.to input) {i = r.from} (omega (arith, length-take-le r.to input f.to_fits, ltb-false r.from r.to e)) in
+      record {
+        well = refl;
+        totals =
+            λ chunks.
+            ap (λ v. take end b.out ++ v)
+            (ap (λ x. remaining x chunks) a ∙ ap (λ v. in_chunks (take r.held b.line) (v ∷ chunks) b.scratch) (sym nothing)
+            ∙ ap (λ (x : State). in_chunks (take r.held b.line) (slice r.from r.to input ∷ ahead x.next chunks) b.scratch) (sym a));
+        keeps = λ chunks. refl;
+        awaits = λ chunks. ap (λ (x : State). ahead x.next chunks) a;
       }
 
-  write_well : AfterWrite true p input b s → StepWell pending replies s
-  write_well a = go p.last refl a
-    where
-      go : (last : Bool) → p.last ≡ last → GoesOn (true && not last) (ltb p.from p.to) p input b s → StepWell pending replies s
-      go true l a = last_well (ltb p.from p.to) l a
-      go false l a = rest_well (ltb p.from p.to) refl l a
+  write_well : (rest : Option Rest) → IfSome rest (λ r. RestIn r input b) → Follows rest end input b s → StepWell (pending rest) replies s
+  unfolding Follows
+  write_well None f a = last_well a
+  write_well (Some r) f a = rest_well r f (ltb r.from r.to) refl a
 
 -- the first bytes of a text that is written, the rest of it, and more
 in_two : (k n : ℕ) (s v : Bytes) → k ≤ n → take k s ++ (drop k (take n s) ++ v) ≡ take n s ++ v
@@ -138,7 +143,7 @@ record Fails (s : State) (t : Trace) (s' : State) : Type 0 where
   stop : s'.next ≡ Stop
 
 step_goes : {s s' : State} {t : Trace} → Steps s t s' → StepWell s t s' ⊎ Fails s t s'
-unfolding AfterRead GoesOn finished halted remaining ahead in_chunks joined lines_in to_come
+unfolding AfterRead Follows finished halted remaining unanswered ahead ahead_of in_chunks joined lines_in to_come
 step_goes (read held n input input' b s' g h a) =
     inl
     (record {
@@ -160,7 +165,7 @@ step_goes (end held input input' b s' a) =
       keeps = λ chunks. refl;
       awaits = λ chunks. ap (λ (x : State). ahead x.next chunks) a;
     })
-step_goes (write p input b s' f a) = inl (write_well p input b s' f a)
+step_goes (write p input b s' f a) = inl (write_well p.end input b s' p.rest f.rest_fits a)
 step_goes (read_fails held input input' b s' a) = inr (record { ill = refl; unread = refl; unended = refl; begins = λ chunks. (_, refl); stop = ap (λ (x : State). x.next) a })
 step_goes (write_fails p k input b s' h f a) =
     inr (record { ill = refl; unread = refl; unended = refl; begins = λ chunks. (drop k (take p.end b.out) ++ _, in_two k p.end b.out _ h); stop = ap (λ (x : State). x.next) a })
@@ -230,14 +235,14 @@ module _ (input : Bytes) (b : Buffers) where
       }
 
   runs_go : {turns : ℕ} {t : Trace} {s : State} → Runs start turns t s → RunWell t s ⊎ RunFailed t s
-  unfolding started remaining ahead to_come
+  unfolding started remaining ahead ahead_of to_come
   runs_go none = inl (record { well = refl; totals = λ chunks. refl; awaits = λ chunks. refl })
   runs_go (more turns t u s s' run step) =
       ⊎_elim (λ g. ⊎_elim (λ a. inl (run_on t u s s' g a)) (λ f. inr (run_fails t u s s' g f)) (step_goes step)) (λ d. absurd (no_step step d.stop)) (runs_go run)
 
   -- scratch is zeros at first
   start_remaining : Sound (record { next = Stop; input = input; buffers = b }) → (chunks : List Bytes) → remaining start chunks ≡ output (joined chunks)
-  unfolding started remaining zeros joined in_chunks
+  unfolding started remaining unanswered zeros joined in_chunks
   start_remaining y chunks =
       ap₂ (λ v s. v ++ in_chunks [] ([] ∷ chunks) s) (take_overwrite first_line b.out) (y.tidy.scratch_zero ∙ ap (λ n. replicate n 0) y.sized.scratch_full) ∙ chunks_hold ([] ∷ chunks)
 

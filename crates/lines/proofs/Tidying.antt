@@ -1,6 +1,6 @@
 -- "Patient data stays in no buffer": what each step of the line tool leaves in its buffers. Assumes nothing.
 use mathlib.Core.Path.{◌≡◌, refl, sym, ap, ◌∙◌, subst}
-use mathlib.Core.Bool.{Bool, true, false, not, ◌&&◌}
+use mathlib.Core.Bool.{Bool, true, false}
 use mathlib.Core.List.{[], ◌∷◌}
 use Prim.Native.Nat.{ℕ, ◌+◌, ◌-◌, ◌≤◌}
 use native.Mathlib.Omega.{arith}
@@ -14,10 +14,11 @@ use Rattle.replies.specs.Stores.{Zero}
 use Rattle.replies.proofs.Zeros.{drop_zero, rest_zeroed}
 use Rattle.lines.specs.Output.{answers, last_line, first_line, hold, LinesIn, line_first, lines_in, wiped}
 use Rattle.lines.specs.Chunk.{Buffers}
-use Rattle.lines.specs.Session.{started, State, halted, Continues, finished, AfterRead, PendingIn, written, waiting, GoesOn}
+use Rattle.lines.specs.Session.{started, State, halted, Continues, finished, AfterRead, RestIn, written, waiting, GoesOn, Follows}
 use Rattle.lines.specs.Trace.{Trace, Steps, read, end, write, read_fails, write_fails}
 use Rattle.lines.specs.Invariant.{NextIn, Tidy, Sized, Sound}
-use Rattle.lines.specs.declared.chunk.Pending.{Pending}
+use Rattle.lines.specs.declared.chunk.Rest.{Rest}
+use Rattle.std.specs.Prelude.{Option, Some, None, IfSome, if◌then◌else◌}
 use Rattle.lines.specs.declared.session.Next.TheVariants.{Write, Stop}
 use Rattle.lines.proofs.Lines.{hold_longer}
 use Rattle.pattern.proofs.Stores.{drop_overwrite}
@@ -69,27 +70,30 @@ module _ (held : ℕ) (input : Bytes) (b : Buffers) (line_zero : Zero (drop held
   continues_sound : {chunk : Bytes} {from : ℕ} (s : State) → Continues chunk from held input b s → length chunk ≤ length input → Sized s → Sound s
   unfolding NextIn
   continues_sound {chunk} {from} s a h z =
-      let p = a.part in
+      let r = a.rest in
       let d = a.answered.done in
-      let l = lines_in (take held b.line) (slice from p.from chunk) in
+      let l = lines_in (take held b.line) (slice from r.from chunk) in
       let begun : Zero (drop (length (take held b.line)) b.line) = subst (λ n. Zero (drop n b.line)) (sym (length-take-le held b.line fits)) line_zero in
       sound_as a.state
       (λ y.
       record {
         ready =
             record {
-              from_fits = a.answered.from_fits;
-              to_fits = omega (arith, a.answered.to);
               end_fits = omega (arith, d.replied.within.short, puts_length d.replied.within.stores);
-              lent = record { line_size = y.line_size; held_fits = d.held_fits; out_size = y.out_size };
+              rest_fits =
+                  record {
+                    from_fits = a.answered.from_fits;
+                    to_fits = omega (arith, a.answered.to);
+                    lent = record { line_size = y.line_size; held_fits = d.held_fits; out_size = y.out_size };
+                  };
             };
         tidy =
             record {
               line_zero =
-                  subst Zero (sym (ap (drop p.held) d.line ∙ drop_overwrite p.held l.held _ (omega (arith, d.held)) ∙ ap (λ n. drop n (wiped l.ended b.line)) d.held))
-                  (wiped_zero (take held b.line) (slice from p.from chunk) b.line begun);
+                  subst Zero (sym (ap (drop r.held) d.line ∙ drop_overwrite r.held l.held _ (omega (arith, d.held)) ∙ ap (λ n. drop n (wiped l.ended b.line)) d.held))
+                  (wiped_zero (take held b.line) (slice from r.from chunk) b.line begun);
               scratch_zero = subst Zero (sym (d.replied.works ∙ answers_same l.ended b.scratch scratch_zero)) scratch_zero;
-              out_zero = subst Zero (sym (drop_replied d.replied)) (drop_zero p.end b.out out_zero);
+              out_zero = subst Zero (sym (drop_replied d.replied)) (drop_zero a.end b.out out_zero);
               input_zero = not_stop_write;
             };
         sized = y;
@@ -101,7 +105,7 @@ module _ (held : ℕ) (input : Bytes) (b : Buffers) (line_zero : Zero (drop held
   finished_sound lines z =
       let r = answers (last_line lines) b.scratch in
       record {
-        ready = record { from_fits = omega arith; to_fits = omega arith; end_fits = omega (arith, length-append r.text (drop (length r.text) b.out)); lent = record { line_size = z.line_size; held_fits = omega arith; out_size = z.out_size } };
+        ready = record { end_fits = omega (arith, length-append r.text (drop (length r.text) b.out)); rest_fits = _ };
         tidy =
             record {
               line_zero = rest_zeroed held b.line line_zero;
@@ -113,26 +117,30 @@ module _ (held : ℕ) (input : Bytes) (b : Buffers) (line_zero : Zero (drop held
       }
 
 -- what was written is zeroed
-module _ (p : Pending) (input : Bytes) (b : Buffers) (f : PendingIn p input b) (t : Tidy (record { next = Write p; input = input; buffers = b })) where
-  goes_on_sound : (s : State) (rest : Bool) → GoesOn true rest p input b s → Sized s → Sound s
+module _ (end : ℕ) (input : Bytes) (b : Buffers) where
+  abbrev pending : Option Rest → State
+  pending rest = record { next = Write (record { end = end; rest = rest }); input = input; buffers = b }
+
+  goes_on_sound : (r : Rest) → RestIn r input b → Tidy (pending (Some r)) → (s : State) (more : Bool) → GoesOn more end r input b s → Sized s → Sound s
   unfolding GoesOn written waiting NextIn
-  goes_on_sound s true a z =
-      continues_sound p.held input (written p b) t.line_zero t.scratch_zero (rest_zeroed p.end b.out t.out_zero) (omega (arith, f.lent.held_fits, f.lent.line_size)) s a
-      (omega (arith, length-take-le p.to input f.to_fits, f.to_fits)) z
-  goes_on_sound s false a z =
+  goes_on_sound r f t s true a z =
+      continues_sound r.held input (written end b) t.line_zero t.scratch_zero (rest_zeroed end b.out t.out_zero) (omega (arith, f.lent.held_fits, f.lent.line_size)) s a
+      (omega (arith, length-take-le r.to input f.to_fits, f.to_fits)) z
+  goes_on_sound r f t s false a z =
       sound_as a
       (λ y.
       record {
         ready = f.lent.held_fits;
-        tidy = record { line_zero = t.line_zero; scratch_zero = t.scratch_zero; out_zero = rest_zeroed p.end b.out t.out_zero; input_zero = not_stop_read };
+        tidy = record { line_zero = t.line_zero; scratch_zero = t.scratch_zero; out_zero = rest_zeroed end b.out t.out_zero; input_zero = not_stop_read };
         sized = y;
       })
       z
 
-  write_sound : (s : State) (goes_on rest : Bool) → GoesOn goes_on rest p input b s → Sized s → Sound s
-  unfolding GoesOn
-  write_sound s false rest a z = sound_as a (halted_sound input b) z
-  write_sound s true rest a z = goes_on_sound s rest a z
+  write_sound : (s : State) (wrote : Bool) (rest : Option Rest) → IfSome rest (λ r. RestIn r input b) → Tidy (pending rest) → Follows (if wrote then rest else None) end input b s → Sized s → Sound s
+  unfolding Follows
+  write_sound s false rest f t a z = sound_as a (halted_sound input b) z
+  write_sound s true None f t a z = sound_as a (halted_sound input b) z
+  write_sound s true (Some r) f t a z = goes_on_sound r f t s (ltb r.from r.to) a z
 
 -- what holds between steps holds after each, if the buffers keep their sizes
 pub steps_sound : {s s' : State} {t : Trace} → Steps s t s' → Sound s → Sized s' → Sound s'
@@ -141,9 +149,9 @@ steps_sound (read held n input input' b s' g h a) y z =
     continues_sound held input' b y.tidy.line_zero y.tidy.scratch_zero y.tidy.out_zero (omega (arith, y.ready, y.sized.line_size)) s' a (omega (arith, length-take-le n input' h)) z
 steps_sound (end held input input' b s' a) y z =
     sound_as a (finished_sound held input' b y.tidy.line_zero y.tidy.scratch_zero y.tidy.out_zero (omega (arith, y.ready, y.sized.line_size)) (take held b.line)) z
-steps_sound (write p input b s' f a) y z = write_sound p input b f y.tidy s' (true && not p.last) (ltb p.from p.to) a z
+steps_sound (write p input b s' f a) y z = write_sound p.end input b s' true p.rest f.rest_fits y.tidy a z
 steps_sound (read_fails held input input' b s' a) y z = sound_as a (halted_sound input' b) z
-steps_sound (write_fails p k input b s' h f a) y z = write_sound p input b f y.tidy s' (false && not p.last) (ltb p.from p.to) a z
+steps_sound (write_fails p k input b s' h f a) y z = write_sound p.end input b s' false p.rest f.rest_fits y.tidy a z
 
 -- ---- in the program
 
@@ -156,7 +164,11 @@ pub start_sound : {input : Bytes} {b : Buffers} → Sound (record { next = Stop;
 unfolding started NextIn first_line bytes overwrite
 start_sound {input} {b} y z =
     record {
-      ready = record { from_fits = omega arith; to_fits = omega arith; end_fits = omega (arith, y.sized.out_size, z.out_size); lent = record { line_size = z.line_size; held_fits = omega arith; out_size = z.out_size } };
+      ready =
+          record {
+            end_fits = omega (arith, y.sized.out_size, z.out_size);
+            rest_fits = record { from_fits = omega arith; to_fits = omega arith; lent = record { line_size = z.line_size; held_fits = omega arith; out_size = z.out_size } };
+          };
       tidy = record { line_zero = y.tidy.line_zero; scratch_zero = y.tidy.scratch_zero; out_zero = past_zero first_line b.out y.tidy.out_zero; input_zero = not_stop_write };
       sized = z;
     }

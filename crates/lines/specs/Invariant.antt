@@ -1,10 +1,11 @@
 -- What holds of the line tool's buffers between reads and writes. To be believed.
-use Rattle.std.specs.Prelude.{◌≡◌, ℕ, ◌≤◌, length, drop}
+use Rattle.std.specs.Prelude.{◌≡◌, ℕ, ◌≤◌, Option, Some, None, length, drop}
 use Rattle.pattern.specs.Bytes.{Bytes}
 use Rattle.replies.specs.Sizes.{held_limit, scratch_size, out_room}
 use Rattle.replies.specs.Stores.{Zero}
 use Rattle.lines.specs.Chunk.{Buffers}
 use Rattle.lines.specs.Session.{State, PendingIn}
+use Rattle.lines.specs.declared.chunk.Rest.{Rest}
 use Rattle.lines.specs.declared.session.Next.{Next}
 use Rattle.lines.specs.declared.session.Next.TheVariants.{Write, Read, Stop}
 
@@ -14,10 +15,14 @@ NextIn Stop input b = Unit {0}
 NextIn (Read held) input b = held ≤ held_limit
 NextIn (Write p) input b = PendingIn p input b
 
+abbrev pub held_in : Option Rest → ℕ
+held_in None = 0
+held_in (Some r) = r.held
+
 abbrev pub held_of : Next → ℕ
 held_of Stop = 0
 held_of (Read held) = held
-held_of (Write p) = p.held
+held_of (Write p) = held_in p.rest
 
 abbrev pub end_of : Next → ℕ
 end_of Stop = 0

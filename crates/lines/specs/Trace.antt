@@ -1,4 +1,4 @@
--- The line tool's runs: reads and writes one after the other, with what was read and written. To be believed, all but `Moves`.
+-- The line tool's runs: reads and writes one after the other, with what was read and written. To be believed.
 use Rattle.std.specs.Prelude.{Bool, true, false, ◌&&◌, ◌||◌, List, [], ◌∷◌, ◌++◌, ℕ, ◌+◌, ◌≤◌, length, take}
 use Rattle.pattern.specs.Bytes.{Bytes}
 use Rattle.lines.specs.Chunk.{Buffers}
@@ -29,11 +29,6 @@ pub data Steps : State → Trace → State → Type 0 where
       → Steps (record { next = Read held; input = input; buffers = b }) (record { chunks = []; ended = false; text = []; well = false }) s
   write_fails : (p : Pending) (k : ℕ) (input : Bytes) (b : Buffers) (s : State) → k ≤ p.end → PendingIn p input b → AfterWrite false p input b s
       → Steps (record { next = Write p; input = input; buffers = b }) (record { chunks = []; ended = false; text = take k b.out; well = false }) s
-
--- some one of them was made, whichever: no contract can say what was read or written
-pub record Moves (s s' : State) : Type 0 where
-  pub trace : Trace
-  pub step : Steps s trace s'
 
 -- so many of them, one after the other
 pub data Runs (first : State) : (turns : ℕ) → Trace → State → Type 0 where

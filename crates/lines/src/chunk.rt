@@ -8,20 +8,24 @@ ghost use Rattle.lines.specs.Chunk.{lend, Lent, AnswerChunkPost};
 use crate::line::take_line;
 use replies::reply::answer_line;
 use replies::sizes::OUT_ROOM;
-use stores::clear;
 
-// The first end bytes of the output are to be written. Then the bytes from..to of the input are still to be answered, with
-// held bytes of a line before them; or, if it was the last output, nothing.
+// The bytes from..to of the input are still to be answered, with held bytes of a line before them, in buffers of a fixed size.
 #[derive(Clone, Copy)]
-pub struct Pending {
+pub struct Rest {
     pub from: usize,
     pub to: usize,
     pub held: usize,
+}
+
+// The first end bytes of the output are to be written. Then the rest is to be answered; or, if it was the last output, nothing.
+#[derive(Clone, Copy)]
+pub struct Pending {
     pub end: usize,
-    pub last: bool,
+    pub rest: Option<Rest>,
 }
 
 // Answers lines until the chunk ends or there may be no room for a reply; the bytes of a line that was answered are zeroed.
+// It answers where the replies end in the output, and what is left. A `while`: a turn takes a line, however long.
 pub fn answer_chunk(
     chunk: &[u8],
     from: usize,
@@ -29,34 +33,31 @@ pub fn answer_chunk(
     held: usize,
     scratch: &mut [u8],
     out: &mut [u8],
-) -> Pending
+) -> (usize, Rest)
     requires from { from ≤ length chunk.now }
     requires lent { Lent held (lend line.old scratch.old out.old) }
-    ensures { AnswerChunkPost chunk.now from held (lend line.old scratch.old out.old) (lend line.new scratch.new out.new) result }
+    ensures { AnswerChunkPost chunk.now from held (lend line.old scratch.old out.old) (lend line.new scratch.new out.new) result.0 result.1 }
 {
+    let to = chunk.len();
     let mut next = from;
     let mut n = held;
     let mut end = 0;
-    while next < chunk.len() {
-        if out.len() - end < OUT_ROOM {
-            break;
-        }
+    while next < to && OUT_ROOM <= out.len() - end {
         let t = take_line(chunk, next, line, n);
         next = t.next;
         n = t.held;
         if t.ended {
             end = answer_line(&line[..n], scratch, out, end);
-            clear(line, n);
+            line[..n].fill(0);
             n = 0;
         }
     }
-    Pending {
+    let rest = Rest {
         from: next,
-        to: chunk.len(),
+        to,
         held: n,
-        end,
-        last: false,
-    }
+    };
+    (end, rest)
 }
 
 // Answers a last line without a newline, if it has bytes.
@@ -64,7 +65,7 @@ pub fn answer_last(line: &[u8], scratch: &mut [u8], out: &mut [u8]) -> usize
     requires { out_room ≤ length out.old }
     ensures { Replied (length out.old) (answers (last_line line.now) scratch.old) out.old 0 scratch.new out.new result }
 {
-    if line.len() == 0 {
+    if line.is_empty() {
         return 0;
     }
     answer_line(line, scratch, out, 0)

@@ -5,7 +5,7 @@ ghost use Rattle.lines.specs.Taking.{TakeLinePost};
 
 use replies::sizes::{HELD_LIMIT, NEWLINE};
 
-// How many bytes of a line are held, where to go on in the chunk, and whether the line ended.
+// How many bytes of a line are held, where to go on in the chunk, and whether the line ended: the first two stand either way.
 #[derive(Clone, Copy)]
 pub struct Taken {
     pub held: usize,
@@ -18,15 +18,13 @@ pub fn take_line(chunk: &[u8], from: usize, line: &mut [u8], held: usize) -> Tak
     requires { (from ≤ length chunk.now) × (length line.old ≡ held_limit) × (held ≤ held_limit) }
     ensures { TakeLinePost chunk.now from line.old held line.new result }
 {
-    let mut at = from;
     let mut n = held;
-    while at < chunk.len() {
+    for at in from..chunk.len() {
         let b = chunk[at];
-        at += 1;
         if b == NEWLINE {
             return Taken {
                 held: n,
-                next: at,
+                next: at + 1,
                 ended: true,
             };
         }
@@ -37,7 +35,7 @@ pub fn take_line(chunk: &[u8], from: usize, line: &mut [u8], held: usize) -> Tak
     }
     Taken {
         held: n,
-        next: at,
+        next: chunk.len(),
         ended: false,
     }
 }

@@ -15,19 +15,20 @@ use Rattle.pattern.specs.Decode.{tree_of, decode}
 use Rattle.pattern.specs.Answers.{scratch_needed, lent_fault, ended, ending, match_ending, match_of}
 use Rattle.pattern.proofs.Rooms.{top_le}
 use Rattle.table.specs.declared.Sizes.{Sizes}
-use Rattle.table.specs.declared.Tested.TheVariants.{Bad, Good}
+use Rattle.std.specs.Prelude.{None, Some}
 use Rattle.table.specs.Tested.{tested}
 use Rattle.atoms.proofs.Goods.{GoodSizes, tested_good, tested_bad}
 use Rattle.matcher.specs.Answered.{MatchPost}
 use Rattle.matcher.specs.Run.{RunPre, unrefused}
-use Rattle.matcher.specs.declared.Matched.TheVariants.{Table, Label, Work, Parts}
+use Rattle.std.specs.Prelude.{Err}
+use Rattle.pattern.specs.declared.refusal.Refusal.TheVariants.{Table, Label, Work, Parts}
 
-pub bad_table : (table label scratch parts : Bytes) (budget : ℕ) → Bad ≡ tested (decode table) → MatchPost table label scratch parts budget Table scratch parts
+pub bad_table : (table label scratch parts : Bytes) (budget : ℕ) → None ≡ tested (decode table) → MatchPost table label scratch parts budget (Err Table) scratch parts
 unfolding match_of match_ending ended
 bad_table table label scratch parts budget e = sym (ap (λ o. ended (match_ending o label scratch parts budget) scratch parts) (tested_bad table e))
 
 module _ (table : Bytes) where
-  module _ (s : Sizes) (e : Good s ≡ tested (decode table)) where
+  module _ (s : Sizes) (e : Some s ≡ tested (decode table)) where
     told : GoodSizes table s
     told = tested_good table s e
 
@@ -46,12 +47,12 @@ module _ (table : Bytes) where
       work_is : scratch_needed (tree_of table) (length label) ≡ (2 * s.atoms + 4) * (length label + 1) * (length label + 1)
       work_is = ap (λ (k : ℕ). (2 * k + 4) * (length label + 1) * (length label + 1)) (sym told.atoms_is)
 
-      pub long_label : label_limit < length label → MatchPost table label scratch parts budget Label scratch parts
+      pub long_label : label_limit < length label → MatchPost table label scratch parts budget (Err Label) scratch parts
       unfolding lent_fault refuse ending ended
       long_label h = faulted (some LABEL) (rw (lt-ltb label_limit (length label) h))
 
       module _ (h : length label ≤ label_limit) where
-        pub little_work : length scratch < (2 * s.atoms + 4) * (length label + 1) * (length label + 1) → MatchPost table label scratch parts budget Work scratch parts
+        pub little_work : length scratch < (2 * s.atoms + 4) * (length label + 1) * (length label + 1) → MatchPost table label scratch parts budget (Err Work) scratch parts
         unfolding lent_fault refuse ending ended
         little_work k =
             let l : length scratch < scratch_needed (tree_of table) (length label) = rw work_is k in
@@ -61,7 +62,7 @@ module _ (table : Bytes) where
           room : scratch_needed (tree_of table) (length label) ≤ length scratch
           room = rw work_is k
 
-          pub few_parts : length parts < 2 * s.top → MatchPost table label scratch parts budget Parts scratch parts
+          pub few_parts : length parts < 2 * s.top → MatchPost table label scratch parts budget (Err Parts) scratch parts
           unfolding lent_fault refuse ending ended
           few_parts m =
               let l : length parts < 2 * top_size (tree_of table) = rw (← told.top_is) m in

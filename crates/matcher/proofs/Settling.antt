@@ -1,12 +1,13 @@
 -- One atom after the other, in plain values. Assumes nothing.
 use mathlib.Core.Path.{◌≡◌, refl, sym, ap, ◌∙◌}
-use mathlib.Core.Bool.{Bool, true, false, not, ◌&&◌, ◌||◌}
+use mathlib.Core.Bool.{Bool, true, false, ◌&&◌, ◌||◌}
 use mathlib.Core.Option.{Option, none, some}
 use Prim.Native.Nat.{ℕ, suc, ◌+◌, ◌*◌, ◌≤◌, ◌<◌, min}
 use native.Mathlib.Omega.{arith}
 use borrow.Author.Tests.{le-leb, lt-leb, eqb-true}
 use lib.Dec.{leb, eqb}
 use lib.ListN.{length}
+use Rattle.std.specs.Prelude.{None, Some}
 use Rattle.pattern.specs.Numbers.{label_limit, open_high}
 use Rattle.pattern.specs.Bytes.{Bytes}
 use Rattle.pattern.specs.Syntax.{atom, Syntax, repeat}
@@ -15,12 +16,12 @@ use Rattle.pattern.specs.Trials.{sum, joins, repeats}
 use Rattle.pattern.specs.Decode.{high_of}
 use Rattle.table.specs.declared.record.Record.{Record}
 use Rattle.atoms.specs.Records.{RecordOf}
-use Rattle.planes.specs.declared.join.Tally.{Tally}
 use Rattle.planes.specs.declared.fill.Content.TheVariants.{Empty}
+use Rattle.planes.specs.declared.budget.Budget.{Budget}
 use Rattle.planes.specs.Cells.{InRoom, Plane, Kept, on}
 use Rattle.planes.specs.Whole.{BlankPost}
 use Rattle.planes.specs.Fill.{held_in, Fit, FillPre, FillPost}
-use Rattle.planes.specs.RepeatBody.{fewer, body_trials, RepeatBodyPost}
+use Rattle.planes.specs.RepeatBody.{fewer, body_trials, Elsewhere, RepeatBodyPost}
 use Rattle.atoms.specs.Atoms.{node, head, body_of}
 use Rattle.matcher.specs.FillBody.{FillBodyPre, FillBodyPost}
 use Rattle.matcher.specs.Steps.{Later, BeginPost, FillAtomPost}
@@ -82,14 +83,11 @@ and_true : (b : Bool) → b && true ≡ b
 and_true true = refl
 and_true false = refl
 
-and_set : (a b : Bool) → not b ≡ false → a && b ≡ a
-and_set a true e = and_true a
-and_set true false e = sym e
-and_set false false e = refl
+and_set : (a b : Bool) → b ≡ true → a && b ≡ a
+and_set a b e = rw e (and_true a)
 
-and_unset : (a b : Bool) → not b ≡ true → a && b ≡ false
-and_unset true true e = sym e
-and_unset true false e = refl
+and_unset : (a b : Bool) → b ≡ false → a && b ≡ false
+and_unset true b e = e
 and_unset false b e = refl
 
 repeats_is : (l : Bytes) (a : Syntax atom) (low : ℕ) (high : Option ℕ) → a ≡ repeat low high (body_of a)
@@ -101,9 +99,8 @@ decide_is : (l : Bytes) (a : Syntax atom) (low : ℕ) (high : Option ℕ) → a 
 unfolding decide body_of
 decide_is l a low high e = ap (λ (z : Syntax atom). decide l z) e
 
-module _ (table label s : Bytes) (w temp x budget spent : ℕ) (ok : FillBodyPre table label s w temp x) (s₁ : Bytes) (l₁ : length s₁ ≡ length s) (got : BeginPost table label s s₁ w temp x)
-    (r : Record) (is : RecordOf table x r) (s₂ : Bytes) (l₂ : length s₂ ≡ length s₁) (low times : ℕ) (low-is : low ≡ min r.low (length label)) (times_is : times ≡ min (length label) r.high)
-    (t : Tally) (made_of : RepeatBodyPost s₁ s₂ w temp (2 * x) low times budget spent t) where
+module _ (table label s : Bytes) (w temp x : ℕ) (budget : Budget) (ok : FillBodyPre table label s w temp x) (s₁ : Bytes) (l₁ : length s₁ ≡ length s) (got : BeginPost table label s s₁ w temp x)
+    (r : Record) (is : RecordOf table x r) (s₂ : Bytes) (l₂ : length s₂ ≡ length s₁) (low times : ℕ) (low-is : low ≡ min r.low (length label)) (times_is : times ≡ min (length label) r.high) where
   abbrev a : Syntax atom
   a = head (node table x)
 
@@ -122,10 +119,6 @@ module _ (table label s : Bytes) (w temp x budget spent : ℕ) (ok : FillBodyPre
       ∙ sum_same (max_count (length label) high) _ _ (λ k h. joins_same w _ _ _ _ bodies (power_same w _ _ bodies k) ∙ ap (λ (v : ℕ). joins v R (power R k)) z)
       ∙ sym (repeats_is label a r.low high is.count)
 
-  -- the stretches that are enough bodies, numbers cut to the label's length
-  enough : t.stopped ≡ false → Plane s₂ w (2 * x) (fewer R low (suc times))
-  enough e = plane_same (made_of.whole e) (λ i j hi hj. any_same _ _ (suc times) (λ k h. ap (λ (b : Bool). leb low k && b) (power_same w _ _ bodies k i j hi hj)))
-
   decided : (i j : ℕ) → decide label a i j ≡ fewer R low (suc times) i j && (leb r.low (length label) || R i i)
   unfolding repeated
   decided i j =
@@ -133,50 +126,48 @@ module _ (table label s : Bytes) (w temp x budget spent : ℕ) (ok : FillBodyPre
       let m : times ≡ max_count (length label) high = times_is ∙ max_count_min (length label) r.high ok.work.short in
       ap (λ (S : Rel). S i j) (decide_is label a r.low high is.count) ∙ rw (low-is, m)
 
-  later : Kept s s₂ w (temp + 4) (Later temp x)
-  later = kept_then got.kept made_of.kept (λ q i j n. n) (λ q i j (m, n). (λ e. omega arith, λ e. omega arith, λ e. omega arith))
+  later : Kept s₁ s₂ w (temp + 4) (Elsewhere temp (2 * x)) → Kept s s₂ w (temp + 4) (Later temp x)
+  later kept = kept_then got.kept kept (λ q i j n. n) (λ q i j (m, n). (λ e. omega arith, λ e. omega arith, λ e. omega arith))
 
-  pub atom_stop : t.stopped ≡ true → FillAtomPost table label s s₂ w temp x budget spent t
-  atom_stop e = record {
-    counted = rw (← tried) made_of.counted;
-    whole = λ f. absurd (let z : ◌≡◌ {A = ℕ} 0 1 = cc in omega arith);
-    kept = later;
-  }
+  pub atom_stop : RepeatBodyPost s₁ s₂ w temp (2 * x) low times budget None → FillAtomPost table label s s₂ w temp x budget None
+  atom_stop made_of = record { counted = rw (← tried) made_of.counted; whole = tt; kept = later made_of.kept }
 
-  pub atom_low : t.stopped ≡ false → r.low ≤ length label → FillAtomPost table label s s₂ w temp x budget spent t
-  atom_low e h = record {
-    counted = rw (← tried) made_of.counted;
-    whole = λ f. plane_same (enough e) (λ i j hi hj. sym (decided i j ∙ rw (le-leb r.low (length label) h) (and_true (fewer R low (suc times) i j))));
-    kept = later;
-  }
+  module _ (t : Budget) (made_of : RepeatBodyPost s₁ s₂ w temp (2 * x) low times budget (Some t)) where
+    -- the stretches that are enough bodies, numbers cut to the label's length
+    enough : Plane s₂ w (2 * x) (fewer R low (suc times))
+    enough = plane_same made_of.whole (λ i j hi hj. any_same _ _ (suc times) (λ k h. ap (λ (b : Bool). leb low k && b) (power_same w _ _ bodies k i j hi hj)))
 
-  -- where low is beyond the label's length: whether a body can be empty is the same everywhere
-  module _ (e : t.stopped ≡ false) (h : length label < r.low) where
-    room : (p : ℕ) → p < temp + 4 → InRoom s₂ w p
-    room p l = work_room {s = s₂} (work_long (l₂ ∙ l₁) ok.work) p (omega (arith, ok.temp_is))
-
-    pub atom_top : InRoom s₂ w temp
-    atom_top = room temp (omega arith)
-
-    pub atom_blank : (1 ≤ w) × InRoom s₂ w (2 * x)
-    atom_blank = (omega (arith, ok.work.wide), room (2 * x) (omega (arith, got.repeatable.below)))
-
-    level : (i j : ℕ) → decide label a i j ≡ fewer R low (suc times) i j && on s₂ w temp 0 0
-    level i j =
-        let below = got.repeatable.below in
-        let c : Plane s₂ w temp R = plane_kept made_of.kept (λ i j. (λ y. omega arith, λ y. omega arith, λ y. omega arith)) got.body in
-        decided i j ∙ rw (lt-leb r.low (length label) h, decide_level label (body_of a) i ∙ sym (plane_on c 0 0 (omega arith) (omega (arith, ok.work.wide))))
-
-    pub atom_empty : not (on s₂ w temp 0 0) ≡ false → FillAtomPost table label s s₂ w temp x budget spent t
-    atom_empty is = record {
+    pub atom_low : r.low ≤ length label → FillAtomPost table label s s₂ w temp x budget (Some t)
+    atom_low h = record {
       counted = rw (← tried) made_of.counted;
-      whole = λ f. plane_same (enough e) (λ i j hi hj. sym (level i j ∙ and_set (fewer R low (suc times) i j) (on s₂ w temp 0 0) is));
-      kept = later;
+      whole = plane_same enough (λ i j hi hj. sym (decided i j ∙ rw (le-leb r.low (length label) h) (and_true (fewer R low (suc times) i j))));
+      kept = later made_of.kept;
     }
 
-    pub atom_none : not (on s₂ w temp 0 0) ≡ true → (s₃ : Bytes) → BlankPost s₂ s₃ w (2 * x) → FillAtomPost table label s s₃ w temp x budget spent t
-    atom_none is s₃ f = record {
-      counted = rw (← tried) made_of.counted;
-      whole = λ _. plane_same f.plane (λ i j hi hj. sym (level i j ∙ and_unset (fewer R low (suc times) i j) (on s₂ w temp 0 0) is));
-      kept = let below = got.repeatable.below in kept_then later (kept_less (2 * x + 1) (temp + 4) (omega arith) f.kept (λ q i j n. n)) (λ q i j n. n) (λ q i j (m, n) y. omega arith);
-    }
+    -- where low is beyond the label's length: whether a body can be empty is the same everywhere
+    module _ (h : length label < r.low) where
+      room : (p : ℕ) → p < temp + 4 → InRoom s₂ w p
+      room p l = work_room {s = s₂} (work_long (l₂ ∙ l₁) ok.work) p (omega (arith, ok.temp_is))
+
+      pub atom_blank : (1 ≤ w) × InRoom s₂ w (2 * x)
+      atom_blank = (omega (arith, ok.work.wide), room (2 * x) (omega (arith, got.repeatable.below)))
+
+      level : (i j : ℕ) → decide label a i j ≡ fewer R low (suc times) i j && on s₂ w temp 0 0
+      level i j =
+          let below = got.repeatable.below in
+          let c : Plane s₂ w temp R = plane_kept made_of.kept (λ i j. (λ y. omega arith, λ y. omega arith, λ y. omega arith)) got.body in
+          decided i j ∙ rw (lt-leb r.low (length label) h, decide_level label (body_of a) i ∙ sym (plane_on c 0 0 (omega arith) (omega (arith, ok.work.wide))))
+
+      pub atom_empty : on s₂ w temp 0 0 ≡ true → FillAtomPost table label s s₂ w temp x budget (Some t)
+      atom_empty is = record {
+        counted = rw (← tried) made_of.counted;
+        whole = plane_same enough (λ i j hi hj. sym (level i j ∙ and_set (fewer R low (suc times) i j) (on s₂ w temp 0 0) is));
+        kept = later made_of.kept;
+      }
+
+      pub atom_none : on s₂ w temp 0 0 ≡ false → (s₃ : Bytes) → BlankPost s₂ s₃ w (2 * x) → FillAtomPost table label s s₃ w temp x budget (Some t)
+      atom_none is s₃ f = record {
+        counted = rw (← tried) made_of.counted;
+        whole = plane_same f.plane (λ i j hi hj. sym (level i j ∙ and_unset (fewer R low (suc times) i j) (on s₂ w temp 0 0) is));
+        kept = let below = got.repeatable.below in kept_then (later made_of.kept) (kept_less (2 * x + 1) (temp + 4) (omega arith) f.kept (λ q i j n. n)) (λ q i j n. n) (λ q i j (m, n) y. omega arith);
+      }

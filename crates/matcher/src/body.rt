@@ -1,52 +1,49 @@
 // The plane of an atom's body, from the table, the label, and the planes of the atoms inside.
 ghost use Rattle.matcher.specs.FillBody.{FillBodyPre, FillBodyPost, UnionBranchesPre};
 
+use crate::task::Task;
 use atoms::{branch_end, literal_at, record_at};
-use pattern::kind;
+use pattern::kind::Kind;
 use planes::cells::{add, blank};
 use planes::fill::{Content, fill};
 
-// Plane temp for the group x: what satisfies one of its branches.
-fn union_branches(
-    table: &[u8],
-    label: &[u8],
-    scratch: &mut [u8],
-    w: usize,
-    temp: usize,
-    x: usize,
-    branches: usize,
-)
-    requires { UnionBranchesPre table.now label.now scratch.old w temp x branches }
-    ensures { FillBodyPost table.now label.now scratch.old scratch.new w temp x }
-{
-    blank(scratch, w, temp);
-    let mut first = x + 1;
-    let mut more = branches - 1;
-    loop {
-        add(scratch, w, 2 * first + 1, temp);
-        if more == 0 {
-            return;
+impl Task<'_> {
+    // Plane temp for the group x: what satisfies one of its branches.
+    fn union_branches(&self, scratch: &mut [u8], x: usize, branches: usize)
+        requires { UnionBranchesPre self.now.table.now self.now.label.now scratch.old self.now.w self.now.temp x branches }
+        ensures { FillBodyPost self.now.table.now self.now.label.now scratch.old scratch.new self.now.w self.now.temp x }
+    {
+        blank(scratch, self.w, self.temp);
+        let mut first = x + 1;
+        for _ in 1..branches {
+            add(scratch, self.w, 2 * first + 1, self.temp);
+            first = branch_end(self.table, first);
         }
-        first = branch_end(table, first);
-        more -= 1;
+        add(scratch, self.w, 2 * first + 1, self.temp);
     }
-}
 
-// Plane temp for the body of atom x.
-pub fn fill_body(table: &[u8], label: &[u8], scratch: &mut [u8], w: usize, temp: usize, x: usize)
-    requires { FillBodyPre table.now label.now scratch.old w temp x }
-    ensures { FillBodyPost table.now label.now scratch.old scratch.new w temp x }
-{
-    let r = record_at(table, x);
-    if r.kind == kind::CODES {
-        fill(table, label, scratch, w, Content::Codes(r.a), temp);
-        return;
+    // Plane temp for the body of atom x.
+    pub fn fill_body(&self, scratch: &mut [u8], x: usize)
+        requires { FillBodyPre self.now.table.now self.now.label.now scratch.old self.now.w self.now.temp x }
+        ensures { FillBodyPost self.now.table.now self.now.label.now scratch.old scratch.new self.now.w self.now.temp x }
+    {
+        let r = record_at(self.table, x);
+        match r.kind() {
+            Some(Kind::Codes) => fill(
+                self.table,
+                self.label,
+                scratch,
+                self.w,
+                Content::Codes(r.a),
+                self.temp,
+            ),
+            Some(Kind::Literal) => {
+                let v = literal_at(self.table, x);
+                let value = Content::Literal(v.from, v.len);
+                fill(self.table, self.label, scratch, self.w, value, self.temp);
+            }
+            Some(Kind::Group) => self.union_branches(scratch, x, r.a as usize),
+            None => unreachable!(),
+        }
     }
-    if r.kind == kind::LITERAL {
-        let v = literal_at(table, x);
-        let value = Content::Literal(v.from, v.len);
-        fill(table, label, scratch, w, value, temp);
-        return;
-    }
-    union_branches(table, label, scratch, w, temp, x, r.a as usize);
 }

@@ -1,15 +1,19 @@
 -- The number returned and the area afterwards, from what the called function answers. Assumes nothing.
 use mathlib.Core.Path.{◌≡◌, refl, sym, ap, ◌∙◌}
-use Prim.Native.Nat.{◌≤◌, ◌<◌}
+use Prim.Native.Nat.{ℕ, ◌≤◌, ◌<◌}
 use lib.ListN.{length}
 use borrow.Author.Tests.{le-leb, lt-leb}
 use Rattle.pattern.specs.Numbers.{ANSWER}
 use Rattle.pattern.specs.Bytes.{Bytes, overwrite}
-use Rattle.pattern.specs.Answers.{Answer, refusal}
+use Rattle.std.specs.Prelude.{Result}
+use Rattle.pattern.specs.Answers.{Answer, refusal, MatchOutput}
+use Rattle.pattern.specs.declared.refusal.Refusal.{Refusal}
+use Rattle.matcher.specs.declared.Verdict.{Verdict}
+use Rattle.matcher.specs.Answered.{answer_of, match_output}
 use Rattle.register.specs.Maps.{Changed}
 use Rattle.search.specs.Search.{SearchOutput, search_of}
 use Rattle.mpt.specs.Area.{area_size, four_numbers, area, search_area}
-use Rattle.mpt.specs.Calls.{called_if, called, change_call, search_call}
+use Rattle.mpt.specs.Calls.{MatchLent, called_if, called, change_call, search_call}
 
 pub short_area : {Lent : Type 0} (a : Answer) (after before : Lent) (answer : Bytes) → length answer < area_size → record { number = ANSWER; lent = before; answer = answer } ≡ called a after before answer
 unfolding called called_if
@@ -24,6 +28,14 @@ long_area answer_in lent_in {o} {o'} before answer a h e f w =
     (λ i. record { number = (sym f i).number; lent = lent_in o'; answer = (w ∙ ap (λ x. overwrite (area x) answer) (sym f)) i })
     ∙ (λ i. record { number = (answer_in (e i)).number; lent = lent_in (e i); answer = overwrite (area (answer_in (e i))) answer })
     ∙ sym (ap (λ b. called_if b (answer_in o).number (area (answer_in o)) (lent_in o) before answer) (le-leb area_size (length answer) h))
+
+-- of a match: o is what it should answer and leave
+pub long_match : (o : MatchOutput) (scratch parts answer : Bytes) (budget : ℕ) (r : Result Verdict Refusal) (scratch' parts' area' : Bytes) {number : ℕ}
+    → area_size ≤ length answer → match_output budget r scratch' parts' ≡ o → number ≡ (answer_of budget r).number → area' ≡ overwrite (area (answer_of budget r)) answer
+    → record { number = number; lent = record { scratch = scratch'; parts = parts' }; answer = area' } ≡ called {Lent = MatchLent} o.answer (record { scratch = o.scratch; parts = o.parts }) (record { scratch = scratch; parts = parts }) answer
+long_match o scratch parts answer budget r scratch' parts' area' h e n w =
+    ap (λ (k : ℕ). record { number = k; lent = record { scratch = scratch'; parts = parts' }; answer = area' }) n
+    ∙ long_area (λ (o : MatchOutput). o.answer) (λ (o : MatchOutput). record { scratch = o.scratch; parts = o.parts }) _ _ (answer_of budget r) h e refl w
 
 -- of a call that changes a register: c is what it should answer and leave, o what it does
 pub short_change : (c : Changed Bytes) (lent answer : Bytes) → length answer < area_size → record { number = ANSWER; lent = lent; answer = answer } ≡ change_call c lent answer

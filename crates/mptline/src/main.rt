@@ -1,12 +1,11 @@
 // The line tool: reads lines of a source, a tab and a label, and writes an answer for each. What it does with what it
-// reads, and what it writes when, is told by lines::session.
+// reads, and what it writes when, is told by lines::session, which also says why the four buffers stand apart.
 #![tactic(auto)]
 
 ghost use Rattle.lines.specs.Chunk.{lend};
 ghost use Rattle.lines.specs.Session.{state_of, started};
-ghost use Rattle.lines.specs.Trace.{Moves};
 ghost use Rattle.lines.specs.Invariant.{Sound};
-ghost use Rattle.mptline.specs.Run.{RunPost};
+ghost use Rattle.mptline.specs.Run.{WriteStep, ReadStep, RunPost};
 ghost use Rattle.lines.specs.declared.session.Next.TheVariants.{Write, Read, Stop};
 
 use lines::chunk::Pending;
@@ -19,6 +18,7 @@ use std::io::{Read, Write};
 const BUFFER_SIZE: usize = 65536;
 
 // Writes what is to be written.
+#[tactic(auto, unfolding(lines::specs::Invariant::NextIn))]
 fn write<W: Write>(
     output: &mut W,
     p: Pending,
@@ -28,14 +28,14 @@ fn write<W: Write>(
     out: &mut [u8],
 ) -> Next
     requires { Sound (state_of (Write p) buf.old line.old scratch.old out.old) }
-    ensures { Moves (state_of (Write p) buf.old line.old scratch.old out.old) (state_of result buf.new line.new scratch.new out.new) }
+    ensures { WriteStep (state_of (Write p) buf.old line.old scratch.old out.old) (state_of result buf.new line.new scratch.new out.new) (W.contents output.old) (W.contents output.new) }
 {
-    let end = p.end;
-    let wrote = output.write_all(&out[..end]).is_ok();
+    let wrote = output.write_all(&out[..p.end]).is_ok();
     session::after_write(p, wrote, buf, line, scratch, out)
 }
 
 // Reads once.
+#[tactic(auto, unfolding(lines::specs::Invariant::NextIn))]
 fn read<R: Read>(
     input: &mut R,
     held: usize,
@@ -45,17 +45,14 @@ fn read<R: Read>(
     out: &mut [u8],
 ) -> Next
     requires { Sound (state_of (Read held) buf.old line.old scratch.old out.old) }
-    ensures { Moves (state_of (Read held) buf.old line.old scratch.old out.old) (state_of result buf.new line.new scratch.new out.new) }
+    ensures { ReadStep (state_of (Read held) buf.old line.old scratch.old out.old) (state_of result buf.new line.new scratch.new out.new) (R.remaining input.old) (R.remaining input.new) }
 {
-    let got = match input.read(buf) {
-        Ok(n) => n as isize,
-        Err(_) => -1,
-    };
+    let got = input.read(buf).ok();
     session::after_read(held, got, buf, line, scratch, out)
 }
 
-// Reads and writes until it is told to stop. A proved loop has to end, so its turns are counted down from a number that no
-// run uses up in practice; what is answered says which it was.
+// Reads and writes until it is told to stop. A proved loop has to end, so its turns are counted up to a number that no
+// run reaches in practice; what is answered says which it was.
 fn run<R: Read, W: Write>(
     input: &mut R,
     output: &mut W,
@@ -66,23 +63,15 @@ fn run<R: Read, W: Write>(
     out: &mut [u8],
 ) -> Next
     requires { Sound (state_of first buf.old line.old scratch.old out.old) }
-    ensures { RunPost (state_of first buf.old line.old scratch.old out.old) (state_of result buf.new line.new scratch.new out.new) }
+    ensures { RunPost (state_of first buf.old line.old scratch.old out.old) (state_of result buf.new line.new scratch.new out.new) (R.remaining input.old) (R.remaining input.new) (W.contents output.old) (W.contents output.new) }
 {
     let mut next = first;
-    let mut turns = u64::MAX;
-    while turns > 0 {
-        match next {
-            Next::Write(p) => {
-                next = write(output, p, buf, line, scratch, out);
-            }
-            Next::Read(held) => {
-                next = read(input, held, buf, line, scratch, out);
-            }
-            Next::Stop => {
-                return next;
-            }
-        }
-        turns -= 1;
+    for _ in 0..u64::MAX {
+        next = match next {
+            Next::Write(p) => write(output, p, buf, line, scratch, out),
+            Next::Read(held) => read(input, held, buf, line, scratch, out),
+            Next::Stop => return next,
+        };
     }
     next
 }
@@ -97,7 +86,7 @@ fn answer_input<R: Read, W: Write>(
     out: &mut [u8],
 ) -> Next
     requires { Sound (state_of Stop buf.old line.old scratch.old out.old) }
-    ensures { RunPost (started buf.old (lend line.old scratch.old out.old)) (state_of result buf.new line.new scratch.new out.new) }
+    ensures { RunPost (started buf.old (lend line.old scratch.old out.old)) (state_of result buf.new line.new scratch.new out.new) (R.remaining input.old) (R.remaining input.new) (W.contents output.old) (W.contents output.new) }
 {
     let first = session::start(out);
     run(input, output, first, buf, line, scratch, out)

@@ -1,5 +1,6 @@
 pub mod Tests
 pub mod Stores
+pub mod KindBytes
 pub mod Pairs
 pub mod Stretch
 pub mod FewBodies
@@ -35,3 +36,4 @@ pub mod Versions
 pub mod Classes
 pub mod EveryByte
 pub mod Demands
+pub mod Refusals

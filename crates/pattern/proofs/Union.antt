@@ -8,7 +8,7 @@ use lib.Bits.{bit_or, or_mod, or_shr}
 use lib.Dec.{eqb}
 use Rattle.pattern.specs.Bytes.{Bytes}
 use Rattle.pattern.specs.Codes.{Code, all_codes, in_ranges, in_codes, in_set, bit, in_letters}
-use Rattle.pattern.specs.Grammar.{Letters, one, more}
+use Rattle.pattern.specs.Grammar.{Letters}
 
 -- the lowest bit
 odd_or : (s t : ℕ) → eqb (bit_or s t % 2) 1 ≡ (eqb (s % 2) 1 || eqb (t % 2) 1)

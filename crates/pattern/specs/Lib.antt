@@ -19,3 +19,5 @@ pub mod Table
 pub mod Decode
 pub mod Answers
 pub mod Repeats
+pub mod Refusals
+pub mod Kinds

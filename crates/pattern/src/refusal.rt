@@ -1,36 +1,54 @@
-// The refusal numbers of the paper.
-pub const LONG: u32 = 1;
+// The refusals of the paper.
+ghost use Rattle.std.specs.Prelude.{◌≡◌};
+ghost use Rattle.pattern.specs.Refusals.{number_of};
 
-pub const FORM: u32 = 2;
+// A refusal, by its name; its number is the discriminant.
+#[derive(Clone, Copy, PartialEq, Eq)]
+pub enum Refusal {
+    Long = 1,
+    Form = 2,
+    Code = 3,
+    Number = 4,
+    Range = 5,
+    Atoms = 6,
+    Depth = 7,
+    Room = 8,
+    Answer = 9,
+    Table = 11,
+    Label = 12,
+    Work = 13,
+    Parts = 14,
+    Budget = 15,
+    Batch = 16,
+    Full = 17,
+    Register = 18,
+    Missing = 19,
+}
 
-pub const CODE: u32 = 3;
+// A refusal and its position.
+#[derive(Clone, Copy)]
+pub struct Fault {
+    pub refusal: Refusal,
+    pub position: usize,
+}
 
-pub const NUMBER: u32 = 4;
+impl Refusal {
+    // The refusal with its position.
+    pub fn at(self, position: usize) -> Fault
+        ensures { result ≡ record { refusal = self; position = position } }
+    {
+        Fault {
+            refusal: self,
+            position,
+        }
+    }
+}
 
-pub const RANGE: u32 = 5;
+impl From<Refusal> for u32 {
+    // The number of a refusal.
+    ghost from_gives = { λ r n. n ≡ number_of r };
 
-pub const ATOMS: u32 = 6;
-
-pub const DEPTH: u32 = 7;
-
-pub const ROOM: u32 = 8;
-
-pub const ANSWER: u32 = 9;
-
-pub const TABLE: u32 = 11;
-
-pub const LABEL: u32 = 12;
-
-pub const WORK: u32 = 13;
-
-pub const PARTS: u32 = 14;
-
-pub const BUDGET: u32 = 15;
-
-pub const BATCH: u32 = 16;
-
-pub const FULL: u32 = 17;
-
-pub const REGISTER: u32 = 18;
-
-pub const MISSING: u32 = 19;
+    fn from(refusal: Refusal) -> u32 {
+        refusal as u32
+    }
+}

@@ -10,7 +10,7 @@ pub struct Repeat {
 }
 
 impl Repeat {
-    // The high number that stands for no upper end.
+    // The high number that stands for no upper end. No `Option`: a table's record holds this very number beside the low one.
     pub const OPEN: u16 = 65535;
 
     // n

@@ -4,14 +4,14 @@ use mathlib.Core.Bool.{Bool, true, false, ◌||◌}
 use mathlib.Core.List.{List}
 use mathlib.Core.Logic.{⊎_elim}
 use Prim.Native.Nat.{ℕ, ◌+◌, ◌*◌, ◌/◌, ◌%◌, ◌≤◌, ◌<◌}
-use native.Mathlib.Nat.{one-mul, mul-le-mul_right, add-mul, mod-lt, div-add-mod', div-lt_iff_lt-mul, eq-or-lt_of_le}
+use native.Mathlib.Nat.{add-mul, mod-lt, div-add-mod', div-lt_iff_lt-mul, eq-or-lt_of_le}
 use native.Mathlib.Omega.{arith}
 use lib.Arith.{digits_lt, digits_div, digits_mod}
 use lib.Bits.{bit_or}
 use lib.ListN.{length, get_or, set, length-set}
 use Rattle.planes.specs.Cells.{cell_index, cell, InRoom, bit_of, on, Kept, Others}
 use Rattle.planes.specs.Whole.{BlankPost, AddPre, AddPost}
-use Rattle.planes.proofs.Planes.{index_in, set_here, set_kept, kept_all, kept_then, kept_less}
+use Rattle.planes.proofs.Planes.{set_here, set_kept, kept_all, kept_then, kept_less}
 
 -- the first k cells of plane out are those of f, and all others are as they were
 pub record PassAt (s₀ : List ℕ) (w out : ℕ) (f : ℕ → ℕ → ℕ) (s : List ℕ) (k : ℕ) : Type 0 where
@@ -39,9 +39,6 @@ module _ (s₀ : List ℕ) (w out : ℕ) (f : ℕ → ℕ → ℕ) where
       pass_cell : (p : ℕ) → cell_index w p 0 0 + k ≡ cell_index w p (k / w) (k % w)
       pass_cell p = omega (arith, add-mul (p * w) (k / w) w, div-add-mod' k w)
 
-      pub pass_in : (p : ℕ) → InRoom s₀ w p → cell_index w p 0 0 + k < length s
-      pass_in p room = rw (pass_cell p, inv.long) (index_in w p (k / w) (k % w) row column room)
-
       -- what is still to be passed is as it was
       pub pass_same : (p : ℕ) → get_or s (cell_index w p 0 0 + k) 0 ≡ cell s₀ w p (k / w) (k % w)
       pass_same p = rw (pass_cell p) (inv.kept.same p (k / w) (k % w) row column (λ e l. omega (arith, div-add-mod' k w)))
@@ -61,9 +58,6 @@ module _ (s₀ : List ℕ) (w out : ℕ) (f : ℕ → ℕ → ℕ) where
             kept = kept_then inv.kept m (λ q i j n e l. n e (omega arith)) (λ q i j n e a b. n e (omega (arith, div-add-mod' k w, ap (λ (x : ℕ). x * w) a)));
           }
 
-pub pass_len : (s : List ℕ) (w p : ℕ) → InRoom s w p → w * w ≤ length s
-pass_len s w p room = let some : 1 ≤ p + 1 = omega arith in omega (arith, mul-le-mul_right w (mul-le-mul_right w some), one-mul w)
-
 pub blank_end : (s₀ : List ℕ) (w out : ℕ) (s : List ℕ) (k : ℕ) → PassAt s₀ w out (λ i j. 0) s k → w * w ≤ k → BlankPost s₀ s w out
 blank_end s₀ w out s k inv h =
     let (all, rest) = pass_end s₀ w out (λ i j. 0) s k inv h in
@@ -71,14 +65,14 @@ blank_end s₀ w out s k inv h =
 
 -- ---- one plane added to another
 
-or_bits : (a b : Bool) → bit_or (bit_of a) (bit_of b) ≡ bit_of (a || b)
+or_bits : (a b : Bool) → bit_or (bit_of b) (bit_of a) ≡ bit_of (a || b)
 or_bits true true = refl
 or_bits true false = refl
 or_bits false true = refl
 or_bits false false = refl
 
 abbrev pub either : List ℕ → ℕ → ℕ → ℕ → ℕ → ℕ → ℕ
-either s w from out i j = bit_or (cell s w from i j) (cell s w out i j)
+either s w from out i j = bit_or (cell s w out i j) (cell s w from i j)
 
 pub add_end : (s₀ : List ℕ) (w from out : ℕ) → AddPre s₀ w from out → (s : List ℕ) (k : ℕ) → PassAt s₀ w out (either s₀ w from out) s k → w * w ≤ k → AddPost s₀ s w from out
 add_end s₀ w from out ok s k inv h =
@@ -89,7 +83,7 @@ add_end s₀ w from out ok s k inv h =
             let a = ok.added.flags.holds i j hi hj in
             let b = ok.into.flags.holds i j hi hj in
             let or = or_bits (on s₀ w from i j) (on s₀ w out i j) in
-            record { by_begin = all i j (omega arith) hj ∙ ap₂ bit_or a.by_begin b.by_begin ∙ or; by_end = all j i hj (omega arith) ∙ ap₂ bit_or a.by_end b.by_end ∙ or };
+            record { by_begin = all i j (omega arith) hj ∙ ap₂ bit_or b.by_begin a.by_begin ∙ or; by_end = all j i hj (omega arith) ∙ ap₂ bit_or b.by_end a.by_end ∙ or };
       };
       kept = rest;
     }

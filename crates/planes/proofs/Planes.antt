@@ -24,9 +24,6 @@ module _ (w p i j : ℕ) (hi : i < w) (hj : j < w) where
   pub index_in : {n : ℕ} → (p + 1) * w * w ≤ n → cell_index w p i j < n
   index_in h = omega (arith, index_below (p + 1) (omega arith))
 
-  pub row_le : p * w + i ≤ (p * w + i) * w
-  row_le = omega (arith, mul-le-mul_left (p * w + i) (some hi), mul-one (p * w + i))
-
   -- two cells with one index are one cell
   index_inj : (p' i' j' : ℕ) → i' < w → j' < w → cell_index w p i j ≡ cell_index w p' i' j' → (p ≡ p') × (i ≡ i') × (j ≡ j')
   index_inj p' i' j' hi' hj' e =

@@ -5,8 +5,6 @@ use Prim.Native.Nat.{ℕ, suc, ◌+◌, ◌-◌, ◌≤◌, ◌<◌}
 use native.Mathlib.Omega.{arith}
 use Rattle.pattern.specs.Decision.{any}
 use Rattle.pattern.specs.Trials.{tries}
-use Rattle.planes.specs.declared.join.Search.{Search}
-use Rattle.planes.specs.declared.join.Search.TheVariants.{Found, Missing, Stopped}
 
 -- the ends m down to i are still to be tried; p is asked how far an end is from i
 pub record SearchAt (p : ℕ → Bool) (i j budget trials spent m : ℕ) : Type 0 where
@@ -22,18 +20,12 @@ pub record Searched (p : ℕ → Bool) (i j budget trials spent : ℕ) (f : Bool
   pub count : spent ≡ trials + tries (suc j - i) p
   pub finds : any (suc j - i) p ≡ f
 
--- an end was found, and it holds
+-- it is over, and the end m holds
 pub record FoundAt (p : ℕ → Bool) (i j budget trials spent m : ℕ) : Type 0 where
   pub searched : Searched p i j budget trials spent true
   pub from : i ≤ m
   pub to : m ≤ j
   pub holds : p (m - i) ≡ true
-
--- what the search answers, after spent trials
-abbrev pub Says : (p : ℕ → Bool) (i j budget trials spent : ℕ) → Search → Type 0
-Says p i j budget trials spent (Found m) = FoundAt p i j budget trials spent m
-Says p i j budget trials spent Missing = Searched p i j budget trials spent false
-Says p i j budget trials spent Stopped = budget < trials + tries (suc j - i) p
 
 module _ (p : ℕ → Bool) where
   tries_none : tries 0 p ≡ 0
@@ -84,11 +76,12 @@ module _ {p : ℕ → Bool} {i j budget trials spent m : ℕ} (inv : SearchAt p 
   same : any (suc (m - i)) p ≡ any (suc j - i) p
   same = rw left at inv.same
 
-  pub search_stop : spent ≡ budget → Says p i j budget trials spent Stopped
+  -- it stops where the budget is spent
+  pub search_stop : spent ≡ budget → budget < trials + tries (suc j - i) p
   search_stop e = omega (arith, count, tries_some p (m - i))
 
   module _ (n : spent ≡ budget → ⊥) where
-    pub search_hit : p (m - i) ≡ true → Says p i j budget trials (spent + 1) (Found m)
+    pub search_hit : p (m - i) ≡ true → FoundAt p i j budget trials (spent + 1) m
     search_hit e =
         record {
           searched = record { within = omega (arith, inv.within); count = omega (arith, count, tries_hit p (m - i) e); finds = sym same ∙ any_hit p (m - i) e };
@@ -98,7 +91,7 @@ module _ {p : ℕ → Bool} {i j budget trials spent m : ℕ} (inv : SearchAt p 
         }
 
     module _ (e : p (m - i) ≡ false) where
-      pub search_none : m ≡ i → Says p i j budget trials (spent + 1) Missing
+      pub search_none : m ≡ i → Searched p i j budget trials (spent + 1) false
       search_none z =
           let o : m - i ≡ 0 = omega arith in
           let none : tries (m - i) p ≡ 0 = rw o (tries_none p) in

@@ -1,9 +1,10 @@
 -- Powers of a body: what the loop over the number of bodies asks and promises. Private: a model for contracts inside the library.
-use Rattle.std.specs.Prelude.{◌≡◌, false, ◌&&◌, ◌||◌, List, ℕ, suc, ◌+◌, ◌*◌, ◌≤◌, ◌<◌, eqb, leb, length}
+use Rattle.std.specs.Prelude.{◌≡◌, false, ◌&&◌, ◌||◌, List, Option, ℕ, suc, ◌+◌, ◌*◌, ◌≤◌, ◌<◌, eqb, leb, length}
+use Rattle.std.specs.Option.{OnSome}
 use Rattle.pattern.specs.Decision.{Rel, any, power}
 use Rattle.pattern.specs.Trials.{sum, joins}
-use Rattle.planes.specs.declared.join.Tally.{Tally}
 use Rattle.planes.specs.Cells.{Plane, Kept, Others, on}
+use Rattle.planes.specs.declared.budget.Budget.{Budget}
 use Rattle.planes.specs.Budget.{Counted}
 
 -- s and s' are the lists before and after
@@ -32,7 +33,7 @@ pub record RepeatBodyPre (s : List ℕ) (w temp out : ℕ) : Type 0 where
 abbrev pub Elsewhere : ℕ → ℕ → ℕ → ℕ → ℕ → Type 0
 Elsewhere temp out q i j = (q ≡ out → ⊥) × (q ≡ temp + 1 → ⊥) × (q ≡ temp + 2 → ⊥)
 
-pub record RepeatBodyPost (s s' : List ℕ) (w temp out low times budget trials : ℕ) (r : Tally) : Type 0 where
-  pub counted : Counted budget (trials + sum times (body_trials w (on s w temp))) r.trials r.stopped
-  pub whole : r.stopped ≡ false → Plane s' w out (fewer (on s w temp) low (suc times))
+pub record RepeatBodyPost (s s' : List ℕ) (w temp out low times : ℕ) (budget : Budget) (r : Option Budget) : Type 0 where
+  pub counted : Counted budget (sum times (body_trials w (on s w temp))) r
+  pub whole : OnSome r (Plane s' w out (fewer (on s w temp) low (suc times)))
   pub kept : Kept s s' w (temp + 4) (Elsewhere temp out)

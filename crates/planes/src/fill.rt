@@ -1,11 +1,11 @@
 // Planes that need no trial: what they are filled with is of one length, so one stretch for each place is looked at.
-ghost use Rattle.std.specs.Prelude.{◌≡◌, ◌+◌, ◌≤◌, length};
-ghost use Rattle.planes.specs.Fill.{span, Fit, FillPre, held_in, FillPost};
+ghost use Rattle.planes.specs.Fill.{FillPre, FillPost};
+ghost use Rattle.planes.specs.Stretches.{FillStretchesPre, FillStretchesPost};
 
 use crate::cells::{blank, set_stretch};
 use stores::equal;
 
-// What a plane is filled with: the empty stretches; one byte of a set; some bytes from a place of the table on.
+// What a plane is filled with: the empty stretches; one byte of a set; some bytes from a place of the table on, which `FillPost` names.
 #[derive(Clone, Copy)]
 pub enum Content {
     Empty,
@@ -13,35 +13,30 @@ pub enum Content {
     Literal(usize, usize),
 }
 
-// The length of the stretches that a plane is filled with.
-fn width(content: Content) -> usize
-    ensures { result ≡ span content }
+// Plane out: of the stretches of n bytes those that held is true of, which is told where each begins.
+fn fill_stretches<F: Fn(usize) -> bool>(scratch: &mut [u8], w: usize, out: usize, n: usize, held: F)
+    requires { FillStretchesPre scratch.old w out n (F.pre held) }
+    ensures { FillStretchesPost scratch.old scratch.new w out n (F.post held) }
 {
-    match content {
-        Content::Empty => 0,
-        Content::Codes(_) => 1,
-        Content::Literal(_, len) => len,
+    blank(scratch, w, out);
+    for j in n..w {
+        let i = j - n;
+        set_stretch(scratch, w, out, i, j, held(i));
     }
 }
 
-// Plane out, with what it is to be filled with: of each place the stretch of that length that ends there. A literal's length is
-// taken from n, which is set for every content.
+// Plane out, with what it is to be filled with.
 pub fn fill(table: &[u8], label: &[u8], scratch: &mut [u8], w: usize, content: Content, out: usize)
     requires { FillPre table.now label.now scratch.old w content out }
     ensures { FillPost table.now label.now scratch.old scratch.new w content out }
 {
-    blank(scratch, w, out);
-    let n = width(content);
-    let mut j = n;
-    while j < w {
-        let i = j - n;
-        let kind = content;
-        let held = match kind {
-            Content::Empty => true,
-            Content::Codes(set) => codes::in_set(set, label[i]),
-            Content::Literal(from, _) => equal(label, i, table, from, n),
-        };
-        set_stretch(scratch, w, out, i, j, held);
-        j += 1;
+    match content {
+        Content::Empty => fill_stretches(scratch, w, out, 0, |_| true),
+        Content::Codes(set) => {
+            fill_stretches(scratch, w, out, 1, |i| codes::in_set(set, label[i]))
+        }
+        Content::Literal(from, len) => {
+            fill_stretches(scratch, w, out, len, |i| equal(label, i, table, from, len))
+        }
     }
 }

@@ -1,12 +1,12 @@
 -- A run of stores that is under way. Assumes nothing.
 use mathlib.Core.Path.{◌≡◌, refl, sym, ap, ◌∙◌}
-use mathlib.Core.List.{[], ◌∷◌, ◌++◌, append_assoc, append-nil}
+use mathlib.Core.List.{[], ◌++◌, append_assoc, append-nil}
 use Prim.Native.Nat.{ℕ, ◌+◌, ◌≤◌}
 use native.Mathlib.Omega.{arith}
-use lib.ListN.{length, set}
+use lib.ListN.{length}
 use Rattle.pattern.specs.Bytes.{Bytes}
 use Rattle.pattern.specs.Stores.{Puts}
-use Rattle.pattern.proofs.Stores.{puts_none, puts_byte, puts_then, puts_length, puts_room, puts_as}
+use Rattle.pattern.proofs.Stores.{puts_none, puts_then, puts_length, puts_room, puts_as}
 
 -- of v, to be stored in l from n on, all but rest is stored
 pub record Partly (l : Bytes) (n : ℕ) (v l' : Bytes) (m : ℕ) (rest : Bytes) : Type 0 where
@@ -24,9 +24,6 @@ module _ {l : Bytes} {n : ℕ} {v l' : Bytes} {m : ℕ} where
   pub partly_then : (u r : Bytes) {l'' : Bytes} {k : ℕ} → Partly l n v l' m (u ++ r) → Puts l' m u l'' k → Partly l n v l'' k r
   partly_then u r h g =
       record { done = h.done ++ u; puts = puts_then h.puts g; split = append_assoc h.done u r ∙ h.split }
-
-  pub partly_byte : {b : ℕ} {r : Bytes} → Partly l n v l' m (b ∷ r) → Partly l n v (set l' m b) (m + 1) r
-  partly_byte {b} {r} h = partly_then (b ∷ []) r h (puts_byte l' m b)
 
   pub partly_end : Partly l n v l' m [] → Puts l n v l' m
   partly_end h = puts_as h.puts (sym (append-nil h.done) ∙ h.split)

@@ -3,7 +3,7 @@ use mathlib.Core.Path.{◌≡◌, refl, sym, ap, ◌∙◌}
 use mathlib.Core.List.{[], ◌∷◌, ◌++◌, append_assoc, append-nil}
 use Prim.Native.Nat.{ℕ, zero, suc, ◌+◌, ◌-◌, ◌<◌, ◌≤◌}
 use native.Mathlib.Omega.{arith}
-use lib.ListN.{length, set, take, drop, length-append, length-set}
+use lib.ListN.{length, set, take, drop, length-append}
 use Rattle.pattern.specs.Numbers.{quote_byte, opening_byte, closing_byte, comma_byte, codes_kind, group_kind, literal_kind}
 use Rattle.pattern.specs.Bytes.{Bytes}
 use Rattle.pattern.specs.Codes.{all_codes}
@@ -13,7 +13,7 @@ use Rattle.pattern.specs.Print.{print_count, print_set, double, print}
 use Rattle.pattern.specs.Decode.{high_of}
 use Rattle.pattern.specs.Stores.{Puts}
 use Rattle.pattern.proofs.RoundTrip.{some_atom, some_pattern}
-use Rattle.pattern.proofs.Stores.{puts_byte, puts_then, puts_more, puts_length, puts_room, puts_as}
+use Rattle.pattern.proofs.Stores.{puts_then, puts_room, puts_as}
 use Rattle.pattern.proofs.Stretch.{slice_take}
 use Rattle.table.specs.declared.record.Record.{Record}
 use Rattle.atoms.specs.Atoms.{atoms, node, branches_from, head, body_of}
@@ -74,11 +74,11 @@ pub record PatternAt (table out₀ : Bytes) (start : Progress) (out : Bytes) (no
   pub ends : now.atom + size (node table now.atom) ≡ start.atom + size (node table start.atom)
   pub text : Partly out₀ start.at (print (node table start.atom)) out now.at (print (node table now.atom))
 
-pub pattern_start : {table out : Bytes} (start : Progress) → WritePatternPre table out start.atom start.at → PatternAt table out start out start
+pub pattern_start : {table out : Bytes} (start : Progress) → WritePatternPre table out start → PatternAt table out start out start
 pattern_start start p = record { there = p.atom.there; on = omega arith; ends = refl; text = partly_start _ _ _ }
 
-module _ {table out₀ : Bytes} {start : Progress} {out : Bytes} {now : Progress} (pre : WritePatternPre table out₀ start.atom start.at) (h : PatternAt table out₀ start out now) where
-  pub pattern_atom : {r : Record} → RecordOf table now.atom r → WriteAtomPre table out r now.atom now.at
+module _ {table out₀ : Bytes} {start : Progress} {out : Bytes} {now : Progress} (pre : WritePatternPre table out₀ start) (h : PatternAt table out₀ start out now) where
+  pub pattern_atom : {r : Record} → RecordOf table now.atom r → WriteAtomPre table out r now
   pattern_atom got =
       let (v, e) = print_first (node table now.atom) in
       record {
@@ -121,8 +121,8 @@ unfolding branches_from print
 print_branch table zero x = ([], sym (append-nil (print (node table x))))
 print_branch table (suc more) x = (comma_byte ∷ print (branches_from table more (x + size (node table x))), refl)
 
-module _ {table out₀ : Bytes} {start : Progress} {k : ℕ} {out : Bytes} {now : Progress} {more : ℕ} (pre : WriteGroupPre table out₀ start.atom start.at k) (h : GroupAt table out₀ start (k - 1) out now more) where
-  pub group_pattern : WritePatternPre table out now.atom now.at
+module _ {table out₀ : Bytes} {start : Progress} {k : ℕ} {out : Bytes} {now : Progress} {more : ℕ} (pre : WriteGroupPre table out₀ start k) (h : GroupAt table out₀ start (k - 1) out now more) where
+  pub group_pattern : WritePatternPre table out now
   group_pattern =
       let (v, e) = print_branch table more now.atom in
       record {
@@ -142,56 +142,58 @@ module _ {table out₀ : Bytes} {start : Progress} {k : ℕ} {out : Bytes} {now 
           let (e, s) = print_or _ _ (branches_more table more now.atom n) in
           puts_room w.puts (comma_byte ∷ []) (omega (arith, partly_room h.text pre.room, ap length e, length-append (print (node table now.atom) ++ comma_byte ∷ []) (print (branches_from table (more - 1) (now.atom + size (node table now.atom))))))
 
-      pub group_next : GroupAt table out₀ start (k - 1) (set out' x.at comma_byte) (record { atom = x.atom; at = x.at + 1 }) (more - 1)
-      group_next =
+      pub group_next : {out'' : Bytes} {at less : ℕ} → Puts out' x.at (comma_byte ∷ []) out'' at → less ≡ more - 1 → GroupAt table out₀ start (k - 1) out'' (record { atom = x.atom; at = at }) less
+      group_next p l =
           let (e, s) = print_or _ _ (branches_more table more now.atom n) in
-          rw w.next record {
+          rw (w.next, l) record {
             on = omega (arith, h.on);
             ends = omega (arith, s, h.ends);
-            text = partly_then _ _ (partly_as e h.text) (puts_more w.puts comma_byte);
+            text = partly_then _ _ (partly_as e h.text) (puts_then w.puts p);
           }
 
 -- ---- an atom
 
-pub count_room : {table out : Bytes} {x n : ℕ} {r : Record} → WriteAtomPre table out r x n → Fits r.low (high_of r.high) × (n + length (count_of r) ≤ length out)
-count_room {table} {out} {x} {n} {r} p = (p.got.fits, omega (arith, p.room, ap length (print_atom r _ p.got.count), length-append (count_of r) (print (body_of (head (node table x))))))
+pub count_room : {table out : Bytes} {from : Progress} {r : Record} → WriteAtomPre table out r from → Fits r.low (high_of r.high) × (from.at + length (count_of r) ≤ length out)
+count_room {table} {out} {from} {r} p = (p.got.fits, omega (arith, p.room, ap length (print_atom r _ p.got.count), length-append (count_of r) (print (body_of (head (node table from.atom))))))
 
--- the count of the atom at x was written
-pub record CountWritten (table out : Bytes) (x n : ℕ) (r : Record) (out₁ : Bytes) (m : ℕ) : Type 0 where
-  pub pre : WriteAtomPre table out r x n
-  pub puts : Puts out n (count_of r) out₁ m
+-- the count of an atom was written
+module _ {table out : Bytes} {from : Progress} {r : Record} {out₁ : Bytes} {m : ℕ} (pre : WriteAtomPre table out r from) (count : Puts out from.at (count_of r) out₁ m) where
+  abbrev x : ℕ
+  x = from.atom
 
-module _ {table out : Bytes} {x n : ℕ} {r : Record} {out₁ : Bytes} {m : ℕ} (g : CountWritten table out x n r out₁ m) where
+  abbrev n : ℕ
+  n = from.at
+
   abbrev b : Syntax body
   b = body_of (head (node table x))
 
   -- the body has room, and with it the atom is written
   body_room : (v : Bytes) → print b ≡ v → m + length v ≤ length out₁
-  body_room v e = puts_room g.puts v (omega (arith, g.pre.room, ap length (print_atom r b g.pre.got.count ∙ ap (λ (y : Bytes). count_of r ++ y) e)))
+  body_room v e = puts_room count v (omega (arith, pre.room, ap length (print_atom r b pre.got.count ∙ ap (λ (y : Bytes). count_of r ++ y) e)))
 
   body_puts : {v out₂ : Bytes} {z : ℕ} → print b ≡ v → Puts out₁ m v out₂ z → Puts out n (print (head (node table x))) out₂ z
-  body_puts e p = puts_as (puts_then g.puts p) (sym (print_atom r b g.pre.got.count ∙ ap (λ (y : Bytes). count_of r ++ y) e))
+  body_puts e p = puts_as (puts_then count p) (sym (print_atom r b pre.got.count ∙ ap (λ (y : Bytes). count_of r ++ y) e))
 
   leaf_post : {v out₂ : Bytes} {z : ℕ} → (r.kind ≡ group_kind → ⊥) → print b ≡ v → Puts out₁ m v out₂ z
       → WritePost (print (head (node table x))) (x + size (head (node table x))) out n (record { atom = x + 1; at = z }) out₂
-  leaf_post k e p = record { puts = body_puts e p; next = omega (arith, g.pre.got.next_leaf k) }
+  leaf_post k e p = record { puts = body_puts e p; next = omega (arith, pre.got.next_leaf k) }
 
   -- codes
   module _ (k : r.kind ≡ codes_kind) where
     pub letters_room : m + length (print_set all_codes r.a) ≤ length out₁
-    letters_room = body_room _ (print_codes _ (g.pre.got.is_codes k))
+    letters_room = body_room _ (print_codes _ (pre.got.is_codes k))
 
     pub letters_post : {out₂ : Bytes} {z : ℕ} → Puts out₁ m (print_set all_codes r.a) out₂ z
         → WritePost (print (head (node table x))) (x + size (head (node table x))) out n (record { atom = x + 1; at = z }) out₂
-    letters_post = leaf_post (λ e. omega arith) (print_codes _ (g.pre.got.is_codes k))
+    letters_post = leaf_post (λ e. omega arith) (print_codes _ (pre.got.is_codes k))
 
   -- a literal, as the code cuts it out of the table
-  module _ (k : r.kind ≡ literal_kind) {from len : ℕ} (v : LiteralAt table x from len) where
+  module _ (k : r.kind ≡ literal_kind) {start len : ℕ} (v : LiteralAt table x start len) where
     abbrev value : Bytes
-    value = take (from + len - from) (drop from table)
+    value = take (start + len - start) (drop start table)
 
     value_is : print b ≡ quote_byte ∷ double value ++ quote_byte ∷ []
-    value_is = print_literal value (v.is ∙ ap literal (slice_take table from (from + len)))
+    value_is = print_literal value (v.is ∙ ap literal (slice_take table start (start + len)))
 
     pub literal_room : m + length (quote_byte ∷ double value ++ quote_byte ∷ []) ≤ length out₁
     literal_room = body_room _ value_is
@@ -211,23 +213,21 @@ module _ {table out : Bytes} {x n : ℕ} {r : Record} {out₁ : Bytes} {m : ℕ}
     pub open_room : m + 1 ≤ length out₁
     open_room = omega (arith, whole_room, length-append (opening_byte ∷ print bs) (closing_byte ∷ []))
 
-    pub inner_pre : WriteGroupPre table (set out₁ m opening_byte) (x + 1) (m + 1) r.a
-    inner_pre = record {
-      good = g.pre.atom.good;
-      some = h.some;
-      within = h.within;
-      room = omega (arith, whole_room, length-append (opening_byte ∷ print bs) (closing_byte ∷ []), length-set out₁ m opening_byte);
-    }
+    module _ {out₂ : Bytes} {at : ℕ} (opened : Puts out₁ m (opening_byte ∷ []) out₂ at) where
+      pub inner_pre : WriteGroupPre table out₂ (record { atom = x + 1; at = at }) r.a
+      inner_pre = record {
+        good = pre.atom.good;
+        some = h.some;
+        within = h.within;
+        room = puts_room opened (print bs) (omega (arith, whole_room, length-append (opening_byte ∷ print bs) (closing_byte ∷ [])));
+      }
 
-    module _ {y : Progress} {out₂ : Bytes} (w : WritePost (print bs) (x + 1 + size bs) (set out₁ m opening_byte) (m + 1) y out₂) where
-      inner : Puts out₁ m ((opening_byte ∷ []) ++ print bs) out₂ y.at
-      inner = puts_then (puts_byte out₁ m opening_byte) w.puts
+      module _ {y : Progress} {out₃ : Bytes} (w : WritePost (print bs) (x + 1 + size bs) out₂ at y out₃) where
+        inner : Puts out₁ m ((opening_byte ∷ []) ++ print bs) out₃ y.at
+        inner = puts_then opened w.puts
 
-      pub close_room : y.at + 1 ≤ length out₂
-      close_room = puts_room inner (closing_byte ∷ []) whole_room
+        pub close_room : y.at + 1 ≤ length out₃
+        close_room = puts_room inner (closing_byte ∷ []) whole_room
 
-      pub close_fits : y.at + 1 ≤ length out
-      close_fits = omega (arith, close_room, puts_length inner, puts_length g.puts)
-
-      pub group_post : WritePost (print (head (node table x))) (x + size (head (node table x))) out n (record { atom = y.atom; at = y.at + 1 }) (set out₂ y.at closing_byte)
-      group_post = record { puts = body_puts (print_group bs h.is) (puts_more inner closing_byte); next = omega (arith, w.next, h.sized) }
+        pub group_post : {out₄ : Bytes} {z : ℕ} → Puts out₃ y.at (closing_byte ∷ []) out₄ z → WritePost (print (head (node table x))) (x + size (head (node table x))) out n (record { atom = y.atom; at = z }) out₄
+        group_post closed = record { puts = body_puts (print_group bs h.is) (puts_then inner closed); next = omega (arith, w.next, h.sized) }

@@ -1,5 +1,6 @@
 -- What writing back answers, by what the test of the table says. Assumes nothing.
 use mathlib.Core.Path.{◌≡◌, sym, ap, ◌∙◌}
+use Rattle.std.specs.Prelude.{None, Ok, Err}
 use Prim.Native.Nat.{ℕ, ◌<◌, ◌≤◌}
 use native.Mathlib.Omega.{arith}
 use lib.ListN.{length}
@@ -10,20 +11,20 @@ use Rattle.pattern.specs.Stores.{Puts}
 use Rattle.pattern.specs.Decode.{tree_of, decode}
 use Rattle.pattern.specs.Answers.{result, written_back, write_of}
 use Rattle.pattern.proofs.RoundTrip.{some_pattern}
-use Rattle.pattern.proofs.Stores.{puts_as, puts_length, store_at_overwrite}
+use Rattle.pattern.proofs.Stores.{puts_as, store_at_overwrite}
 use Rattle.pattern.proofs.Calls.{put_fits, put_short}
 use Rattle.table.specs.Tested.{tested}
 use Rattle.table.specs.declared.Sizes.{Sizes}
-use Rattle.table.specs.declared.Tested.TheVariants as verdict
+use Rattle.std.specs.Prelude.{None}
 use Rattle.atoms.specs.Atoms.{node}
 use Rattle.atoms.proofs.Goods.{GoodSizes, tested_bad}
 use Rattle.atoms.proofs.Views.{node_first}
 use Rattle.printer.specs.Walk.{WritePatternPre, WritePost}
 use Rattle.printer.specs.Outputs.{answer_of, output_of}
-use Rattle.printer.specs.declared.Written.TheVariants as written
+use Rattle.pattern.specs.declared.refusal.Refusal.TheVariants as refusals
 use Rattle.printer.specs.declared.walk.Progress.{Progress}
 
-pub table_written : (table source : Bytes) → verdict.Bad ≡ tested (decode table) → output_of written.Table source ≡ write_of table source
+pub table_written : (table source : Bytes) → None ≡ tested (decode table) → output_of (Err refusals.Table) source ≡ write_of table source
 unfolding write_of written_back answer_of
 table_written table source e = sym (ap (λ o. written_back o source) (tested_bad table e))
 
@@ -33,7 +34,7 @@ module _ {table : Bytes} {x : Sizes} (g : GoodSizes table x) (source : Bytes) wh
   abbrev text : Bytes
   text = print (tree_of table)
 
-  pub room_written : length source < x.source → output_of written.Room source ≡ write_of table source
+  pub room_written : length source < x.source → output_of (Err refusals.Room) source ≡ write_of table source
   unfolding write_of written_back answer_of
   room_written h = sym (ap (λ o. written_back o source) g.good.decoded ∙ put_short 0 text source (omega (arith, h, g.source_is)))
 
@@ -41,21 +42,18 @@ module _ {table : Bytes} {x : Sizes} (g : GoodSizes table x) (source : Bytes) wh
   whole = ap (λ (t : Syntax pattern). print t) (node_first table)
 
   module _ (h : x.source ≤ length source) where
-    pub start_pre : WritePatternPre table source 0 0
+    pub start_pre : WritePatternPre table source (record { atom = 0; at = 0 })
     start_pre = record { atom = record { good = g.good; there = some_pattern (tree_of table) }; room = omega (arith, h, g.source_is, ap length whole) }
 
     module _ {y : ℕ} {r : Progress} {source' : Bytes} (w : WritePost (print (node table 0)) y source 0 r source') where
       puts : Puts source 0 text source' r.at
       puts = puts_as w.puts whole
 
-      pub kept_length : length source' ≡ length source
-      kept_length = puts_length puts
-
-      pub length_written : output_of (written.Length x.source) source' ≡ write_of table source
+      pub length_written : output_of (Ok x.source) source' ≡ write_of table source
       unfolding write_of written_back answer_of
       length_written =
           let k : length text ≤ length source = omega (arith, h, g.source_is) in
           let e : source' ≡ overwrite text source = puts.bytes ∙ store_at_overwrite source text k in
-          let q : output_of (written.Length x.source) source' ≡ record { answer = result (length text) 0; bytes = overwrite text source } =
+          let q : output_of (Ok x.source) source' ≡ record { answer = result (length text) 0; bytes = overwrite text source } =
           λ j. record { answer = result (g.source_is j) 0; bytes = e j } in
           q ∙ sym (ap (λ o. written_back o source) g.good.decoded ∙ put_fits 0 text source k)

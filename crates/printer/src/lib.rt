@@ -8,29 +8,19 @@ ghost use Rattle.std.specs.Prelude.{◌≡◌};
 ghost use Rattle.pattern.specs.Answers.{write_of};
 ghost use Rattle.printer.specs.Outputs.{output_of};
 
-use table::Tested;
+use pattern::refusal::Refusal;
+use walk::Progress;
 
-// Refusal 11, refusal 8, or the length of the source.
-#[derive(Clone, Copy)]
-pub enum Written {
-    Table,
-    Room,
-    Length(usize),
-}
-
-// Writes the shortest source of a good table to the start of source; a refusal writes nothing.
-pub fn write_back(table: &[u8], source: &mut [u8]) -> Written
+// Writes the shortest source of a good table to the start of source, and answers its length; a refusal writes nothing.
+pub fn write_back(table: &[u8], source: &mut [u8]) -> Result<usize, Refusal>
     ensures { output_of result source.new ≡ write_of table.now source.old }
 {
-    match table::test(table) {
-        Tested::Good(s) => {
-            let n = s.source;
-            if source.len() < n {
-                return Written::Room;
-            }
-            walk::write_pattern(table, source, 0, 0);
-            Written::Length(n)
-        }
-        Tested::Bad => Written::Table,
+    let Some(good) = table::test(table) else {
+        return Err(Refusal::Table);
+    };
+    if source.len() < good.sizes.source {
+        return Err(Refusal::Room);
     }
+    walk::write_pattern(table, source, Progress { atom: 0, at: 0 });
+    Ok(good.sizes.source)
 }

@@ -7,84 +7,73 @@ ghost use Rattle.printer.specs.Walk.{WritePatternPre, WriteAtomPre, WriteGroupPr
 
 use super::tokens;
 use atoms::{literal_at, record_at};
-use pattern::kind;
+use pattern::kind::Kind;
+use stores::put;
 use table::record::Record;
 
-// The next atom, and the place after what is written.
+// An atom, and the place from which it is written.
 #[derive(Clone, Copy)]
 pub struct Progress {
     pub atom: usize,
     pub at: usize,
 }
 
-// The pattern that begins at atom x, written from n on.
+// The pattern that begins at an atom; the answer is the atom after it, and the place after what is written.
 #[cycle(write_atom_write_group_write_pattern)]
-pub fn write_pattern(table: &[u8], out: &mut [u8], x: usize, n: usize) -> Progress
-    requires { WritePatternPre table.now out.old x n }
-    ensures { WritePost (print (node table.now x)) (x + size (node table.now x)) out.old n result out.new }
+pub fn write_pattern(table: &[u8], out: &mut [u8], from: Progress) -> Progress
+    requires { WritePatternPre table.now out.old from }
+    ensures { WritePost (print (node table.now from.atom)) (from.atom + size (node table.now from.atom)) out.old from.at result out.new }
 {
-    let mut from = Progress { atom: x, at: n };
+    let mut next = from; // how many atoms there are to write stands in their records alone
     loop {
-        let r = record_at(table, from.atom);
-        let next = write_atom(table, out, r, from.atom, from.at);
+        let r = record_at(table, next.atom);
+        next = write_atom(table, out, r, next);
         if r.ends == 1 {
             return next;
         }
-        from = next;
     }
 }
 
-// Atom x, by its record.
+// An atom, by its record.
 #[cycle(write_atom_write_group_write_pattern)]
-fn write_atom(table: &[u8], out: &mut [u8], r: Record, x: usize, n: usize) -> Progress
-    requires { WriteAtomPre table.now out.old r x n }
-    ensures { WritePost (print (head (node table.now x))) (x + size (head (node table.now x))) out.old n result out.new }
+fn write_atom(table: &[u8], out: &mut [u8], r: Record, from: Progress) -> Progress
+    requires { WriteAtomPre table.now out.old r from }
+    ensures { WritePost (print (head (node table.now from.atom))) (from.atom + size (head (node table.now from.atom))) out.old from.at result out.new }
 {
-    let m = tokens::count(out, n, r.low, r.high);
-    if r.kind == kind::CODES {
-        return Progress {
-            atom: x + 1,
-            at: tokens::letters(out, m, r.a),
-        };
-    }
-    if r.kind == kind::LITERAL {
-        let v = literal_at(table, x);
-        let from = v.from;
-        let to = from + v.len;
-        return Progress {
-            atom: x + 1,
-            at: tokens::literal(out, m, &table[from..to]),
-        };
-    }
-    out[m] = b'(';
-    let next = write_group(table, out, x + 1, m + 1, r.a as usize);
-    let z = next.at;
-    out[z] = b')';
-    Progress {
-        atom: next.atom,
-        at: z + 1,
-    }
-}
-
-// k branches from atom x on.
-#[cycle(write_atom_write_group_write_pattern)]
-fn write_group(table: &[u8], out: &mut [u8], x: usize, n: usize, k: usize) -> Progress
-    requires { WriteGroupPre table.now out.old x n k }
-    ensures { WritePost (print (branches_from table.now (k - 1) x)) (x + size (branches_from table.now (k - 1) x)) out.old n result out.new }
-{
-    let mut from = Progress { atom: x, at: n };
-    let mut more = k - 1;
-    loop {
-        let next = write_pattern(table, out, from.atom, from.at);
-        if more == 0 {
-            return next;
+    let at = tokens::count(out, from.at, r.low, r.high);
+    let atom = from.atom + 1;
+    match r.kind() {
+        Some(Kind::Codes) => Progress {
+            atom,
+            at: tokens::letters(out, at, r.a),
+        },
+        Some(Kind::Literal) => {
+            let v = literal_at(table, from.atom);
+            Progress {
+                atom,
+                at: tokens::literal(out, at, &table[v.from..v.from + v.len]),
+            }
         }
-        let m = next.at;
-        out[m] = b',';
-        from = Progress {
-            atom: next.atom,
-            at: m + 1,
-        };
-        more -= 1;
+        Some(Kind::Group) => {
+            let at = put(out, at, &[b'(']);
+            let next = write_group(table, out, Progress { atom, at }, r.a);
+            let at = put(out, next.at, &[b')']);
+            Progress { at, ..next }
+        }
+        None => unreachable!(),
     }
+}
+
+// Some branches, the first of which begins at an atom.
+#[cycle(write_atom_write_group_write_pattern)]
+fn write_group(table: &[u8], out: &mut [u8], from: Progress, branches: u16) -> Progress
+    requires { WriteGroupPre table.now out.old from branches }
+    ensures { WritePost (print (branches_from table.now (branches - 1) from.atom)) (from.atom + size (branches_from table.now (branches - 1) from.atom)) out.old from.at result out.new }
+{
+    let mut next = from;
+    for _ in 1..branches {
+        next = write_pattern(table, out, next);
+        next.at = put(out, next.at, &[b',']);
+    }
+    write_pattern(table, out, next)
 }

@@ -10,19 +10,17 @@ use lib.Dec.{T}
 use borrow.Rule.Slice.PartMut.{put_mid}
 use lib.ListN.{length, take, drop, set, replicate, length-drop, length-replicate, replicate-append-replicate, drop_of_length-le}
 use lib.Seq.{take_all, drop-drop}
+use Rattle.std.specs.Prelude.{Some, None, is_some, IfSome}
+use Rattle.std.specs.declared.option.Option.{Option as Optional}
 use Rattle.pattern.specs.Numbers.{TABLE, FULL, REGISTER, MISSING}
 use Rattle.pattern.specs.Bytes.{Bytes, equal, overwrite, zeroed}
-use Rattle.pattern.specs.Stores.{store_at}
 use Rattle.pattern.specs.Scan.{refuse}
-use Rattle.pattern.specs.Answers.{Answer, MatchOutput, untried, ended, match_of}
-use Rattle.pattern.proofs.Stores.{store_at_overwrite, length_zeroed}
+use Rattle.pattern.specs.Answers.{untried, ended, match_of}
 use Rattle.register.specs.declared.locate.Location.{Location}
-use Rattle.register.specs.declared.locate.Located.{Located}
-use Rattle.register.specs.declared.locate.Located.TheVariants as location
 use Rattle.register.specs.Maps.{numbers, Map, table_of, empty, tables, total, is_table, missing, Changed, change}
 use Rattle.register.specs.Layout.{preamble, preamble_size, slot_size, slot, directory_size, directory, section, laid_out, overhead, capacity, allowed, register_of}
 use Rattle.register.specs.Register.{init_of, in_register, store_of, remove_of, match_number_of}
-use Rattle.register.specs.Sections.{only_if, section_of, found, is_register, location_in, located, placed, PutTablePre}
+use Rattle.register.specs.Sections.{only_if, section_of, found, is_register, location_in, located, IsWithin, placed, PutTablePre}
 use Rattle.register.proofs.Maps.{tables_empty, total_set}
 use Rattle.register.proofs.Sections.{slot_none}
 use Rattle.register.proofs.Cases.{store_bad, store_full, store_done, remove_missing, remove_done}
@@ -32,19 +30,16 @@ use Rattle.register.proofs.Putting.{old_is, in_order, LocatedIn, located_in}
 
 -- ---- where a number's table lies
 
-none_located : (k : ℕ) (o : Option Map) → location.Bad ≡ located k o → o ≡ none
+none_located : (k : ℕ) (o : Option Map) → None ≡ located k o → o ≡ none
 unfolding located
 none_located k none e = refl
 none_located k (some m) e = absurd (let z : ◌≡◌ {A = ℕ} 0 1 = cc in omega arith)
 
 -- whether there is a map
-pub none_there : (k : ℕ) (o : Option Map) → location.Bad ≡ located k o → false ≡ is_register o
-unfolding is_register
-none_there k o e = sym (ap is_register (none_located k o e))
-
-pub one_there : (k : ℕ) (o : Option Map) (at : Location) → location.At at ≡ located k o → true ≡ is_register o
-unfolding is_register
-one_there k o at e = let (m, l) = located_in o k at e in sym (ap is_register l.holds)
+pub some_located : (k : ℕ) (o : Option Map) → is_some (located k o) ≡ is_register o
+unfolding located is_register
+some_located k none = refl
+some_located k (some m) = refl
 
 pub is_map : (o : Option Map) → true ≡ is_register o → (m : Map) × (o ≡ some m)
 unfolding is_register
@@ -64,15 +59,15 @@ section_part_is : (lent : Bytes) → section_part lent ≡ drop preamble_size le
 section_part_is lent = take_all (length lent - preamble_size) (drop preamble_size lent) (omega (arith, length-drop preamble_size lent))
 
 module _ (lent : Bytes) (k : ℕ) where
-  pub find_short : length lent < overhead → location.Bad ≡ located k (register_of lent)
+  pub find_short : length lent < overhead → None ≡ located k (register_of lent)
   unfolding located
   find_short h = sym (ap (located k) (short_means_none lent h))
 
-  pub find_off : false ≡ equal (take preamble_size lent) preamble → location.Bad ≡ located k (register_of lent)
+  pub find_off : false ≡ equal (take preamble_size lent) preamble → None ≡ located k (register_of lent)
   unfolding found only_if located
   find_off e = sym (ap (located k) (sym (found_is lent) ∙ ap (λ b. only_if b (section_of (drop preamble_size lent))) (sym e)))
 
-  pub find_on : (r : Located) → true ≡ equal (take preamble_size lent) preamble → r ≡ located k (section_of (section_part lent)) → r ≡ located k (register_of lent)
+  pub find_on : (r : Optional Location) → true ≡ equal (take preamble_size lent) preamble → r ≡ located k (section_of (section_part lent)) → r ≡ located k (register_of lent)
   unfolding found only_if
   find_on r e f =
       f ∙ ap (λ (s : Bytes). located k (section_of s)) (section_part_is lent) ∙ ap (located k) (ap (λ b. only_if b (section_of (drop preamble_size lent))) e ∙ found_is lent)
@@ -87,25 +82,24 @@ directory_empty (suc c) =
     ap (λ (x : Bytes). x ++ directory (replicate c [])) slot_none ∙ ap (λ (x : Bytes). replicate slot_size 0 ++ x) (directory_empty c) ∙ replicate-append-replicate slot_size (slot_size * c) 0 ∙ ap (λ n. replicate n 0) e
 
 -- zeros with the first bytes over them are an empty map laid out, of any count
-empty_laid : (lent : Bytes) (c n : ℕ) → n ≡ slot_size * c → preamble_size + n ≤ length lent
-    → store_at (zeroed (preamble_size + n) lent) 0 preamble ≡ overwrite (preamble ++ (directory (replicate c []) ++ tables (replicate c []))) lent
+empty_laid : (lent : Bytes) (c n : ℕ) → n ≡ slot_size * c
+    → preamble ++ drop preamble_size (zeroed (preamble_size + n) lent) ≡ overwrite (preamble ++ (directory (replicate c []) ++ tables (replicate c []))) lent
 unfolding overwrite
-empty_laid lent c n e h =
+empty_laid lent c n e =
     let v : Bytes = directory (replicate c []) ++ tables (replicate c []) in
     let z : v ≡ replicate n 0 = ap (λ (x : Bytes). directory (replicate c []) ++ x) (tables_empty c) ∙ append-nil _ ∙ directory_empty c ∙ ap (λ j. replicate j 0) (sym e) in
     let l : replicate (preamble_size + n) 0 ++ drop (preamble_size + n) lent ≡ replicate preamble_size 0 ++ (replicate n 0 ++ drop (preamble_size + n) lent) =
     ap (λ (x : Bytes). x ++ drop (preamble_size + n) lent) (sym (replicate-append-replicate {A = ℕ} preamble_size n 0)) in
     let r : preamble_size + n ≡ length (preamble ++ v) = omega (arith, ap length z, length-replicate {A = ℕ} n 0) in
-    store_at_overwrite (zeroed (preamble_size + n) lent) preamble (omega (arith, length_zeroed (preamble_size + n) lent h))
-    ∙ ap (λ (x : Bytes). preamble ++ drop preamble_size x) l
+    ap (λ (x : Bytes). preamble ++ drop preamble_size x) l
     ∙ ap (λ (x : Bytes). preamble ++ (x ++ drop (preamble_size + n) lent)) (sym z)
     ∙ ap (λ j. preamble ++ (v ++ drop j lent)) r
 
-pub init_done : (lent x y first : Bytes) → overhead ≤ length lent → first ≡ preamble → y ≡ zeroed overhead lent → x ≡ store_at y 0 (take preamble_size first) → record { number = 0; after = x } ≡ init_of lent
+pub init_done : (lent first y : Bytes) → overhead ≤ length lent → first ≡ preamble → y ≡ zeroed overhead lent → record { number = 0; after = first ++ drop preamble_size y } ≡ init_of lent
 unfolding init_of change refuse laid_out section empty
-init_done lent x y first h f g e =
-    let z : x ≡ store_at (zeroed overhead lent) 0 preamble = e ∙ ap (λ (v : Bytes). store_at v 0 (take preamble_size first)) g ∙ ap (λ (v : Bytes). store_at (zeroed overhead lent) 0 (take preamble_size v)) f in
-    sym (rw (le-ltb (length lent) overhead h) (ap (λ (v : Bytes). record { number = 0; after = v }) (sym (z ∙ empty_laid lent numbers directory_size refl h))))
+init_done lent first y h f g =
+    let z : first ++ drop preamble_size y ≡ preamble ++ drop preamble_size (zeroed overhead lent) = rw (f, g) in
+    sym (rw (le-ltb (length lent) overhead h) (ap (λ (v : Bytes). record { number = 0; after = v }) (sym (z ∙ empty_laid lent numbers directory_size refl))))
 
 -- ---- changes
 
@@ -136,12 +130,12 @@ back lent m h o =
 
 -- the table of number k lies there
 pub record TableAt (lent : Bytes) (k : ℕ) (at : Location) : Type 0 where
-  pub lies : location.At at ≡ located k (register_of lent)
+  pub lies : Some at ≡ located k (register_of lent)
   pub small : k < numbers
 
 -- what `find` said
-pub table_found : {lent : Bytes} {k : ℕ} {at : Location} {r : Located} → r ≡ location.At at → r ≡ located k (register_of lent) → k < numbers → TableAt lent k at
-table_found e f s = record { lies = sym e ∙ f; small = s }
+pub table_found : {lent : Bytes} {k : ℕ} {at : Location} → Some at ≡ located k (register_of lent) → k < numbers → TableAt lent k at
+table_found e s = record { lies = e; small = s }
 
 module _ {lent : Bytes} {k : ℕ} {at : Location} (w : TableAt lent k at) where
   in_map : (m : Map) × LocatedIn (register_of lent) k at m
@@ -151,7 +145,7 @@ module _ {lent : Bytes} {k : ℕ} {at : Location} (w : TableAt lent k at) where
   lent_split m e = found_split lent m (found_is lent ∙ e)
 
   -- the places are in order
-  pub lent_places : (at.start ≤ at.end) × (at.end ≤ at.used) × (at.used + preamble_size ≤ length lent) × (directory_size ≤ at.used)
+  lent_places : (at.start ≤ at.end) × (at.end ≤ at.used) × (at.used + preamble_size ≤ length lent) × (directory_size ≤ at.used)
   lent_places =
       let (m, l) = in_map in
       let s : Bytes = drop preamble_size lent in
@@ -159,6 +153,9 @@ module _ {lent : Bytes} {k : ℕ} {at : Location} (w : TableAt lent k at) where
       let there : ((location_in m k).start ≤ (location_in m k).end) × ((location_in m k).end ≤ (location_in m k).used) × ((location_in m k).used + preamble_size ≤ length lent) × (directory_size ≤ (location_in m k).used) =
       (a, b, omega (arith, a, b, c, length-drop preamble_size lent), omega arith) in
       rw l.place there
+
+  pub table_within : IsWithin at lent
+  table_within = let (a, b, c, d) = lent_places in record { begins = a; ends = b; within = omega (arith, c) }
 
   pub lent_put : (t own : Bytes) → allowed t ≡ true → own ≡ slot t → length t ≤ length lent - preamble_size - at.used + (at.end - at.start) → PutTablePre (section_part lent) k at t own
   lent_put t own kt ks r =
@@ -238,9 +235,14 @@ module _ {lent : Bytes} {k : ℕ} {at : Location} (w : TableAt lent k at) where
         let (m, l) = in_map in
         ap (λ (t : Bytes). match_of t label scratch parts budget) (table_there m l) ∙ sym (match_means lent m l.holds k (not_missing m l n) label scratch parts budget)
 
+-- wherever it lies
+pub found_within : (lent : Bytes) (k : ℕ) (r : Optional Location) → k < numbers → r ≡ located k (register_of lent) → IfSome r (λ at. IsWithin at lent)
+found_within lent k None s e = tt
+found_within lent k (Some at) s e = table_within (table_found e s)
+
 -- ---- no register
 
-module _ (lent : Bytes) (k : ℕ) (e : location.Bad ≡ located k (register_of lent)) where
+module _ (lent : Bytes) (k : ℕ) (e : None ≡ located k (register_of lent)) where
   pub stored_none : (t : Bytes) → record { number = REGISTER; after = lent } ≡ store_of lent k t
   stored_none t = sym (store_refused lent (none_located k (register_of lent) e) k t)
 
@@ -249,6 +251,3 @@ module _ (lent : Bytes) (k : ℕ) (e : location.Bad ≡ located k (register_of l
 
   pub matched_none : (label scratch parts : Bytes) (budget : ℕ) → ended (untried REGISTER) scratch parts ≡ match_number_of lent k label scratch parts budget
   matched_none label scratch parts budget = sym (match_refused lent (none_located k (register_of lent) e) k label scratch parts budget)
-
-pub same_numbers : (a b : Answer) (scratch parts : Bytes) → a ≡ b → ◌≡◌ {A = MatchOutput} (record { answer = a; scratch = scratch; parts = parts }) (record { answer = b; scratch = scratch; parts = parts })
-same_numbers a b scratch parts e = rw e

@@ -8,9 +8,8 @@ use native.Mathlib.Omega.{arith}
 use borrow.Author.Tests.{le-leb, lt-leb}
 use lib.ListN.{length, take, drop, length-append, length-drop}
 use lib.Seq.{length-take-le, drop-drop, take_at}
+use Rattle.std.specs.Prelude.{Some, None}
 use Rattle.pattern.specs.Bytes.{Bytes}
-use Rattle.register.specs.declared.locate.TablesEnd.TheVariants as ending
-use Rattle.register.specs.declared.locate.Located.TheVariants as location
 use Rattle.register.specs.Maps.{numbers, Map, table_of, tables, total}
 use Rattle.register.specs.Layout.{slot_size, directory_size}
 use Rattle.register.specs.Sections.{first_size, first_table, intact, cons_if, held, only_if, section_of, tables_end, located}
@@ -72,12 +71,12 @@ held_none (suc a) b d s e =
 
 -- ---- one stretch of numbers after the other
 
-ended_at : (at e : ℕ) (o : Option Map) → ending.At e ≡ tables_end at o → (m : Map) × (o ≡ some m) × (e ≡ at + total m)
+ended_at : (at e : ℕ) (o : Option Map) → Some e ≡ tables_end at o → (m : Map) × (o ≡ some m) × (e ≡ at + total m)
 unfolding tables_end
 ended_at at e none x = absurd (let z : ◌≡◌ {A = ℕ} 0 1 = cc in omega arith)
 ended_at at e (some m) x = (m, refl, cc)
 
-ended_none : (at : ℕ) (o : Option Map) → ending.Bad ≡ tables_end at o → o ≡ none
+ended_none : (at : ℕ) (o : Option Map) → None ≡ tables_end at o → o ≡ none
 unfolding tables_end
 ended_none at none x = refl
 ended_none at (some m) x = absurd (let z : ◌≡◌ {A = ℕ} 0 1 = cc in omega arith)
@@ -105,13 +104,13 @@ module _ {s : Bytes} {a at : ℕ} {m : Map} (w : FirstTables s a at m) where
         let p : drop (total m) (drop directory_size s) ≡ drop at s = drop-drop (total m) directory_size s ∙ ap (λ x. drop x s) (sym w.place) in
         ap (λ x. held x s (drop directory_size s)) (sym z) ∙ held_more a (b - a) s (drop directory_size s) m w.holds ∙ ap (λ (x : Bytes). followed_by m (held (b - a) (drop (slot_size * a) s) x)) p
 
-    pub more_tables : (e : ℕ) → ending.At e ≡ tables_end at (held_from s a b at) → (n : Map) × FirstTables s b e (m ++ n)
+    pub more_tables : (e : ℕ) → Some e ≡ tables_end at (held_from s a b at) → (n : Map) × FirstTables s b e (m ++ n)
     unfolding followed_by
     more_tables e x =
         let (n, o, y) = ended_at at e (held_from s a b at) x in
         (n, record { holds = onward ∙ ap (followed_by m) o; place = omega (arith, y, w.place, total_append m n) })
 
-    bad_tables : ending.Bad ≡ tables_end at (held_from s a b at) → held b s (drop directory_size s) ≡ none
+    bad_tables : None ≡ tables_end at (held_from s a b at) → held b s (drop directory_size s) ≡ none
     unfolding followed_by
     bad_tables x = onward ∙ ap (followed_by m) (ended_none at (held_from s a b at) x)
 
@@ -121,23 +120,23 @@ section_is : (s : Bytes) → directory_size ≤ length s → section_of s ≡ he
 unfolding section_of only_if
 section_is s h = rw (le-leb directory_size (length s) h)
 
-pub locate_short : (s : Bytes) (k : ℕ) → length s < directory_size → location.Bad ≡ located k (section_of s)
+pub locate_short : (s : Bytes) (k : ℕ) → length s < directory_size → None ≡ located k (section_of s)
 unfolding section_of only_if located
 locate_short s k h = sym (rw (lt-leb directory_size (length s) h))
 
-located_none : (k : ℕ) (o : Option Map) → o ≡ none → location.Bad ≡ located k o
+located_none : (k : ℕ) (o : Option Map) → o ≡ none → None ≡ located k o
 unfolding located
 located_none k o e = sym (rw e)
 
 module _ (s : Bytes) (k : ℕ) (long : directory_size ≤ length s) (small : k < numbers) where
   -- a number below b has no good table
-  pub locate_bad : {a at b : ℕ} {m : Map} → FirstTables s a at m → a ≤ b → b ≤ numbers → ending.Bad ≡ tables_end at (held_from s a b at) → location.Bad ≡ located k (section_of s)
+  pub locate_bad : {a at b : ℕ} {m : Map} → FirstTables s a at m → a ≤ b → b ≤ numbers → None ≡ tables_end at (held_from s a b at) → None ≡ located k (section_of s)
   locate_bad {a} {at} {b} {m} w h f x =
       let z : b + (numbers - b) ≡ numbers = omega arith in
       located_none k (section_of s) (section_is s long ∙ ap (λ (n : ℕ). held n s (drop directory_size s)) (sym z) ∙ held_none b (numbers - b) s (drop directory_size s) (bad_tables w h x))
 
   pub locate_at : {start end used : ℕ} {m : Map} (n o : Map) → FirstTables s k start m → FirstTables s (k + 1) end (m ++ n) → FirstTables s numbers used ((m ++ n) ++ o)
-      → location.At (record { start = start; end = end; used = used }) ≡ located k (section_of s)
+      → Some (record { start = start; end = end; used = used }) ≡ located k (section_of s)
   unfolding located
   locate_at {start} {end} {used} {m} n o w x y =
       let all : Map = (m ++ n) ++ o in

@@ -18,7 +18,7 @@ use Rattle.pattern.proofs.Tests.{true-T}
 use Rattle.pattern.proofs.Calls.{print_compiles}
 use Rattle.pattern.proofs.RoundTrip.{encode_length}
 use Rattle.pattern.proofs.Rooms.{good_fits}
-use Rattle.atoms.proofs.Views.{no_bytes}
+use Rattle.std.proofs.lemmas.List.{nil_from_length}
 use Rattle.register.specs.Maps.{numbers, Map, table_of, empty, tables, total, is_table, missing}
 use Rattle.register.specs.Layout.{allowed, Proper, table_count}
 
@@ -53,7 +53,7 @@ no_bytes_no_tree = go (decode []) refl
     go (some x) d = absurd (omega (arith, ap length (print_compiles [] x d).whole, encode_length (version_of []) x))
 
 pub missing_tree : (t : Bytes) → length t ≡ 0 → decode t ≡ none
-missing_tree t z = ap decode (no_bytes t z) ∙ no_bytes_no_tree
+missing_tree t z = ap decode (nil_from_length t z) ∙ no_bytes_no_tree
 
 pub no_bytes_no_table : is_table [] ≡ false
 unfolding is_table

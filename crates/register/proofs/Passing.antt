@@ -7,8 +7,8 @@ use native.Mathlib.Omega.{arith}
 use borrow.Author.Tests.{le-leb, lt-leb}
 use lib.ListN.{length, take, drop, length-append, length-drop}
 use lib.Seq.{length-take-le, drop-drop}
+use Rattle.std.specs.Prelude.{Some, None}
 use Rattle.pattern.specs.Bytes.{Bytes, equal}
-use Rattle.register.specs.declared.locate.TablesEnd.TheVariants as ending
 use Rattle.register.specs.Maps.{Map, tables}
 use Rattle.register.specs.Layout.{slot_size, slot, allowed}
 use Rattle.register.specs.Sections.{first_size, first_table, intact, cons_if, held, tables_end}
@@ -16,7 +16,7 @@ use Rattle.register.specs.Sections.{first_size, first_table, intact, cons_if, he
 tables_end_cons : (at : ℕ) (t : Bytes) (o : Option Map) → tables_end at (cons_if true t o) ≡ tables_end (at + length t) o
 unfolding tables_end cons_if tables
 tables_end_cons at t none = refl
-tables_end_cons at t (some m) = ap ending.At (omega (arith, length-append t (tables m)))
+tables_end_cons at t (some m) = ap Some (omega (arith, length-append t (tables m)))
 
 -- the bytes of a slot that are there
 pub slot_whole : (s : Bytes) (k : ℕ) → slot_size * k + slot_size ≤ length s → length (take (slot_size * k + slot_size - slot_size * k) (drop (slot_size * k) s)) ≡ slot_size
@@ -35,12 +35,12 @@ pub pass_start : (s : Bytes) (a b at : ℕ) → at ≤ length s → Passing s a 
 pass_start s a b at k = record { inside = k; left = refl }
 
 module _ {s : Bytes} {a b at k end : ℕ} (w : Passing s a b at k end) where
-  pub pass_end : b ≤ k → ending.At end ≡ tables_end at (held_from s a b at)
+  pub pass_end : b ≤ k → Some end ≡ tables_end at (held_from s a b at)
   unfolding held tables_end tables
   pass_end h =
       let e : b - k ≡ 0 = omega arith in
       let z : end + 0 ≡ end = omega arith in
-      sym (w.left ∙ ap (λ x. tables_end end (held x (drop (slot_size * k) s) (drop end s))) e ∙ ap ending.At z)
+      sym (w.left ∙ ap (λ x. tables_end end (held x (drop (slot_size * k) s) (drop end s))) e ∙ ap Some z)
 
   module _ (n : ℕ) (sized : n ≡ first_size (drop (slot_size * k) s)) (more : k < b) where
     abbrev slots : Bytes
@@ -56,11 +56,11 @@ module _ {s : Bytes} {a b at k end : ℕ} (w : Passing s a b at k end) where
         let f : slot_size * (k + 1) ≡ slot_size * k + slot_size = omega arith in
         rw (e, f, sized, drop-drop slot_size (slot_size * k) s, drop-drop (first_size slots) end s)
 
-    not_intact : intact slots bytes ≡ false → ending.Bad ≡ tables_end at (held_from s a b at)
+    not_intact : intact slots bytes ≡ false → None ≡ tables_end at (held_from s a b at)
     unfolding tables_end cons_if
     not_intact e = sym (w.left ∙ ap (tables_end end) one_more ∙ rw e)
 
-    pub pass_long : length s - end < n → ending.Bad ≡ tables_end at (held_from s a b at)
+    pub pass_long : length s - end < n → None ≡ tables_end at (held_from s a b at)
     unfolding intact
     pass_long h = not_intact (rw (lt-leb (first_size slots) (length bytes) (omega (arith, sized, length-drop end s))))
 
@@ -84,7 +84,7 @@ module _ {s : Bytes} {a b at k end : ℕ} (w : Passing s a b at k end) where
       unfolding intact
       intact_tested = rw (le-leb (first_size slots) (length bytes) there, ← first_is, ← slot_is)
 
-      pub pass_bad : false ≡ tested → ending.Bad ≡ tables_end at (held_from s a b at)
+      pub pass_bad : false ≡ tested → None ≡ tables_end at (held_from s a b at)
       pass_bad h = not_intact (intact_tested ∙ sym h)
 
       pub pass_table : true ≡ tested → Passing s a b at (k + 1) (end + n)

@@ -6,11 +6,11 @@ use Prim.Native.Nat.{ℕ, suc, ◌+◌, ◌*◌, ◌-◌, ◌≤◌, ◌<◌}
 use native.Mathlib.Omega.{arith}
 use lib.ListN.{length, take, drop, set, length-set, length-append}
 use lib.Seq.{sets-eq, length-take-le, take_at, drop_at, drop-drop, split_at, set_split}
+use Rattle.std.specs.Prelude.{Some}
 use Rattle.pattern.specs.Bytes.{Bytes, overwrite}
 use Rattle.pattern.specs.Stores.{store_at}
 use Rattle.pattern.proofs.Stores.{store_at_before}
 use Rattle.register.specs.declared.locate.Location.{Location}
-use Rattle.register.specs.declared.locate.Located.TheVariants as location
 use Rattle.register.specs.Maps.{numbers, Map, table_of, tables, total}
 use Rattle.register.specs.Layout.{slot_size, slot, directory_size, directory, section}
 use Rattle.register.specs.Sections.{section_of, location_in, located, placed, PutTablePre}
@@ -138,7 +138,7 @@ pub record LocatedIn (o : Option Map) (k : ℕ) (at : Location) (m : Map) : Type
   pub holds : o ≡ some m
   pub place : at ≡ location_in m k
 
-pub located_in : (o : Option Map) (k : ℕ) (at : Location) → location.At at ≡ located k o → (m : Map) × LocatedIn o k at m
+pub located_in : (o : Option Map) (k : ℕ) (at : Location) → Some at ≡ located k o → (m : Map) × LocatedIn o k at m
 unfolding located
 located_in none k at e = absurd (let z : ◌≡◌ {A = ℕ} 0 1 = cc in omega arith)
 located_in (some m) k at e = (m, record { holds = refl; place = cc })

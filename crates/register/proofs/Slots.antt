@@ -1,25 +1,28 @@
 -- The slots of a directory: that of no table, and that of a good one as it is written. Assumes nothing.
-use mathlib.Core.Path.{◌≡◌, refl, sym, ap, ◌∙◌}
+use mathlib.Core.Path.{◌≡◌, refl, sym, ap, ap₂, ◌∙◌}
 use mathlib.Core.Bool.{Bool, true, false, ◌&&◌}
-use mathlib.Core.List.{[], ◌++◌, append-nil}
-use Prim.Native.Nat.{ℕ, ◌+◌, ◌*◌, ◌≤◌, ◌<◌}
+use mathlib.Core.List.{[], ◌∷◌, ◌++◌, append-nil}
+use Prim.Native.Nat.{ℕ, ◌≤◌, ◌+◌, ◌*◌, ◌<◌}
 use native.Mathlib.Omega.{arith}
-use borrow.Author.Tests.{ne_eqb}
+use borrow.Author.Tests.{eqb-true}
+use lib.Dec.{eqb}
 use borrow.Rule.Slice.PartMut.{put_mid}
 use lib.ListN.{length, take, drop, replicate, drop_of_length-le, length-drop}
-use lib.Seq.{length-take-le, take-add, take_at, take_all, drop_at}
-use Rattle.pattern.specs.Bytes.{Bytes, equal, le16, little, number_in, overwrite}
+use lib.Seq.{length-take-le, take_at, take_all, drop_at, take-add}
+use Rattle.std.proofs.lemmas.Bool.Decides.{nat_tests}
+use Rattle.std.specs.Cmp.Lexicographic.{pointwise}
+use Rattle.pattern.specs.Bytes.{Bytes, equal, le16, little, overwrite, number_in}
 use Rattle.pattern.specs.Stores.{store_at}
 use Rattle.pattern.specs.Decode.{tree_of}
+use Rattle.pattern.proofs.Stores.{store_at_then, store_at_overwrite}
 use Rattle.pattern.proofs.Agree.{equal_decides}
 use Rattle.pattern.proofs.Tests.{true-T, passed}
-use Rattle.pattern.proofs.Stores.{store_at_then, store_at_overwrite}
 use Rattle.stores.proofs.Little.{Octets, octets_take, octets_drop, little_number}
 use Rattle.table.specs.declared.Sizes.{Sizes}
 use Rattle.summary.specs.Summary.{summary_of, summary_bytes, summary_size}
 use Rattle.summary.proofs.SummaryBytes.{length_summary_bytes}
 use Rattle.atoms.proofs.Goods.{GoodSizes}
-use Rattle.atoms.proofs.Views.{no_bytes}
+use Rattle.std.proofs.lemmas.List.{nil_from_length}
 use Rattle.register.specs.Maps.{is_table}
 use Rattle.register.specs.Layout.{length_size, entry, slot_size, slot, allowed}
 use Rattle.register.proofs.Maps.{table_allowed}
@@ -70,14 +73,25 @@ not_same a b at n = go (equal a b) refl
 
 -- ---- whether a slot is a table's own
 
-module _ (bytes table : Bytes) where
-  pub intact_none : (r : Bool) → length table ≡ 0 → r ≡ equal bytes (replicate slot_size 0) → r ≡ (allowed table && equal bytes (slot table))
-  unfolding allowed
-  intact_none r h e = e ∙ rw (no_bytes table h, slot_none)
+eqb_turned : (a b : ℕ) → eqb a b ≡ eqb b a
+eqb_turned a b = grind (arith, nat_tests)
 
-  pub intact_bad : (length table ≡ 0 → ⊥) → is_table table ≡ false → false ≡ (allowed table && equal bytes (slot table))
+-- the comparison of slices, turned
+pub equal_turned : (s t : Bytes) → pointwise eqb s t ≡ equal t s
+unfolding equal
+equal_turned [] [] = refl
+equal_turned [] (b ∷ t) = refl
+equal_turned (a ∷ s) [] = refl
+equal_turned (a ∷ s) (b ∷ t) = ap₂ ◌&&◌ (eqb_turned a b) (equal_turned s t)
+
+module _ (bytes table : Bytes) where
+  pub intact_none : eqb (length table) 0 ≡ true → equal bytes (replicate slot_size 0) ≡ (allowed table && equal bytes (slot table))
   unfolding allowed
-  intact_bad n g = rw (ne_eqb (length table) 0 n, g)
+  intact_none h = rw (nil_from_length table (eqb-true (length table) 0 h), slot_none)
+
+  pub intact_bad : eqb (length table) 0 ≡ false → is_table table ≡ false → false ≡ (allowed table && equal bytes (slot table))
+  unfolding allowed
+  intact_bad n g = rw (n, g)
 
   pub intact_good : (r : Bool) (own : Bytes) → own ≡ slot table → is_table table ≡ true → r ≡ equal bytes own → r ≡ (allowed table && equal bytes (slot table))
   intact_good r own o g e = e ∙ rw (o, table_allowed table g)

@@ -1,25 +1,17 @@
 -- What the slots of a directory are worked out from. Private: a model for contracts inside the library.
-use Rattle.std.specs.Prelude.{◌≡◌, List, ℕ, ◌+◌, ◌*◌, ◌≤◌, length, take, drop}
+use Rattle.std.specs.Prelude.{◌≡◌, List, ℕ, ◌+◌, ◌≤◌, length, take, drop}
 use Rattle.pattern.specs.Numbers.{atom_limit}
 use Rattle.pattern.specs.Bytes.{Bytes, number_in}
-use Rattle.pattern.specs.Decode.{field, decode}
-use Rattle.table.specs.declared.Sizes.{Sizes}
-use Rattle.table.specs.declared.Tested.TheVariants.{Good}
-use Rattle.table.specs.Tested.{tested}
-use Rattle.summary.specs.Rows.{row_size}
+use Rattle.pattern.specs.Decode.{field}
+use Rattle.summary.specs.declared.packed.Packed.{Packed}
 use Rattle.register.specs.declared.slot.Kept.{Kept}
 use Rattle.register.specs.Layout.{length_size, slot_size}
 
 -- rows for the atoms of every table
 abbrev pub rows_room : ℕ
-rows_room = row_size * atom_limit
+rows_room = atom_limit
 
--- the table is good, and there are rows enough
-pub record SlotPre (table : Bytes) (sizes : Sizes) (rows : List ℕ) : Type 0 where
-  pub good : Good sizes ≡ tested (decode table)
-  pub room : rows_room ≤ length rows
-
-pub record IntactPre (bytes : Bytes) (rows : List ℕ) : Type 0 where
+pub record IntactPre (bytes : Bytes) (rows : List Packed) : Type 0 where
   pub whole : length bytes ≡ slot_size
   pub room : rows_room ≤ length rows
 

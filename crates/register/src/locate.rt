@@ -8,17 +8,11 @@ ghost use Rattle.register.specs.Sections.{held, section_of, tables_end, located,
 use crate::NUMBERS;
 use crate::slot::{SLOT_SIZE, is_intact};
 use stores::read32;
+use summary::packed::Packed;
 
 pub const DIRECTORY_SIZE: usize = SLOT_SIZE * NUMBERS;
 
-// Where tables end, if all of them are good.
-#[derive(Clone, Copy)]
-pub enum TablesEnd {
-    Bad,
-    At(usize),
-}
-
-// Where the table of a number begins and ends, and where the last table ends.
+// Where the table of a number begins and ends, no bytes for none as in the layout, and where the last table ends.
 #[derive(Clone, Copy)]
 pub struct Location {
     pub start: usize,
@@ -26,52 +20,38 @@ pub struct Location {
     pub used: usize,
 }
 
-#[derive(Clone, Copy)]
-pub enum Located {
-    Bad,
-    At(Location),
-}
-
-// The tables of the numbers from a on and below b, the first one at a place.
-fn pass_tables(section: &[u8], a: usize, b: usize, at: usize, rows: &mut [u64]) -> TablesEnd
+// Where the tables of the numbers from a on and below b end, if all of them are good; the first one is at a place. By number:
+// a slot and its table lie apart.
+fn pass_tables(section: &[u8], a: usize, b: usize, at: usize, rows: &mut [Packed]) -> Option<usize>
     requires { PassPre section.now b at rows.old }
     ensures { result ≡ tables_end at (held (b - a) (drop (slot_size * a) section.now) (drop at section.now)) }
 {
-    let mut k = a;
     let mut end = at;
-    while k < b {
-        let n = read32(section, SLOT_SIZE * k) as usize;
-        if section.len() - end < n {
-            return TablesEnd::Bad;
-        }
+    for k in a..b {
         let slot = SLOT_SIZE * k;
-        let next = end + n;
-        if is_intact(&section[slot..slot + SLOT_SIZE], &section[end..next], rows) {
-            end = next;
-            k += 1;
-        } else {
-            return TablesEnd::Bad;
+        let n = read32(section, slot) as usize;
+        if section.len() - end < n {
+            return None;
         }
+        let next = end + n;
+        if !is_intact(&section[slot..slot + SLOT_SIZE], &section[end..next], rows) {
+            return None;
+        }
+        end = next;
     }
-    TablesEnd::At(end)
+    Some(end)
 }
 
-// Whether a section is good, and where a number's table lies.
-pub fn locate(section: &[u8], k: usize, rows: &mut [u64]) -> Located
+// Where a number's table lies, if the section is good.
+pub fn locate(section: &[u8], k: usize, rows: &mut [Packed]) -> Option<Location>
     requires { (k < numbers) × (rows_room ≤ length rows.old) }
     ensures { result ≡ located k (section_of section.now) }
 {
     if section.len() < DIRECTORY_SIZE {
-        return Located::Bad;
+        return None;
     }
-    let TablesEnd::At(start) = pass_tables(section, 0, k, DIRECTORY_SIZE, rows) else {
-        return Located::Bad;
-    };
-    let TablesEnd::At(end) = pass_tables(section, k, k + 1, start, rows) else {
-        return Located::Bad;
-    };
-    let TablesEnd::At(used) = pass_tables(section, k + 1, NUMBERS, end, rows) else {
-        return Located::Bad;
-    };
-    Located::At(Location { start, end, used })
+    let start = pass_tables(section, 0, k, DIRECTORY_SIZE, rows)?;
+    let end = pass_tables(section, k, k + 1, start, rows)?;
+    let used = pass_tables(section, k + 1, NUMBERS, end, rows)?;
+    Some(Location { start, end, used })
 }

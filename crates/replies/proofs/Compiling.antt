@@ -4,22 +4,23 @@ use Prim.Native.Nat.{ℕ, ◌+◌, ◌*◌, ◌≤◌}
 use native.Mathlib.Omega.{arith}
 use lib.ListN.{length, take, replicate, length-replicate}
 use borrow.Author.Tests.{ne_eqb}
+use Rattle.std.specs.Prelude.{Result, Ok, Err}
 use Rattle.pattern.specs.Numbers.{record_size}
 use Rattle.pattern.specs.Versions.{written_version, header_size, table_room}
 use Rattle.pattern.specs.Bytes.{Bytes}
 use Rattle.pattern.specs.Syntax.{pattern, Syntax}
 use Rattle.pattern.specs.Scan.{Outcome, refused, accepted, outcome}
 use Rattle.pattern.specs.Table.{encode}
-use Rattle.pattern.specs.Answers.{Answer, Output, compiled, compile_of}
+use Rattle.pattern.specs.Answers.{Output, compiled, compile_of}
 use Rattle.pattern.proofs.Tests.{if_false}
 use Rattle.pattern.proofs.Stores.{take_overwrite}
 use Rattle.pattern.proofs.Calls.{put_fits}
 use Rattle.pattern.proofs.Rooms.{encode_fits, encode_short, compile_fits, compile_some}
+use Rattle.pattern.specs.Refusals.{number_of}
+use Rattle.pattern.specs.declared.refusal.Fault.{Fault}
 use Rattle.replies.specs.Text.{refused_text}
 use Rattle.replies.specs.Reply.{label_reply, table_reply, source_reply}
 use Rattle.replies.specs.Rooms.{TableFits}
-use Rattle.compiler.specs.declared.Compiled as compiler
-use Rattle.compiler.specs.declared.Compiled.TheVariants as answer
 use Rattle.compiler.specs.Compiling.{answer_of}
 
 -- lent bytes that suffice for every table, and for that of a short source
@@ -48,25 +49,19 @@ module _ (source label scratch lent : Bytes) (fit : TableFits source lent) where
       go (accepted t) e = table_put t e lent (fit.fits t e) ∙ sym (table_put t e full (omega (arith, encode_fits source t e, length-replicate {A = ℕ} table_room 0)))
 
   -- what the compiling call answers
-  module _ (r : compiler.Compiled) (table : Bytes) (e : record { answer = answer_of r; bytes = table } ≡ compile_of source lent) where
-    abbrev compiling : Answer → Output
-    compiling a = record { answer = a; bytes = table }
+  module _ (table : Bytes) where
+    abbrev compiles : Result ℕ Fault → Type 0
+    compiles r = ◌≡◌ {A = Output} (record { answer = answer_of r; bytes = table }) (compile_of source lent)
 
-    compiled_by : (q : compiler.Compiled) → r ≡ q → compiling (answer_of q) ≡ compile_of source lent
-    compiled_by q d = ap (λ x. compiling (answer_of x)) (sym d) ∙ e
+    pub compiled_fits : (n : ℕ) → compiles (Ok n) → n ≤ length table
+    compiled_fits n c = rw (ap (λ o. o.answer.value) c, ap (λ o. length o.bytes) c) (compile_fits source lent)
 
-    pub compiled_fits : (n : ℕ) → r ≡ answer.Table n → n ≤ length table
-    compiled_fits n d =
-        let c = compiled_by (answer.Table n) d in
-        rw (ap (λ o. o.answer.value) c, ap (λ o. length o.bytes) c) (compile_fits source lent)
-
-    pub table_reply_is : (n : ℕ) → r ≡ answer.Table n → label_reply (take n table) label scratch ≡ source_reply source label scratch
+    pub table_reply_is : (n : ℕ) → compiles (Ok n) → label_reply (take n table) label scratch ≡ source_reply source label scratch
     unfolding table_reply
-    table_reply_is n d = ap (λ o. table_reply o label scratch) (compiled_by (answer.Table n) d) ∙ compile_reply
+    table_reply_is n c = ap (λ o. table_reply o label scratch) c ∙ compile_reply
 
-    pub refused_reply_is : (number position : ℕ) → r ≡ answer.Refused number position → record { text = refused_text number position; scratch = scratch } ≡ source_reply source label scratch
+    pub refused_reply_is : (f : Fault) → compiles (Err f) → record { text = refused_text (number_of f.refusal) f.position; scratch = scratch } ≡ source_reply source label scratch
     unfolding table_reply
-    refused_reply_is number position d =
-        let c = compiled_by (answer.Refused number position) d in
-        let f : ¬ (number ≡ 0) = λ z. let o = compile_some source lent (sym (ap (λ o. o.answer.number) c) ∙ z) in omega (arith, ap (λ o. o.answer.value) c) in
-        sym (if_false _ _ _ (ne_eqb number 0 f)) ∙ ap (λ o. table_reply o label scratch) c ∙ compile_reply
+    refused_reply_is f c =
+        let d : ¬ (number_of f.refusal ≡ 0) = λ z. let o = compile_some source lent (sym (ap (λ o. o.answer.number) c) ∙ z) in omega (arith, ap (λ o. o.answer.value) c) in
+        sym (if_false _ _ _ (ne_eqb (number_of f.refusal) 0 d)) ∙ ap (λ o. table_reply o label scratch) c ∙ compile_reply

@@ -1,57 +1,42 @@
-// The reply to one line: it is cut at its first tab, the source compiled and the label matched.
-ghost use Rattle.std.specs.Prelude.{◌≡◌, ◌+◌, ◌≤◌, length};
-ghost use Rattle.pattern.specs.Decode.{decode};
-ghost use Rattle.table.specs.declared.Tested.TheVariants.{Good};
-ghost use Rattle.table.specs.Tested.{tested};
+// The reply to one line: it is cut at its first tab, the source compiled and the label matched. Output and place are arguments, with room for a
+// reply by a clause: a writer of a `&mut` would be lent anew at each call.
+ghost use Rattle.std.specs.Prelude.{◌≡◌, ◌==◌, ◌+◌, ◌<◌, ◌≤◌, ◌^◌, length, replicate, position};
 ghost use Rattle.replies.specs.Sizes.{tab_byte, reply_room};
-ghost use Rattle.replies.specs.Reply.{index_of, label_reply, source_reply, reply, answer_to};
+ghost use Rattle.replies.specs.Reply.{label_reply, source_reply, reply, answer_to};
 ghost use Rattle.replies.specs.Rooms.{TableFits};
 ghost use Rattle.replies.specs.Stores.{Replied};
 
 use crate::sizes::{BUDGET, LINE_LIMIT, NEWLINE, PARTS_ROOM, TAB};
 use crate::text;
-use compiler::Compiled;
-use pattern::refusal;
-use stores::put_byte;
+use pattern::refusal::Refusal;
+use stores::put;
+use table::TestedTable;
 use table::write::{SHORT_SOURCE, SHORT_TABLE, TABLE_ROOM};
-use table::{Sizes, Tested};
 
-// Where the first tab stands, the length if there is none.
-fn tab_at(line: &[u8]) -> usize
-    ensures { result ≡ index_of tab_byte line.now }
+// Where the first tab stands.
+fn tab_at(line: &[u8]) -> Option<usize>
+    ensures { result ≡ position (λ b. b == tab_byte) line.now }
 {
-    let mut i = 0;
-    while i < line.len() {
-        if line[i] == TAB {
-            return i;
-        }
-        i += 1;
-    }
-    i
+    line.iter().position(|b| *b == TAB)
 }
 
 // A label under a table that was tested.
 fn put_match(
-    table: &[u8],
-    sizes: Sizes,
+    table: TestedTable<'_>,
     label: &[u8],
     scratch: &mut [u8],
     out: &mut [u8],
     at: usize,
 ) -> usize
-    requires good { Good sizes ≡ tested (decode table.now) }
-    requires room { at + reply_room ≤ length out.old }
-    ensures { Replied reply_room (label_reply table.now label.now scratch.old) out.old at scratch.new out.new result }
+    requires { at + reply_room ≤ length out.old }
+    ensures { Replied reply_room (label_reply table.entry.bytes.now label.now scratch.old) out.old at scratch.new out.new result }
 {
     let mut parts = [0u8; PARTS_ROOM];
-    let a = matcher::match_good(table, sizes, label, scratch, &mut parts, BUDGET).numbers(BUDGET);
-    if a.number > 0 {
-        return text::put_unmatched(a.number as u64, out, at);
+    match matcher::match_good(table, label, scratch, &mut parts, BUDGET) {
+        Ok(verdict) if verdict.matches => text::put_matched(&parts[..2 * table.sizes.top], out, at),
+        Ok(_) => put(out, at, &[b'0']),
+        Err(refusal) => text::put_unmatched(refusal, out, at),
     }
-    if a.value == 0 {
-        return put_byte(out, at, b'0');
-    }
-    text::put_matched(&parts[..2 * sizes.top], out, at)
 }
 
 // A label under a table.
@@ -59,30 +44,29 @@ fn put_label(table: &[u8], label: &[u8], scratch: &mut [u8], out: &mut [u8], at:
     requires { at + reply_room ≤ length out.old }
     ensures { Replied reply_room (label_reply table.now label.now scratch.old) out.old at scratch.new out.new result }
 {
-    match table::test(table) {
-        Tested::Bad => text::put_unmatched(refusal::TABLE as u64, out, at),
-        Tested::Good(sizes) => put_match(table, sizes, label, scratch, out, at),
-    }
+    let Some(good) = table::test(table) else {
+        return text::put_unmatched(Refusal::Table, out, at);
+    };
+    put_match(good, label, scratch, out, at)
 }
 
-// A source and a label, by a table that is lent.
-fn put_source(
+// A source and a label, by a table of so many bytes.
+fn put_source<const ROOM: usize>(
     source: &[u8],
     label: &[u8],
-    table: &mut [u8],
     scratch: &mut [u8],
     out: &mut [u8],
     at: usize,
 ) -> usize
-    requires fits { TableFits source.now table.old }
+    requires fits { TableFits source.now (replicate ROOM 0) }
+    requires small { ROOM < 2 ^ 63 }
     requires room { at + reply_room ≤ length out.old }
     ensures { Replied reply_room (source_reply source.now label.now scratch.old) out.old at scratch.new out.new result }
 {
-    match compiler::compile(source, table) {
-        Compiled::Table(n) => put_label(&table[..n], label, scratch, out, at),
-        Compiled::Refused(number, position) => {
-            text::put_refused(number as u64, position as u64, out, at)
-        }
+    let mut table = [0u8; ROOM];
+    match compiler::compile(source, &mut table) {
+        Ok(n) => put_label(&table[..n], label, scratch, out, at),
+        Err(fault) => text::put_refused(fault, out, at),
     }
 }
 
@@ -92,24 +76,22 @@ fn put_cut(source: &[u8], label: &[u8], scratch: &mut [u8], out: &mut [u8], at: 
     ensures { Replied reply_room (source_reply source.now label.now scratch.old) out.old at scratch.new out.new result }
 {
     if source.len() <= SHORT_SOURCE {
-        let mut table = [0u8; SHORT_TABLE];
-        return put_source(source, label, &mut table, scratch, out, at);
+        return put_source::<SHORT_TABLE>(source, label, scratch, out, at);
     }
-    let mut table = [0u8; TABLE_ROOM];
-    put_source(source, label, &mut table, scratch, out, at)
+    put_source::<TABLE_ROOM>(source, label, scratch, out, at)
 }
 
+// A line: too long, without a tab, or a source and a label.
 fn put_reply(line: &[u8], scratch: &mut [u8], out: &mut [u8], at: usize) -> usize
     requires { at + reply_room ≤ length out.old }
     ensures { Replied reply_room (reply line.now scratch.old) out.old at scratch.new out.new result }
 {
     if LINE_LIMIT < line.len() {
-        return put_byte(out, at, b'L');
+        return put(out, at, &[b'L']);
     }
-    let tab = tab_at(line);
-    if line.len() <= tab {
-        return put_byte(out, at, b'T');
-    }
+    let Some(tab) = tab_at(line) else {
+        return put(out, at, &[b'T']);
+    };
     put_cut(&line[..tab], &line[tab + 1..], scratch, out, at)
 }
 
@@ -119,5 +101,5 @@ pub fn answer_line(line: &[u8], scratch: &mut [u8], out: &mut [u8], at: usize) -
     ensures { Replied (reply_room + 1) (answer_to line.now scratch.old) out.old at scratch.new out.new result }
 {
     let end = put_reply(line, scratch, out, at);
-    put_byte(out, end, NEWLINE)
+    put(out, end, &[NEWLINE])
 }

@@ -1,5 +1,5 @@
 -- The runs of letters and of a literal's bytes, one step after the other. Assumes nothing.
-use mathlib.Core.Path.{◌≡◌, refl, sym, ap, ◌∙◌, subst}
+use mathlib.Core.Path.{◌≡◌, refl, sym, ap, ◌∙◌}
 use mathlib.Core.Logic.{⊎_elim}
 use mathlib.Core.List.{[], ◌∷◌, ◌++◌}
 use Prim.Native.Nat.{ℕ, ◌+◌, ◌-◌, ◌<◌, ◌≤◌}
@@ -7,6 +7,7 @@ use native.Mathlib.Omega.{arith}
 use lib.Bits.{bit_or, or_lt, or_zero_l, or_add_and, and_le_l}
 use lib.ListN.{length, get_or, set, length-append, length-set}
 use borrow.Author.Tests.{le-leb, lt-leb}
+use Rattle.std.specs.Prelude.{Ok, Err}
 use Rattle.pattern.specs.Numbers.{CODE, set_limit}
 use Rattle.pattern.specs.Bytes.{Bytes}
 use Rattle.pattern.specs.Codes.{bit}
@@ -14,12 +15,10 @@ use Rattle.pattern.specs.Syntax.{codes}
 use Rattle.pattern.specs.Parser.{after, move, step, extend}
 use Rattle.pattern.specs.Scan.{begins, begun, body_begins, fault, refuse}
 use Rattle.scanner.specs.declared.cursor.Cursor.{Cursor}
+use Rattle.pattern.specs.declared.refusal.Refusal.TheVariants.{Form, Code}
 use Rattle.scanner.specs.declared.cursor.Class.{Class}
 use Rattle.scanner.specs.declared.cursor.Class.TheVariants as class
-use Rattle.scanner.specs.declared.cursor.Text.{Text}
 use Rattle.scanner.specs.declared.cursor.Text.TheVariants as texts
-use Rattle.scanner.specs.declared.body.LettersRead.TheVariants as sets
-use Rattle.scanner.specs.declared.body.LiteralRead.TheVariants as literals
 use Rattle.scanner.specs.Places.{Onward, LetterIs, ClassPost}
 use Rattle.pattern.specs.Stores.{store_at}
 use Rattle.scanner.specs.Bodies.{Passes, Refuses, after_codes, in_literal, TextPost, CodesFromPost, QuotedPost}
@@ -59,17 +58,17 @@ pub coding_start : (s : Bytes) (i c x : ℕ) (next : Cursor) → LetterIs s i c 
 coding_start s i c x next is e = rw (e, ← or_zero_l (bit c)) (coding_next s i i c next is (omega arith) 0 (omega arith) (record { scan = λ l v k n. refl }))
 
 module _ (s : Bytes) (i : ℕ) (at : Cursor) (set : ℕ) (c : Coding s i at set) where
-  pub coding_fault : set_limit ≤ set → CodesFromPost s i (sets.Fault (at.at - 1))
+  pub coding_fault : set_limit ≤ set → CodesFromPost s i (Err (record { refusal = Code; position = at.at - 1 }))
   unfolding CodesFromPost
-  coding_fault h = c.refuses h
+  coding_fault h = (refl, c.refuses h)
 
-  module _ (small : set < set_limit) (r : Class) (read : ClassPost s at.at r) where
-    pub coding_more : (b x : ℕ) (next : Cursor) → r ≡ class.Letter b next → x ≡ bit b → Coding s i next (bit_or set x)
-    coding_more b x next e f = rw f (coding_next s i at.at b next (class_letter s at.at r b next e read) (omega (arith, c.on)) set small (c.passes small))
+  module _ (small : set < set_limit) where
+    pub coding_more : (b x : ℕ) (next : Cursor) → ClassPost s at.at (class.Letter b next) → x ≡ bit b → Coding s i next (bit_or set x)
+    coding_more b x next h f = rw f (coding_next s i at.at b next (class_letter s at.at b next h) (omega (arith, c.on)) set small (c.passes small))
 
-    pub coding_end : ((b : ℕ) (next : Cursor) → ¬ (r ≡ class.Letter b next)) → CodesFromPost s i (sets.Set set at)
+    pub coding_end : (r : Class) → ClassPost s at.at r → ((b : ℕ) (next : Cursor) → ¬ (r ≡ class.Letter b next)) → CodesFromPost s i (Ok (set, at))
     unfolding CodesFromPost
-    coding_end d = (small, omega (arith, c.on), c.within, c.passes small, class_none s at.at r d read)
+    coding_end r read d = (small, omega (arith, c.on), c.within, c.passes small, class_none s at.at r d read)
 
 -- where the loop over a literal's bytes stands
 pub record Quoting (s : Bytes) (i p : ℕ) (pool pool' : Bytes) (at end : ℕ) : Type 0 where
@@ -94,19 +93,16 @@ quoting_start s i p pool h f g = record {
   scan = record { scan = λ l v k n. refl };
 }
 
-module _ (s : Bytes) (i p : ℕ) (pool pool' : Bytes) (at end : ℕ) (q : Quoting s i p pool pool' at end) (r : Text) (read : TextPost s at r) where
-  module _ (b : ℕ) (next : Cursor) (e : r ≡ texts.Byte b next) where
-    byte_read : TextPost s at (texts.Byte b next)
-    byte_read = subst (λ r. TextPost s at r) e read
-
+module _ (s : Bytes) (i p : ℕ) (pool pool' : Bytes) (at end : ℕ) (q : Quoting s i p pool pool' at end) where
+  module _ (b : ℕ) (next : Cursor) (read : TextPost s at (texts.Byte b next)) where
     pub quoting_past : Onward s at next
     unfolding TextPost
-    quoting_past = byte_read.0
+    quoting_past = read.0
 
     pub quoting_more : Quoting s i p pool (set pool' end b) next.at (end + 1)
     unfolding TextPost
     quoting_more =
-        let (o, f) = byte_read in
+        let (o, f) = read in
         record {
           value = q.value ++ b ∷ [];
           end_is = omega (arith, q.end_is, length-append q.value (b ∷ []));
@@ -118,10 +114,10 @@ module _ (s : Bytes) (i p : ℕ) (pool pool' : Bytes) (at end : ℕ) (q : Quotin
           scan = record { scan = λ l h k n. q.scan.scan l h k n ∙ (f q.value).scan l h k n };
         }
 
-  pub quoting_ends : (next : Cursor) → r ≡ texts.End next → QuotedPost s i p pool pool' (literals.Value next end)
+  pub quoting_ends : (next : Cursor) → TextPost s at (texts.End next) → QuotedPost s i p pool pool' (Ok (next, end))
   unfolding TextPost QuotedPost
-  quoting_ends next e =
-      let (o, f, g) = subst (λ r. TextPost s at r) e read in
+  quoting_ends next read =
+      let (o, f, g) = read in
       record {
         value = q.value;
         end_is = q.end_is;
@@ -132,6 +128,6 @@ module _ (s : Bytes) (i p : ℕ) (pool pool' : Bytes) (at end : ℕ) (q : Quotin
         rests = g;
       }
 
-  pub quoting_broken : r ≡ texts.Broken → QuotedPost s i p pool pool' (literals.Fault at)
+  pub quoting_broken : TextPost s at texts.Broken → QuotedPost s i p pool pool' (Err (record { refusal = Form; position = at }))
   unfolding TextPost QuotedPost
-  quoting_broken e = record { scan = λ l h k n. q.scan.scan l h k n ∙ (subst (λ r. TextPost s at r) e read q.value).scan l h k n }
+  quoting_broken read = (refl, record { scan = λ l h k n. q.scan.scan l h k n ∙ (read q.value).scan l h k n })

@@ -11,30 +11,28 @@ use lib.Dec.{leb, ltb}
 use lib.Arith.{lt_of_le-ne}
 use lib.ListN.{length, drop, get_or, drop_of_length-le}
 use lib.Seq.{drop-cons}
-use borrow.Author.Tests.{lt-ltb, le-ltb, leb-false}
-use Rattle.pattern.specs.Numbers.{number_limit, atom_limit, open_high, FORM, NUMBER, RANGE, ATOMS}
+use borrow.Author.Tests.{le-ltb, leb-false}
+use Rattle.std.specs.Prelude.{Some, None, Result, Ok, Err}
+use Rattle.std.specs.declared.option.Option as code
+use Rattle.pattern.specs.Numbers.{number_limit, atom_limit, open_high, NUMBER, RANGE, ATOMS}
 use Rattle.pattern.specs.Bytes.{Bytes}
 use Rattle.pattern.specs.Table.{high_field}
 use Rattle.pattern.specs.Repeats.{repeat_of}
 use Rattle.pattern.specs.Grammar.{CountChar, digit, point, CharClass, count_char, body_start, branch_end}
 use Rattle.pattern.specs.Parser.{CountState, empty, first, pointed, second, counting, Stack, grow, move, step, finish}
 use Rattle.pattern.specs.Scan.{low, high, longest_count, falls, refuse, atom_rows, Outcome, refused}
+use Rattle.pattern.specs.Refusals.{number_of}
 use Rattle.pattern.specs.declared.repeat.Repeat.{Repeat}
+use Rattle.pattern.specs.declared.refusal.Refusal.{Refusal}
+use Rattle.pattern.specs.declared.refusal.Refusal.TheVariants.{Form, Number, Range, Atoms}
+use Rattle.pattern.specs.declared.refusal.Fault.{Fault}
 use Rattle.pattern.proofs.Tests.{le_or_lt}
 use Rattle.pattern.proofs.TableRows.{BothFit, fit_fault, unfit_fault}
 use Rattle.pattern.proofs.LongestCounts.{over_unfit, longest_fit}
 use Rattle.scanner.specs.declared.cursor.Cursor.{Cursor}
-use Rattle.scanner.specs.declared.cursor.Point.{Point}
-use Rattle.scanner.specs.declared.cursor.Point.TheVariants as points
-use Rattle.scanner.specs.declared.count.DigitsRead.{DigitsRead}
-use Rattle.scanner.specs.declared.count.DigitsRead.TheVariants as digits_read
-use Rattle.scanner.specs.declared.count.CountRead.{CountRead}
-use Rattle.scanner.specs.declared.count.CountRead.TheVariants as count_read
-use Rattle.scanner.specs.declared.count.CountResult.{CountResult}
-use Rattle.scanner.specs.declared.count.CountResult.TheVariants as counted
 use Rattle.scanner.specs.Places.{Onward, class_at, ClassIs, ClassNot, PointPost}
 use Rattle.scanner.specs.Scans.{scanned}
-use Rattle.scanner.specs.Counts.{CountNumber, the_first, the_second, faults_first, Advances, Exceeds, DigitsAre, DigitsPost, within_atoms, judged, CountPost, CountReadPost, AfterPointPost}
+use Rattle.scanner.specs.Counts.{the_first, the_second, faults_first, Advances, Exceeds, DigitsAre, DigitsPost, fault_at, within_atoms, judged, CountPost, CountReadPost, count_read, AfterPointPost}
 use Rattle.scanner.proofs.Steps.{stuck, short}
 use Rattle.scanner.proofs.Reaches.{point_begins, point_goes_on, then_reaches}
 
@@ -62,71 +60,70 @@ unfolding falls
 falls_fields l none f = le-ltb open_high l (omega arith)
 falls_fields l (some m) f = refl
 
+-- a count and where it ends, the other way round
+pub count_swapped : {r r' : Repeat} {end end' : Cursor} → ◌≡◌ {A = code.Option (Repeat × Cursor)} (Some (r, end)) (Some (r', end')) → ◌≡◌ {A = Result (Cursor × Repeat) Fault} (Ok (end, r)) (Ok (end', r'))
+count_swapped {r} {r'} {end} {end'} e = ap swapped e
+  where
+    swapped : code.Option (Repeat × Cursor) → Result (Cursor × Repeat) Fault
+    swapped None = Ok (end, r)
+    swapped (Some (q, at)) = Ok (at, q)
+
 -- a count that begins at place i, of an atom after n others
 module _ (s : Bytes) (i n : ℕ) where
   abbrev Answers : (Stack → Outcome) → Type 0
   Answers o = (k : Stack) → scanned s (counting empty, k) i n ≡ o k
 
-  refused_here : (f p : ℕ) → Answers (λ k. refused f p) → CountPost s i n (counted.Fault f p)
+  refused_here : (r : Refusal) (p : ℕ) → Answers (λ k. refused (number_of r) p) → CountPost s i n (fault_at r p)
   unfolding CountPost
-  refused_here f p h = record { scan = h }
+  refused_here r p h = record { scan = h }
 
   -- too many atoms, or what was found
-  atoms_tested : (o : Stack → Outcome) (found : CountResult) → Answers (λ k. elim (refuse ((leb atom_limit n, ATOMS) ∷ [])) [ none ↦ o k | some f ↦ refused f i ])
+  atoms_tested : (o : Stack → Outcome) (found : Result (Cursor × Repeat) Fault) → Answers (λ k. elim (refuse ((leb atom_limit n, ATOMS) ∷ [])) [ none ↦ o k | some f ↦ refused f i ])
       → (n < atom_limit → Answers o → CountPost s i n found) → CountPost s i n (within_atoms n i found)
   unfolding within_atoms refuse
   atoms_tested o found h f = go (leb atom_limit n) refl h
     where
-      go : (b : Bool) → leb atom_limit n ≡ b → Answers (λ k. elim (refuse ((b, ATOMS) ∷ [])) [ none ↦ o k | some f ↦ refused f i ]) → CountPost s i n (cond b (counted.Fault ATOMS i) found)
-      go true e h = refused_here ATOMS i h
+      go : (b : Bool) → leb atom_limit n ≡ b → Answers (λ k. elim (refuse ((b, ATOMS) ∷ [])) [ none ↦ o k | some f ↦ refused f i ]) → CountPost s i n (cond b (fault_at Atoms i) found)
+      go true e h = refused_here Atoms i h
       go false e h = f (leb-false atom_limit n e) h
 
   tested_as : (x : Option ℕ) (o : Outcome) → refuse (atom_rows n (longest_count empty (drop i s))) ≡ x → faults_first the_first s i n o ≡ elim x [ none ↦ o | some f ↦ refused f i ]
   unfolding faults_first
   tested_as x o e = ap (λ (y : Option ℕ). elim y [ none ↦ o | some f ↦ refused f i ]) e
 
-  large_right : (p : ℕ) → Exceeds s the_first i p → CountPost s i n (judged n i (count_read.Large p))
+  large_right : (p : ℕ) → Exceeds s the_first i p → CountPost s i n (judged n i (Err p))
   unfolding judged
   large_right p h =
       let u : ¬ BothFit (longest_count empty (drop i s)) = λ f. over_unfit h.state h.over (longest_fit (drop (suc p) s) h.state (rw h.reaches.longest at f)) in
-      atoms_tested (λ k. refused NUMBER p) (counted.Fault NUMBER p) (λ k. h.reaches.scan k n ∙ tested_as _ _ (unfit_fault n _ u)) (λ l f. refused_here NUMBER p f)
+      atoms_tested (λ k. refused NUMBER p) (fault_at Number p) (λ k. h.reaches.scan k n ∙ tested_as _ _ (unfit_fault n _ u)) (λ l f. refused_here Number p f)
 
   repeat_right : (r : CountState) (end : Cursor) → NotEmpty r → Advances s the_first i r end.at → low r ≤ number_limit → Onward s i end
       → ((m : CountChar) → end.at < length s → class_at s end.at ≡ count_char m → grow r m (get_or s end.at 0) ≡ none)
-      → CountPost s i n (judged n i (count_read.Repeat (repeat_of (low r) (high r)) end))
+      → CountPost s i n (judged n i (Ok (Some (repeat_of (low r) (high r), end))))
   unfolding judged NotEmpty
   repeat_right r end d h f o t =
       let l : longest_count empty (drop i s) ≡ r = h.longest ∙ longest_here s end.at r t in
       rw (falls_fields (low r) (high r) f) (go (falls (low r) (high r)) (λ k. h.scan k n ∙ tested_as _ _ (ap (λ x. refuse (atom_rows n x)) l ∙ fit_fault n r f)))
     where
       go : (b : Bool) → Answers (λ k. elim (refuse ((b, RANGE) ∷ (leb atom_limit n, ATOMS) ∷ [])) [ none ↦ scanned s (counting r, k) end.at (suc n) | some f ↦ refused f i ])
-          → CountPost s i n (cond b (counted.Fault RANGE i) (within_atoms n i (counted.Repeat end (repeat_of (low r) (high r)))))
-      go true a = refused_here RANGE i (unfold refuse in a)
+          → CountPost s i n (cond b (fault_at Range i) (within_atoms n i (Ok (end, repeat_of (low r) (high r)))))
+      go true a = refused_here Range i (unfold refuse in a)
       go false a =
-          atoms_tested (λ k. scanned s (counting r, k) end.at (suc n)) (counted.Repeat end (repeat_of (low r) (high r))) (unfold refuse in a)
+          atoms_tested (λ k. scanned s (counting r, k) end.at (suc n)) (Ok (end, repeat_of (low r) (high r))) (unfold refuse in a)
           (λ l a. unfold CountPost in record { state = r; begun = λ e. subst NotEmpty e d; rep_is = refl; onward = o; room = l; stops = t; scan = a })
 
--- what the reader of digits found
-module _ (s : Bytes) (i : ℕ) (a : DigitsRead) (post : DigitsPost s i a) where
-  read_large : (p : ℕ) → a ≡ digits_read.Large p → (w : CountNumber) → Exceeds s w i p
-  unfolding DigitsPost
-  read_large p e = subst (λ a. DigitsPost s i a) e post
-
-  read_number : (v : ℕ) (end : Cursor) → a ≡ digits_read.Number v end → DigitsAre s i v end.at × ClassNot s end.at (count_char digit)
-  unfolding DigitsPost
-  read_number v end e = subst (λ a. DigitsPost s i a) e post
-
 -- after the point, which is before place j
-module _ (s : Bytes) (j x : ℕ) (a : DigitsRead) (post : DigitsPost s j a) where
-  pub second_large : (p : ℕ) → a ≡ digits_read.Large p → AfterPointPost s j x (count_read.Large p)
-  unfolding AfterPointPost CountReadPost
-  second_large p e = λ i l f h n.
-      let g = read_large s j a post p e (the_second x) in
-      large_right s i n p (record { state = g.state; over = g.over; reaches = then_reaches s i x j h g.state (suc p) _ g.reaches })
+module _ (s : Bytes) (j x : ℕ) where
+  pub second_large : (p : ℕ) → DigitsPost s j (Err p) → AfterPointPost s j x (Err p)
+  unfolding DigitsPost AfterPointPost CountReadPost
+  second_large p h = λ i l f a n.
+      let g = h (the_second x) in
+      large_right s i n p (record { state = g.state; over = g.over; reaches = then_reaches s i x j a g.state (suc p) _ g.reaches })
 
-  module _ (v : ℕ) (end : Cursor) (e : a ≡ digits_read.Number v end) (rep : Repeat) where
+  module _ (v : ℕ) (end : Cursor) (read : DigitsPost s j (Ok (v, end))) (rep : Repeat) where
     there : DigitsAre s j v end.at × ClassNot s end.at (count_char digit)
-    there = read_number s j a post v end e
+    unfolding DigitsPost
+    there = read
 
     past : (i : ℕ) → i < j → Onward s i end
     past i l = let (d, z) = there in record { on = omega (arith, d.on); within = d.within }
@@ -136,11 +133,11 @@ module _ (s : Bytes) (j x : ℕ) (a : DigitsRead) (post : DigitsPost s j a) wher
     stops r f digit l k = absurd (there.1.not l k)
     stops r f point l k = f
 
-    pub count_open : end.at ≡ j → rep ≡ repeat_of x none → AfterPointPost s j x (count_read.Repeat rep end)
+    pub count_open : end.at ≡ j → rep ≡ repeat_of x none → AfterPointPost s j x (Ok (rep, end))
     unfolding AfterPointPost CountReadPost low high NotEmpty
     count_open y g = λ i l f h n. rw g (repeat_right s i n (pointed x) end tt (rw y h) f (past i l) (stops (pointed x) (unfold grow in refl)))
 
-    pub count_closed : ¬ (end.at ≡ j) → rep ≡ repeat_of x (some v) → AfterPointPost s j x (count_read.Repeat rep end)
+    pub count_closed : ¬ (end.at ≡ j) → rep ≡ repeat_of x (some v) → AfterPointPost s j x (Ok (rep, end))
     unfolding AfterPointPost CountReadPost low high NotEmpty
     count_closed y g = λ i l f h n.
         let (d, z) = there in
@@ -148,27 +145,28 @@ module _ (s : Bytes) (j x : ℕ) (a : DigitsRead) (post : DigitsPost s j a) wher
         rw g (repeat_right s i n (second x v) end tt (then_reaches s i x j h (second x v) end.at _ (d.goes_on m (the_second x))) f (past i l) (stops (second x v) (unfold grow in refl)))
 
 -- from the first byte
-module _ (s : Bytes) (i : ℕ) (a : DigitsRead) (post : DigitsPost s i a) where
-  pub first_large : (p : ℕ) → a ≡ digits_read.Large p → CountReadPost s i (count_read.Large p)
-  unfolding CountReadPost
-  first_large p e = λ n. large_right s i n p (read_large s i a post p e the_first)
+module _ (s : Bytes) (i : ℕ) where
+  pub first_large : (p : ℕ) → DigitsPost s i (Err p) → CountReadPost s i (Err p)
+  unfolding DigitsPost CountReadPost
+  first_large p h = λ n. large_right s i n p (h the_first)
 
-  module _ (v : ℕ) (end : Cursor) (e : a ≡ digits_read.Number v end) (y : Point) (point_post : PointPost s end.at y) where
+  module _ (v : ℕ) (end : Cursor) (read : DigitsPost s i (Ok (v, end))) where
     here : DigitsAre s i v end.at × ClassNot s end.at (count_char digit)
-    here = read_number s i a post v end e
+    unfolding DigitsPost
+    here = read
 
-    module _ (f : y ≡ points.None) where
+    module _ (none_read : PointPost s end.at None) where
       no_point : ClassNot s end.at (count_char point)
       unfolding PointPost
-      no_point = subst (λ y. PointPost s end.at y) f point_post
+      no_point = none_read
 
       -- no count at all
-      pub count_none : end.at ≡ i → CountReadPost s i count_read.None
+      pub count_none : end.at ≡ i → CountReadPost s i (Ok None)
       unfolding CountReadPost judged step finish
       count_none g = λ n.
           let u : ClassNot s i (count_char digit) = rw g at here.1 in
           let w : ClassNot s i (count_char point) = rw g at no_point in
-          refused_here s i n FORM i (λ k. ⊎_elim (λ h. short s i n h (counting empty, k) refl) (λ h. stuck s i n h (counting empty, k) (go (class_at s i) (u.not h) (w.not h) k)) (le_or_lt (length s) i))
+          refused_here s i n Form i (λ k. ⊎_elim (λ h. short s i n h (counting empty, k) refl) (λ h. stuck s i n h (counting empty, k) (go (class_at s i) (u.not h) (w.not h) k)) (le_or_lt (length s) i))
         where
           go : (x : CharClass) → ¬ (x ≡ count_char digit) → ¬ (x ≡ count_char point) → (k : Stack) → move (counting empty) k x (get_or s i 0) ≡ none
           go (count_char digit) u w k = absurd (u refl)
@@ -176,7 +174,7 @@ module _ (s : Bytes) (i : ℕ) (a : DigitsRead) (post : DigitsPost s i a) where
           go (body_start b) u w k = unfold move in refl
           go (branch_end b) u w k = unfold move in refl
 
-      pub count_exact : (rep : Repeat) → ¬ (end.at ≡ i) → rep ≡ repeat_of v (some v) → CountReadPost s i (count_read.Repeat rep end)
+      pub count_exact : (rep : Repeat) → ¬ (end.at ≡ i) → rep ≡ repeat_of v (some v) → CountReadPost s i (Ok (Some (rep, end)))
       unfolding CountReadPost low high NotEmpty
       count_exact rep g h = λ n.
           let (d, z) = here in
@@ -187,10 +185,10 @@ module _ (s : Bytes) (i : ℕ) (a : DigitsRead) (post : DigitsPost s i a) where
           stops digit l k = absurd (here.1.not l k)
           stops point l k = absurd (no_point.not l k)
 
-    module _ (next : Cursor) (f : y ≡ points.Is next) where
+    module _ (next : Cursor) (point_read : PointPost s end.at (Some next)) where
       point_here : ClassIs s end.at (count_char point) next
       unfolding PointPost
-      point_here = subst (λ y. PointPost s end.at y) f point_post
+      point_here = point_read
 
       pub point_within : next.at ≤ length s
       point_within = let k = point_here in omega (arith, k.within, k.past)
@@ -204,25 +202,6 @@ module _ (s : Bytes) (i : ℕ) (a : DigitsRead) (post : DigitsPost s i a) where
           (λ l. point_goes_on s end.at k.within k.kind i v (d.goes_on l the_first))
           (eq-or-lt_of_le d.on))
 
-      pub count_pointed : (r : CountRead) → AfterPointPost s next.at v r → CountReadPost s i r
+      pub count_pointed : (r : Result (Repeat × Cursor) ℕ) → AfterPointPost s next.at v r → CountReadPost s i (count_read r)
       unfolding AfterPointPost
       count_pointed r h = let (d, z) = here in let k = point_here in h i (omega (arith, d.on, k.past)) d.fits pointed_goes_on
-
--- the cases of what was read
-module _ (n start : ℕ) (r : CountRead) where
-  module _ (rep : Repeat) (end : Cursor) (e : r ≡ count_read.Repeat rep end) where
-    pub judged_range : rep.high < rep.low → counted.Fault RANGE start ≡ judged n start r
-    unfolding judged
-    judged_range h = rw e (simp (lt-ltb rep.high rep.low h))
-
-    pub judged_repeat : rep.low ≤ rep.high → within_atoms n start (counted.Repeat end rep) ≡ judged n start r
-    unfolding judged
-    judged_repeat h = rw e (simp (le-ltb rep.high rep.low h))
-
-  pub judged_large : (p : ℕ) → r ≡ count_read.Large p → within_atoms n start (counted.Fault NUMBER p) ≡ judged n start r
-  unfolding judged
-  judged_large p e = rw e
-
-  pub judged_none : r ≡ count_read.None → counted.Fault FORM start ≡ judged n start r
-  unfolding judged
-  judged_none e = rw e

@@ -1,18 +1,16 @@
 -- The loop over the digits of a number. Assumes nothing.
-use mathlib.Core.Path.{◌≡◌, refl, sym, subst}
+use mathlib.Core.Path.{◌≡◌, refl, sym}
 use mathlib.Core.Logic.{⊎_elim}
 use Prim.Native.Nat.{ℕ, ◌+◌, ◌-◌, ◌*◌, ◌/◌, ◌≤◌, ◌<◌}
 use native.Mathlib.Omega.{arith}
 use native.Mathlib.Nat.{eq-or-lt_of_le}
 use lib.Arith.{lt_of_le-ne}
 use lib.ListN.{length, get_or}
+use Rattle.std.specs.Prelude.{Some, None, Ok, Err}
 use Rattle.pattern.specs.Numbers.{number_limit}
 use Rattle.pattern.specs.Bytes.{Bytes}
 use Rattle.pattern.specs.Grammar.{digit, count_char}
 use Rattle.scanner.specs.declared.cursor.Cursor.{Cursor}
-use Rattle.scanner.specs.declared.cursor.Digit.{Digit}
-use Rattle.scanner.specs.declared.cursor.Digit.TheVariants as digits
-use Rattle.scanner.specs.declared.count.DigitsRead.TheVariants as digits_read
 use Rattle.scanner.specs.Places.{ClassIs, Onward, DigitPost}
 use Rattle.scanner.specs.Counts.{DigitsAre, DigitsPost}
 use Rattle.scanner.proofs.Reaches.{number_begins, number_goes_on, exceeds}
@@ -21,11 +19,11 @@ pub digits_start : (s : Bytes) (i : ℕ) → i ≤ length s → DigitsAre s i 0 
 digits_start s i h = record { fits = omega arith; missing = λ e. refl; on = omega arith; within = h; goes_on = λ l. absurd (omega arith) }
 
 -- one turn, with what was read at the place
-module _ (s : Bytes) (i v at : ℕ) (g : DigitsAre s i v at) (r : Digit) (post : DigitPost s at r) where
-  module _ (d : ℕ) (next : Cursor) (e : r ≡ digits.Is d next) where
+module _ (s : Bytes) (i v at : ℕ) (g : DigitsAre s i v at) where
+  module _ (d : ℕ) (next : Cursor) (read : DigitPost s at (Some (d, next))) where
     here : ClassIs s at (count_char digit) next × (d ≡ get_or s at 0 - 48) × (d ≤ 9)
     unfolding DigitPost
-    here = subst (λ r. DigitPost s at r) e post
+    here = read
 
     pub digit_past : Onward s at next
     digit_past = let (k, x, y) = here in record { on = omega (arith, k.past); within = omega (arith, k.past, k.within) }
@@ -47,12 +45,12 @@ module _ (s : Bytes) (i v at : ℕ) (g : DigitsAre s i v at) (r : Digit) (post :
               (eq-or-lt_of_le g.on));
         }
 
-    pub digits_over : (p : ℕ) → p ≡ at → number_limit / 10 < v → DigitsPost s i (digits_read.Large p)
+    pub digits_over : (p : ℕ) → p ≡ at → number_limit / 10 < v → DigitsPost s i (Err p)
     unfolding DigitsPost
     digits_over p f h =
         let (k, x, y) = here in
         λ w. rw f (exceeds s at k.within k.kind v i w (g.goes_on (lt_of_le-ne g.on (λ e. omega (arith, g.missing (sym e)))) w) (omega arith))
 
-  pub digits_end : (at' : Cursor) → at'.at ≡ at → r ≡ digits.None → DigitsPost s i (digits_read.Number v at')
+  pub digits_end : (at' : Cursor) → at'.at ≡ at → DigitPost s at None → DigitsPost s i (Ok (v, at'))
   unfolding DigitsPost DigitPost
-  digits_end at' f e = rw f (g, subst (λ r. DigitPost s at r) e post)
+  digits_end at' f h = rw f (g, h)

@@ -1,5 +1,5 @@
 -- Code letters and literals: what their readers promise, as equations on the scan. Private: a model for contracts inside the library.
-use Rattle.std.specs.Prelude.{◌≡◌, [], ◌∷◌, ◌++◌, ℕ, ◌+◌, ◌<◌, ◌≤◌, length}
+use Rattle.std.specs.Prelude.{◌≡◌, [], ◌∷◌, ◌++◌, ℕ, ◌+◌, ◌<◌, ◌≤◌, length, Result, Ok, Err}
 use Rattle.std.proofs.Math.Option.{Option}
 use Rattle.pattern.specs.Numbers.{FORM, CODE, set_limit}
 use Rattle.pattern.specs.Bytes.{Bytes}
@@ -10,13 +10,11 @@ use Rattle.pattern.specs.Scan.{refused}
 use Rattle.scanner.specs.declared.cursor.Cursor.{Cursor}
 use Rattle.scanner.specs.declared.cursor.Text.{Text}
 use Rattle.scanner.specs.declared.cursor.Text.TheVariants as text
-use Rattle.scanner.specs.declared.body.LettersRead.{LettersRead}
-use Rattle.scanner.specs.declared.body.LettersRead.TheVariants as letters
-use Rattle.scanner.specs.declared.body.LiteralRead.{LiteralRead}
-use Rattle.scanner.specs.declared.body.LiteralRead.TheVariants as literals
 use Rattle.scanner.specs.Places.{Onward, ClassNot}
 use Rattle.scanner.specs.Scans.{scanned}
 use Rattle.pattern.specs.Stores.{store_at}
+use Rattle.pattern.specs.Refusals.{number_of}
+use Rattle.pattern.specs.declared.refusal.Fault.{Fault}
 
 -- a state of the parser in or after a body, for any count and any stack
 abbrev pub Inside : Type 0
@@ -45,10 +43,10 @@ TextPost s at (text.End next) = Onward s at next × ((v : Bytes) → Passes s (i
 TextPost s at text.Broken = (v : Bytes) → Refuses s (in_literal v) at FORM at
 
 -- a run of letters from i on, as after codes with no bit yet
-unfoldable pub CodesFromPost : Bytes → ℕ → LettersRead → Type 0
-CodesFromPost s i (letters.Set set next) =
+unfoldable pub CodesFromPost : Bytes → ℕ → Result (ℕ × Cursor) Fault → Type 0
+CodesFromPost s i (Ok (set, next)) =
     (set < set_limit) × (i ≤ next.at) × (next.at ≤ length s) × Passes s (after_codes 0) i (after_codes set) next.at × ClassNot s next.at (body_start letter)
-CodesFromPost s i (letters.Fault p) = Refuses s (after_codes 0) i CODE p
+CodesFromPost s i (Err f) = (number_of f.refusal ≡ CODE) × Refuses s (after_codes 0) i CODE f.position
 
 -- a literal whose value goes to the pool from p on
 pub record LiteralIs (s : Bytes) (i p : ℕ) (pool pool' : Bytes) (next : Cursor) (end : ℕ) : Type 0 where
@@ -60,6 +58,6 @@ pub record LiteralIs (s : Bytes) (i p : ℕ) (pool pool' : Bytes) (next : Cursor
   pub scan : Passes s (in_literal []) i (past_literal value) next.at
   pub rests : ClassNot s next.at (body_start quote)
 
-unfoldable pub QuotedPost : Bytes → (i p : ℕ) → (pool pool' : Bytes) → LiteralRead → Type 0
-QuotedPost s i p pool pool' (literals.Value next end) = LiteralIs s i p pool pool' next end
-QuotedPost s i p pool pool' (literals.Fault f) = Refuses s (in_literal []) i FORM f
+unfoldable pub QuotedPost : Bytes → (i p : ℕ) → (pool pool' : Bytes) → Result (Cursor × ℕ) Fault → Type 0
+QuotedPost s i p pool pool' (Ok (next, end)) = LiteralIs s i p pool pool' next end
+QuotedPost s i p pool pool' (Err f) = (number_of f.refusal ≡ FORM) × Refuses s (in_literal []) i FORM f.position

@@ -1,21 +1,21 @@
 -- Repeat counts: what their readers promise. Private: a model for contracts inside the library.
-use Rattle.std.specs.Prelude.{◌≡◌, cond, ℕ, suc, ◌≤◌, ◌<◌, leb, ltb, length, drop, get_or}
+use Rattle.std.specs.Prelude.{◌≡◌, cond, ℕ, suc, ◌≤◌, ◌<◌, leb, ltb, length, drop, get_or, Result, Ok, Err}
 use Rattle.std.proofs.Math.Option.{none, some}
-use Rattle.pattern.specs.Numbers.{number_limit, atom_limit, FORM, NUMBER, RANGE, ATOMS}
+use Rattle.std.specs.declared.option.Option as code
+use Rattle.std.specs.Prelude.{Some, None}
+use Rattle.pattern.specs.Numbers.{number_limit, atom_limit, NUMBER}
 use Rattle.pattern.specs.Bytes.{Bytes}
 use Rattle.pattern.specs.Repeats.{repeat_of}
 use Rattle.pattern.specs.Grammar.{CountChar, digit, count_char}
 use Rattle.pattern.specs.Parser.{CountState, empty, first, pointed, second, counting, Stack, grow}
 use Rattle.pattern.specs.Scan.{low, high, longest_count, refuse, atom_rows, Outcome, refused}
 use Rattle.pattern.specs.Faults.{Over}
+use Rattle.pattern.specs.Refusals.{number_of}
 use Rattle.pattern.specs.declared.repeat.Repeat.{Repeat}
+use Rattle.pattern.specs.declared.refusal.Refusal.{Refusal}
+use Rattle.pattern.specs.declared.refusal.Refusal.TheVariants.{Form, Number, Range, Atoms}
+use Rattle.pattern.specs.declared.refusal.Fault.{Fault}
 use Rattle.scanner.specs.declared.cursor.Cursor.{Cursor}
-use Rattle.scanner.specs.declared.count.DigitsRead.{DigitsRead}
-use Rattle.scanner.specs.declared.count.DigitsRead.TheVariants as digits_read
-use Rattle.scanner.specs.declared.count.CountRead.{CountRead}
-use Rattle.scanner.specs.declared.count.CountRead.TheVariants as count_read
-use Rattle.scanner.specs.declared.count.CountResult.{CountResult}
-use Rattle.scanner.specs.declared.count.CountResult.TheVariants as counted
 use Rattle.scanner.specs.Places.{Onward, class_at, ClassNot}
 use Rattle.scanner.specs.Scans.{scanned}
 
@@ -67,19 +67,23 @@ pub record DigitsAre (s : Bytes) (i v j : ℕ) : Type 0 where
   pub within : j ≤ length s
   pub goes_on : i < j → (w : CountNumber) → Advances s w i (valued w v) j
 
-unfoldable pub DigitsPost : Bytes → ℕ → DigitsRead → Type 0
-DigitsPost s i (digits_read.Number v next) = DigitsAre s i v next.at × ClassNot s next.at (count_char digit)
-DigitsPost s i (digits_read.Large p) = (w : CountNumber) → Exceeds s w i p
+unfoldable pub DigitsPost : Bytes → ℕ → Result (ℕ × Cursor) ℕ → Type 0
+DigitsPost s i (Ok (v, next)) = DigitsAre s i v next.at × ClassNot s next.at (count_char digit)
+DigitsPost s i (Err p) = (w : CountNumber) → Exceeds s w i p
+
+-- a refusal at a place
+abbrev pub fault_at : Refusal → ℕ → Result (Cursor × Repeat) Fault
+fault_at r p = Err (record { refusal = r; position = p })
 
 -- what was found at a count, unless its atom is one too many
-unfoldable pub within_atoms : (n start : ℕ) → CountResult → CountResult
-within_atoms n start found = cond (leb atom_limit n) (counted.Fault ATOMS start) found
+unfoldable pub within_atoms : (n start : ℕ) → Result (Cursor × Repeat) Fault → Result (Cursor × Repeat) Fault
+within_atoms n start found = cond (leb atom_limit n) (fault_at Atoms start) found
 
 -- the refusals of what was read, in their order
-unfoldable pub judged : (n start : ℕ) → CountRead → CountResult
-judged n start (count_read.Repeat rep end) = cond (ltb rep.high rep.low) (counted.Fault RANGE start) (within_atoms n start (counted.Repeat end rep))
-judged n start (count_read.Large p) = within_atoms n start (counted.Fault NUMBER p)
-judged n start count_read.None = counted.Fault FORM start
+unfoldable pub judged : (n start : ℕ) → Result (code.Option (Repeat × Cursor)) ℕ → Result (Cursor × Repeat) Fault
+judged n start (Ok (Some (rep, end))) = cond (ltb rep.high rep.low) (fault_at Range start) (within_atoms n start (Ok (end, rep)))
+judged n start (Ok None) = fault_at Form start
+judged n start (Err p) = within_atoms n start (fault_at Number p)
 
 -- the scan goes on after the longest run
 pub record CountIs (s : Bytes) (i n : ℕ) (rep : Repeat) (next : Cursor) : Type 0 where
@@ -94,14 +98,19 @@ pub record CountIs (s : Bytes) (i n : ℕ) (rep : Repeat) (next : Cursor) : Type
 pub record CountRefused (s : Bytes) (i n f p : ℕ) : Type 0 where
   pub scan : (k : Stack) → scanned s (counting empty, k) i n ≡ refused f p
 
-unfoldable pub CountPost : Bytes → (i n : ℕ) → CountResult → Type 0
-CountPost s i n (counted.Repeat next rep) = CountIs s i n rep next
-CountPost s i n (counted.Fault f p) = CountRefused s i n f p
+unfoldable pub CountPost : Bytes → (i n : ℕ) → Result (Cursor × Repeat) Fault → Type 0
+CountPost s i n (Ok (next, rep)) = CountIs s i n rep next
+CountPost s i n (Err f) = CountRefused s i n (number_of f.refusal) f.position
 
 -- what was read is right, of whatever atom it is judged
-unfoldable pub CountReadPost : Bytes → ℕ → CountRead → Type 0
+unfoldable pub CountReadPost : Bytes → ℕ → Result (code.Option (Repeat × Cursor)) ℕ → Type 0
 CountReadPost s i r = (n : ℕ) → CountPost s i n (judged n i r)
 
+-- what was read after a point, as a count
+abbrev pub count_read : Result (Repeat × Cursor) ℕ → Result (code.Option (Repeat × Cursor)) ℕ
+count_read (Ok x) = Ok (Some x)
+count_read (Err p) = Err p
+
 -- of whatever count comes to place j with its point
-unfoldable pub AfterPointPost : Bytes → (j low : ℕ) → CountRead → Type 0
-AfterPointPost s j low r = (i : ℕ) → i < j → low ≤ number_limit → Advances s the_first i (pointed low) j → CountReadPost s i r
+unfoldable pub AfterPointPost : Bytes → (j low : ℕ) → Result (Repeat × Cursor) ℕ → Type 0
+AfterPointPost s j low r = (i : ℕ) → i < j → low ≤ number_limit → Advances s the_first i (pointed low) j → CountReadPost s i (count_read r)

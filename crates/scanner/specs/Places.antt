@@ -1,15 +1,9 @@
 -- The byte at a place of a source: what the cursor's methods and `ends_at` promise. Private: a model for contracts inside the library.
-use Rattle.std.specs.Prelude.{◌≡◌, Bool, true, false, cond, ℕ, suc, ◌-◌, ◌≤◌, ◌<◌, ltb, length, get_or}
+use Rattle.std.specs.Prelude.{◌≡◌, Bool, true, false, cond, ℕ, suc, ◌-◌, ◌≤◌, ◌<◌, ltb, length, get_or, Option, Some, None}
 use Rattle.pattern.specs.Numbers.{closing_byte, comma_byte, zero_byte}
 use Rattle.pattern.specs.Bytes.{Bytes}
 use Rattle.pattern.specs.Grammar.{letter, quote, opening, digit, point, CharClass, count_char, body_start, branch_end, char_class, LiteralClass, plain, quoting, barred, literal_class}
 use Rattle.scanner.specs.declared.cursor.Cursor.{Cursor}
-use Rattle.scanner.specs.declared.cursor.Byte.{Byte}
-use Rattle.scanner.specs.declared.cursor.Byte.TheVariants as byte
-use Rattle.scanner.specs.declared.cursor.Digit.{Digit}
-use Rattle.scanner.specs.declared.cursor.Digit.TheVariants as digits
-use Rattle.scanner.specs.declared.cursor.Point.{Point}
-use Rattle.scanner.specs.declared.cursor.Point.TheVariants as points
 use Rattle.scanner.specs.declared.cursor.Class.{Class}
 use Rattle.scanner.specs.declared.cursor.Class.TheVariants as class
 use Rattle.scanner.specs.declared.cursor.Separator.{Separator}
@@ -81,17 +75,17 @@ pub record LetterIs (s : Bytes) (at c : ℕ) (next : Cursor) : Type 0 where
 pub record ClassNot (s : Bytes) (at : ℕ) (x : CharClass) : Type 0 where
   pub not : at < length s → ¬ (class_at s at ≡ x)
 
-unfoldable pub BytePost : Bytes → ℕ → Byte → Type 0
-BytePost s at (byte.Is c next) = ByteIs s at c next
-BytePost s at byte.End = length s ≤ at
+unfoldable pub BytePost : Bytes → ℕ → Option (ℕ × Cursor) → Type 0
+BytePost s at (Some (c, next)) = ByteIs s at c next
+BytePost s at None = length s ≤ at
 
-unfoldable pub DigitPost : Bytes → ℕ → Digit → Type 0
-DigitPost s at (digits.Is d next) = ClassIs s at (count_char digit) next × (d ≡ get_or s at 0 - zero_byte) × (d ≤ 9)
-DigitPost s at digits.None = ClassNot s at (count_char digit)
+unfoldable pub DigitPost : Bytes → ℕ → Option (ℕ × Cursor) → Type 0
+DigitPost s at (Some (d, next)) = ClassIs s at (count_char digit) next × (d ≡ get_or s at 0 - zero_byte) × (d ≤ 9)
+DigitPost s at None = ClassNot s at (count_char digit)
 
-unfoldable pub PointPost : Bytes → ℕ → Point → Type 0
-PointPost s at (points.Is next) = ClassIs s at (count_char point) next
-PointPost s at points.None = ClassNot s at (count_char point)
+unfoldable pub PointPost : Bytes → ℕ → Option Cursor → Type 0
+PointPost s at (Some next) = ClassIs s at (count_char point) next
+PointPost s at None = ClassNot s at (count_char point)
 
 unfoldable pub ClassPost : Bytes → ℕ → Class → Type 0
 ClassPost s at (class.Letter c next) = LetterIs s at c next

@@ -1,32 +1,41 @@
 -- One number of a search, from what the code does with it. Assumes nothing.
 use mathlib.Core.Path.{◌≡◌, refl, sym, ap, subst, ◌∙◌}
 use mathlib.Core.Logic.{⊎_elim}
-use mathlib.Core.Bool.{Bool, true, false, cond}
-use mathlib.Core.List.{List, ◌∷◌, ◌++◌, append_assoc, append-nil}
+use mathlib.Core.Bool.{Bool, true, false}
+use mathlib.Core.List.{List, ◌++◌, append_assoc}
 use mathlib.Core.Option.{Option, none, some}
 use Prim.Native.Nat.{ℕ, suc, ◌+◌, ◌*◌, ◌-◌, ◌≤◌, ◌<◌, max}
 use native.Mathlib.Omega.{arith}
 use borrow.Rule.Slice.PartMut.{put_mid}
-use lib.Dec.{eqb}
-use lib.ListN.{length, take, drop, replicate, length-drop, length-replicate, replicate-append-replicate, take-append-drop, drop_of_length-le}
-use lib.Seq.{length-take-le, take_at, take-take, take_all, drop-drop}
-use Rattle.pattern.specs.Numbers.{atom_limit, WORK, PARTS}
+use lib.ListN.{length, take, drop, replicate, length-replicate, replicate-append-replicate, take-append-drop}
+use lib.Seq.{take_at, take-take, take_all, drop-drop}
+use Rattle.pattern.specs.Numbers.{atom_limit}
+use lib.ListN.{length, take, drop, replicate, length-replicate, replicate-append-replicate, take-append-drop}
+use lib.Seq.{take_at, take-take, take_all, drop-drop}
+use Rattle.std.specs.Prelude.{Ok, Err}
+use Rattle.pattern.specs.declared.refusal.Refusal.{Refusal}
+use Rattle.pattern.specs.Numbers.{atom_limit}
 use Rattle.pattern.specs.Bytes.{Bytes, zeroed}
 use Rattle.pattern.specs.Parts.{verdict}
 use Rattle.pattern.specs.Trials.{trials}
-use Rattle.pattern.specs.Answers.{Answer, MatchOutput, scratch_needed, decided, ended, match_of}
+use Rattle.pattern.specs.Answers.{MatchOutput, scratch_needed, decided, ended, match_of}
 use Rattle.pattern.proofs.Tests.{le_or_lt}
 use Rattle.pattern.proofs.Stores.{length_zeroed}
 use Rattle.pattern.proofs.Calls.{good_limited}
 use Rattle.pattern.proofs.Rooms.{top_le}
+use Rattle.std.specs.Prelude.{Result, Ok, Err}
+use Rattle.std.specs.Result.{MatchResult}
+use Rattle.pattern.specs.declared.refusal.Refusal.{Refusal}
+use Rattle.matcher.specs.declared.Verdict as called
+use Rattle.matcher.specs.Answered.{match_output}
+use Rattle.pattern.proofs.Refusals.{numbered}
 use Rattle.summary.specs.Summary.{rules_out, summary_of, summary_size}
 use Rattle.summary.proofs.SummaryBytes.{length_summary_bytes}
 use Rattle.summary.specs.Ruling.{RulesOut}
-use Rattle.register.specs.Maps.{Map}
 use Rattle.register.specs.declared.slot.Kept.{Kept}
-use Rattle.search.specs.declared.look.Looked.TheVariants.{Refused, Yes, No}
+use Rattle.search.specs.declared.look.Look.TheVariants.{Match, NoMatch, RuledOut}
 use Rattle.search.specs.Search.{unlimited, search_from}
-use Rattle.search.specs.Looking.{Zeros, ClearPre, MatchPre, IsMatchPost, LookAtPre, looked, LookAtPost}
+use Rattle.search.specs.Looking.{Zeros, MatchPre, IsMatchPost, LookAtPre, looked, LookAtPost}
 use Rattle.search.proofs.Steps.{fault_none, match_decided, step_work, step_parts, step_skipped, step_found, step_passed}
 
 -- ---- scratch that is zero so far
@@ -39,24 +48,26 @@ zeros_stay n z s w h =
     sym (take-take n z s h) ∙ ap (take n) (w.zeros ∙ ap (λ j. replicate j 0) (sym e) ∙ sym (replicate-append-replicate {A = ℕ} n (z - n) 0)) ∙ take_at (replicate n 0) (replicate (z - n) 0) n (length-replicate {A = ℕ} n 0) in
     sym (take-append-drop n s) ∙ ap (λ (x : Bytes). x ++ drop n s) t
 
-pub clear_none : {s : Bytes} {from to : ℕ} → ClearPre s from to → to ≤ from → s ≡ zeroed to s
-clear_none {s} {from} {to} p h = zeros_stay to from s p.zeros h
-
-pub clear_room : {s : Bytes} {from to : ℕ} → ClearPre s from to → to - from ≤ length (take (to - from) (drop from s))
-clear_room {s} {from} {to} p = omega (arith, length-take-le (to - from) (drop from s) (omega (arith, p.inside, length-drop from s)))
-
-pub clear_done : {s : Bytes} {from to : ℕ} → ClearPre s from to → from < to → (x : Bytes) → x ≡ zeroed (to - from) (take (to - from) (drop from s)) → put_mid from (to - from) s x ≡ zeroed to s
-clear_done {s} {from} {to} p h x e =
+-- zeros from there to another place
+zeros_put : (from to : ℕ) (s x : Bytes) → Zeros from s → from ≤ to → x ≡ replicate (to - from) 0 → put_mid from (to - from) s x ≡ zeroed to s
+zeros_put from to s x w h e =
     let n : ℕ = to - from in
-    let zs : Bytes = replicate n 0 in
     let f : from + n ≡ to = omega arith in
-    let y : x ≡ zs = e ∙ ap (λ (b : Bytes). zs ++ b) (drop_of_length-le (take n (drop from s)) {i = n} (omega (arith, length-take-le n (drop from s) (omega (arith, p.inside, length-drop from s))))) ∙ append-nil zs in
     let z : drop n (drop from s) ≡ drop to s = drop-drop n from s ∙ ap (λ j. drop j s) f in
-    ap (λ (b : Bytes). take from s ++ (b ++ drop n (drop from s))) y
-    ∙ ap (λ (b : Bytes). take from s ++ (zs ++ b)) z
-    ∙ ap (λ (b : Bytes). b ++ (zs ++ drop to s)) p.zeros.zeros
-    ∙ sym (append_assoc (replicate from 0) zs (drop to s))
-    ∙ ap (λ (b : Bytes). b ++ drop to s) (replicate-append-replicate {A = ℕ} from n 0 ∙ ap (λ j. replicate j 0) f)
+    rw (e, z, w.zeros, ← append_assoc) (ap (λ (b : Bytes). b ++ drop to s) (replicate-append-replicate {A = ℕ} from n 0 ∙ ap (λ j. replicate j 0) f))
+
+-- up to the larger of two places, of which the first is as far as they are there
+pub zeros_filled : (n z to : ℕ) (s x : Bytes) → Zeros z s → to ≡ max z n → x ≡ replicate (to - z) 0 → put_mid z (to - z) s x ≡ zeroed n s
+zeros_filled n z to s x w m e = ⊎_elim less more (le_or_lt n z)
+  where
+    done : put_mid z (to - z) s x ≡ zeroed to s
+    done = zeros_put z to s x w (omega arith) e
+
+    less : n ≤ z → put_mid z (to - z) s x ≡ zeroed n s
+    less h = let f : to ≡ z = omega arith in done ∙ ap (λ j. zeroed j s) f ∙ sym (zeros_stay z z s w (omega arith)) ∙ zeros_stay n z s w h
+
+    more : z < n → put_mid z (to - z) s x ≡ zeroed n s
+    more h = let f : to ≡ n = omega arith in done ∙ ap (λ j. zeroed j s) f
 
 -- after more of it was zeroed
 pub zeros_more : (n z : ℕ) (s : Bytes) → Zeros z s → n ≤ length s → Zeros (max z n) (zeroed n s)
@@ -82,13 +93,12 @@ module _ {table label scratch parts : Bytes} (p : MatchPre table label scratch p
   -- a verdict, and scratch zeroed
   record Verdict (o : MatchOutput) : Type 0 where
     pub number : o.answer.number ≡ 0
-    pub value : o.answer.value ≡ cond (eqb o.answer.value 1) 1 0
     pub zeroed_is : o.scratch ≡ zeroed (scratch_needed p.tree (length label)) scratch
 
   verdict_of : (v : Option (List ℕ)) → Verdict (ended (decided (scratch_needed p.tree (length label)) (trials label p.tree) v) scratch parts)
   unfolding ended
-  verdict_of none = record { number = refl; value = refl; zeroed_is = refl }
-  verdict_of (some ends) = record { number = refl; value = refl; zeroed_is = refl }
+  verdict_of none = record { number = refl; zeroed_is = refl }
+  verdict_of (some ends) = record { number = refl; zeroed_is = refl }
 
   a_verdict : Verdict output
   a_verdict = subst Verdict (sym is_decided) (verdict_of (verdict label p.tree))
@@ -96,16 +106,16 @@ module _ {table label scratch parts : Bytes} (p : MatchPre table label scratch p
   pub verdict_zeroed : output.scratch ≡ zeroed (scratch_needed p.tree (length label)) scratch
   verdict_zeroed = a_verdict.zeroed_is
 
-  pub matched : (a : Answer) (r : Bool) (scratch' parts' : Bytes) → record { answer = a; scratch = scratch'; parts = parts' } ≡ output → r ≡ eqb a.value 1
+  pub matched : (m : Result called.Verdict Refusal) (r : Bool) (scratch' parts' : Bytes) → match_output unlimited m scratch' parts' ≡ output → MatchResult m (λ v. r ≡ v.matches) (λ _. r ≡ false)
       → IsMatchPost table label scratch parts r scratch' parts'
-  matched a r scratch' parts' e f =
-      let v : a.value ≡ output.answer.value = ap (λ (o : MatchOutput). o.answer.value) e in
+  matched (Ok v) r scratch' parts' e f =
       record {
         number = a_verdict.number;
-        value = a_verdict.value ∙ ap (λ b. cond b 1 0) (ap (λ n. eqb n 1) (sym v) ∙ sym f);
+        value = rw f (sym (ap (λ (o : MatchOutput). o.answer.value) e));
         scratch_is = ap (λ (o : MatchOutput). o.scratch) e;
         parts_is = ap (λ (o : MatchOutput). o.parts) e;
       }
+  matched (Err x) r scratch' parts' e f = absurd (numbered x (ap (λ (o : MatchOutput). o.answer.number) e ∙ a_verdict.number))
 
 -- ---- one number
 
@@ -128,25 +138,26 @@ module _ {summary table : Bytes} {kept : Kept} {label scratch : Bytes} {cleared 
   needs : needed ≡ scratch_needed p.tree (length label)
   needs = ap (λ a. (2 * a + 4) * (length label + 1) * (length label + 1)) p.atoms_is
 
-  pub look_clear : needed ≤ length scratch → ClearPre scratch cleared needed
-  look_clear room = record { zeros = p.zeros; inside = room }
+  pub look_filled : (reach : ℕ) → reach ≡ max cleared needed → (x : Bytes) → x ≡ replicate (reach - cleared) 0 → put_mid cleared (reach - cleared) scratch x ≡ zeroed needed scratch
+  look_filled reach m x e = zeros_filled needed cleared reach scratch x p.zeros m e
+
+  pub look_within : (reach : ℕ) → reach ≡ max cleared needed → needed ≤ length scratch → reach ≤ length scratch
+  look_within reach m room = omega (arith, p.zeros.inside)
 
   module _ (parts : Bytes) where
-    pub look_work : length scratch < needed → LookAtPost table label scratch parts (Refused WORK) scratch parts
+    pub look_work : length scratch < needed → LookAtPost table label scratch parts (Err Refusal.Work) scratch parts
     unfolding looked
     look_work h = record {
       goes = λ k m skipped. step_work k table m label skipped scratch parts p.tree p.good p.short (omega (arith, needs, h));
-      few = λ more reach e. absurd (let z : ◌≡◌ {A = ℕ} 0 1 = cc in omega arith);
-      zeros = λ more reach e. absurd (let z : ◌≡◌ {A = ℕ} 0 1 = cc in omega arith);
+      zeros = tt;
     }
 
     module _ (room : needed ≤ length scratch) where
-      pub look_parts : length parts < 2 * kept.top → LookAtPost table label scratch parts (Refused PARTS) scratch parts
+      pub look_parts : length parts < 2 * kept.top → LookAtPost table label scratch parts (Err Refusal.Parts) scratch parts
       unfolding looked
       look_parts h = record {
         goes = λ k m skipped. step_parts k table m label skipped scratch parts p.tree p.good p.short (omega (arith, needs, room)) (omega (arith, p.top_is, h));
-        few = λ more reach e. absurd (let z : ◌≡◌ {A = ℕ} 0 1 = cc in omega arith);
-        zeros = λ more reach e. absurd (let z : ◌≡◌ {A = ℕ} 0 1 = cc in omega arith);
+        zeros = tt;
       }
 
       module _ (fits : 2 * kept.top ≤ length parts) where
@@ -158,38 +169,33 @@ module _ {summary table : Bytes} {kept : Kept} {label scratch : Bytes} {cleared 
           fits = fault_none p.tree label scratch parts p.short (omega (arith, needs, room)) (omega (arith, p.top_is, fits));
         }
 
-        -- on no, with what was zeroed
-        pass : (more : ℕ) (scratch' parts' : Bytes) → more ≤ 1 → scratch' ≡ zeroed needed scratch
-            → ((k : ℕ) (m : Map) (skipped : ℕ) → search_from k (table ∷ m) label skipped scratch parts ≡ search_from (suc k) m label (skipped + more) scratch' parts')
-            → (reach : ℕ) → reach ≡ max cleared needed → LookAtPost table label scratch parts (No more reach) scratch' parts'
-        unfolding looked
-        pass more scratch' parts' n e f reach l = record {
-          goes = f;
-          few = λ x y z. let w : more ≡ x = cc in omega arith;
-          zeros = λ x y z. let w : reach ≡ y = cc in rw (← w, l, e) (zeros_more needed cleared scratch p.zeros room);
-        }
+        -- after no match, with what was zeroed
+        reached : (scratch' : Bytes) → scratch' ≡ zeroed needed scratch → (reach : ℕ) → reach ≡ max cleared needed → Zeros reach scratch'
+        reached scratch' e reach l = rw (l, e) (zeros_more needed cleared scratch p.zeros room)
 
         pub look_skipped : true ≡ rules_out (summary_of p.tree) label → (scratch' : Bytes) → scratch' ≡ zeroed needed scratch → (reach : ℕ) → reach ≡ max cleared needed
-            → LookAtPost table label scratch parts (No 1 reach) scratch' parts
-        look_skipped out scratch' e =
+            → LookAtPost table label scratch parts (Ok (RuledOut reach)) scratch' parts
+        unfolding looked
+        look_skipped out scratch' e reach l =
             let f : zeroed (scratch_needed p.tree (length label)) scratch ≡ scratch' = sym (e ∙ ap (λ n. zeroed n scratch) needs) in
-            pass 1 scratch' parts (omega arith) e
-            (λ k m skipped. let c : suc skipped ≡ skipped + 1 = omega arith in
-            step_skipped k table m label skipped scratch parts p.tree p.good p.short (omega (arith, needs, room)) (omega (arith, p.top_is, fits)) (sym out)
-            ∙ ap (λ (s : Bytes). search_from (suc k) m label (suc skipped) s parts) f ∙ ap (λ n. search_from (suc k) m label n scratch' parts) c)
+            record {
+              goes = λ k m skipped. let c : suc skipped ≡ skipped + 1 = omega arith in
+                  step_skipped k table m label skipped scratch parts p.tree p.good p.short (omega (arith, needs, room)) (omega (arith, p.top_is, fits)) (sym out)
+                  ∙ ap (λ (s : Bytes). search_from (suc k) m label (suc skipped) s parts) f ∙ ap (λ n. search_from (suc k) m label n scratch' parts) c;
+              zeros = reached scratch' e reach l;
+            }
 
         module _ (out : false ≡ rules_out (summary_of p.tree) label) (scratch' parts' : Bytes) where
-          pub look_yes : IsMatchPost table label scratch parts true scratch' parts' → LookAtPost table label scratch parts Yes scratch' parts'
+          pub look_yes : IsMatchPost table label scratch parts true scratch' parts' → LookAtPost table label scratch parts (Ok Match) scratch' parts'
           unfolding looked
           look_yes i = record {
             goes = λ k m skipped. rw (i.scratch_is, i.parts_is) (step_found k table m label skipped scratch parts p.tree p.good (sym out) _ refl i.number i.value);
-            few = λ more reach e. absurd (let z : ◌≡◌ {A = ℕ} 0 1 = cc in omega arith);
-            zeros = λ more reach e. absurd (let z : ◌≡◌ {A = ℕ} 0 1 = cc in omega arith);
+            zeros = tt;
           }
 
-          pub look_no : IsMatchPost table label scratch parts false scratch' parts' → (reach : ℕ) → reach ≡ max cleared needed → LookAtPost table label scratch parts (No 0 reach) scratch' parts'
-          unfolding look_fits
-          look_no i =
-              pass 0 scratch' parts' (omega arith) (i.scratch_is ∙ verdict_zeroed look_fits ∙ ap (λ n. zeroed n scratch) (sym needs))
-              (λ k m skipped. let c : skipped + 0 ≡ skipped = omega arith in
-              rw (c, i.scratch_is, i.parts_is) (step_passed k table m label skipped scratch parts p.tree p.good (sym out) _ refl i.number i.value))
+          pub look_no : IsMatchPost table label scratch parts false scratch' parts' → (reach : ℕ) → reach ≡ max cleared needed → LookAtPost table label scratch parts (Ok (NoMatch reach)) scratch' parts'
+          unfolding looked look_fits
+          look_no i reach l = record {
+            goes = λ k m skipped. rw (i.scratch_is, i.parts_is) (step_passed k table m label skipped scratch parts p.tree p.good (sym out) _ refl i.number i.value);
+            zeros = reached scratch' (i.scratch_is ∙ verdict_zeroed look_fits ∙ ap (λ n. zeroed n scratch) (sym needs)) reach l;
+          }

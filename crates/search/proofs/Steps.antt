@@ -9,6 +9,9 @@ use native.Mathlib.Omega.{arith}
 use lib.Dec.{eqb}
 use lib.ListN.{length}
 use borrow.Author.Tests.{lt-ltb, le-ltb, eq-eqb, ne_eqb}
+use Rattle.std.specs.Prelude.{Result, Ok, Err}
+use Rattle.std.specs.Result.{MatchResult, IsErrAnd}
+use Rattle.std.proofs.lemmas.Result.{err_from_is_err_and}
 use Rattle.pattern.specs.Numbers.{label_limit, LABEL, WORK, PARTS, BUDGET, REGISTER}
 use Rattle.pattern.specs.Bytes.{Bytes, overwrite, zeroed}
 use Rattle.pattern.specs.Syntax.{pattern, Syntax, top_size}
@@ -224,3 +227,15 @@ module _ (lent label scratch parts : Bytes) where
     pub search_goes : length label ≤ label_limit → search_of lent label scratch parts ≡ search_from 0 m label 0 scratch parts
     unfolding search_of
     search_goes h = rw (search_of, good, le-ltb label_limit (length label) h)
+
+-- what a result was before its error was mapped
+pub ok_before : {V E D : Type 0} (P : E → D → Type 0) (r : Result V E) (q : Result V D) {x : V} → MatchResult r (λ y. q ≡ Ok y) (λ e. IsErrAnd q (P e)) → q ≡ Ok x → r ≡ Ok x
+ok_before P (Ok y) q m h = ok_same (sym m ∙ h)
+  where
+    ok_same : {V E D : Type 0} {x y : V} → ◌≡◌ {A = Result V D} (Ok y) (Ok x) → ◌≡◌ {A = Result V E} (Ok y) (Ok x)
+    ok_same e = cc
+ok_before P (Err e) q m h = let (d, g, p) = err_from_is_err_and q m in cc
+
+pub err_before : {V E D : Type 0} (P : E → D → Type 0) (r : Result V E) (q : Result V D) {d : D} → MatchResult r (λ y. q ≡ Ok y) (λ e. IsErrAnd q (P e)) → q ≡ Err d → (e : E) × (r ≡ Err e) × P e d
+err_before P (Ok y) q m h = absurd cc
+err_before P (Err e) q {d} m h = let (x, g, p) = err_from_is_err_and q m in let same : x ≡ d = cc in (e, refl, subst (P e) same p)

@@ -7,7 +7,10 @@ use Prim.Native.Nat.{ℕ, suc, ◌+◌, ◌-◌, ◌≤◌, ◌<◌}
 use native.Mathlib.Omega.{arith}
 use lib.ListN.{length, take, drop, drop_of_length-le}
 use lib.Seq.{drop-cons}
+use Rattle.std.specs.Prelude.{Result, Ok, Err}
 use Rattle.pattern.specs.Bytes.{Bytes}
+use Rattle.pattern.specs.declared.refusal.Refusal.{Refusal}
+use Rattle.pattern.specs.Refusals.{number_of}
 use Rattle.pattern.specs.Syntax.{pattern, Syntax}
 use Rattle.pattern.specs.Decode.{decode}
 use Rattle.summary.specs.Summary.{summary_size}
@@ -18,15 +21,11 @@ use Rattle.register.specs.Slots.{summary_place, kept_at}
 use Rattle.register.proofs.Maps.{table_cases, total_suc}
 use Rattle.register.proofs.Meaning.{meant}
 use Rattle.register.proofs.Kept.{kept_length, kept_atoms, kept_top, summary_is, table_is, table_within}
-use Rattle.search.specs.declared.Searched.{Searched}
-use Rattle.search.specs.declared.look.Looked.{Looked}
-use Rattle.search.specs.declared.look.Looked.TheVariants.{Refused, Yes, No}
+use Rattle.search.specs.declared.look.Look.{Look}
+use Rattle.search.specs.declared.look.Look.TheVariants.{Match, NoMatch, RuledOut}
 use Rattle.search.specs.Search.{search_refused, search_from, search_of}
-use Rattle.search.specs.Looking.{search_output, Zeros, LookAtPre, looked, LookAtPost, LookPre}
+use Rattle.search.specs.Looking.{Zeros, LookAtPre, looked, LookAtPost, LookPre}
 use Rattle.search.proofs.Steps.{step_missing, search_goes}
-
-pub same_answer : (a b : Searched) (scratch parts : Bytes) → a ≡ b → search_output a scratch parts ≡ search_output b scratch parts
-same_answer a b scratch parts e = ap (λ (x : Searched). search_output x scratch parts) e
 
 -- the numbers below k were looked at, and what is left of the search begins with these values
 pub record Underway (lent label scratch₀ parts₀ scratch parts : Bytes) (k at skipped cleared : ℕ) : Type 0 where
@@ -88,13 +87,13 @@ module _ {lent label scratch₀ parts₀ scratch parts : Bytes} {k at skipped cl
       end_within = let e : suc k ≡ k + 1 = omega arith in omega (arith, place_next, table_within lent map w.start.means k small, ap (λ j. total (take j map)) e)
 
       -- no table under it
-      pub search_missing : at ≡ at + r.length → Underway lent label scratch₀ parts₀ scratch parts (k + 1) at skipped cleared
+      pub search_missing : r.length ≡ 0 → Underway lent label scratch₀ parts₀ scratch parts (k + 1) at skipped cleared
       search_missing h =
           let e : suc k ≡ k + 1 = omega arith in
           record {
             start = w.start;
             few = omega (arith, small);
-            place = h ∙ place_next;
+            place = omega (arith, h, place_next);
             left = left_now ∙ step_missing k table (drop (suc k) map) label skipped scratch parts (omega (arith, h, length_told)) ∙ ap (λ j. search_from j (drop j map) label skipped scratch parts) e;
             counted = omega (arith, w.counted);
             zeros = w.zeros;
@@ -102,12 +101,9 @@ module _ {lent label scratch₀ parts₀ scratch parts : Bytes} {k at skipped cl
             same_parts = w.same_parts;
           }
 
-      module _ (present : at ≡ at + r.length → ⊥) where
+      module _ (present : r.length ≡ 0 → ⊥) where
         tree : (p : Syntax pattern) × (decode table ≡ some p)
-        tree = ⊎_elim (λ z. absurd (present (omega (arith, length_told, z)))) (λ x. x) (table_cases table ((meant lent map w.start.means).proper.each k))
-
-        abbrev summary_slice : Bytes
-        summary_slice = take (slot_start k + slot_size - (slot_start k + summary_place)) (drop (slot_start k + summary_place) lent)
+        tree = ⊎_elim (λ z. absurd (present (length_told ∙ z))) (λ x. x) (table_cases table ((meant lent map w.start.means).proper.each k))
 
         abbrev table_slice : Bytes
         table_slice = take (at + r.length - at) (drop at lent)
@@ -117,50 +113,54 @@ module _ {lent label scratch₀ parts₀ scratch parts : Bytes} {k at skipped cl
             let n : at + r.length - at ≡ length table = omega (arith, length_told) in
             ap (λ x. take x (drop at lent)) n ∙ ap (λ x. take (length table) (drop x lent)) w.place ∙ table_is lent map w.start.means k small
 
-        pub look_pre : LookAtPre summary_slice table_slice r label scratch cleared
-        look_pre =
+        pub look_pre : (summary : Bytes) → summary ≡ take summary_size (drop (slot_start k + summary_place) lent) → LookAtPre summary table_slice r label scratch cleared
+        look_pre summary read =
             let (p, d) = tree in
-            let n : slot_start k + slot_size - (slot_start k + summary_place) ≡ summary_size = omega arith in
             record {
               tree = p;
               good = ap decode table_told ∙ d;
               short = w.start.short;
               atoms_is = ap (λ (x : Kept). x.atoms) told ∙ kept_atoms lent map w.start.means k small p d;
               top_is = ap (λ (x : Kept). x.top) told ∙ kept_top lent map w.start.means k small p d;
-              summary_is = ap (λ x. take x (drop (slot_start k + summary_place) lent)) n ∙ summary_is lent map w.start.means k small p d;
+              summary_is = read ∙ summary_is lent map w.start.means k small p d;
               zeros = w.zeros;
             }
 
         -- how the search goes on
-        module _ (v : Looked) (scratch' parts' : Bytes) (post : LookAtPost table_slice label scratch parts v scratch' parts') where
-          goes_on : (u : Looked) → v ≡ u → search_of lent label scratch₀ parts₀ ≡ looked u k (drop (suc k) map) label skipped scratch' parts'
+        module _ (v : Result Look Refusal) (scratch' parts' : Bytes) (post : LookAtPost table_slice label scratch parts v scratch' parts') where
+          goes_on : (u : Result Look Refusal) → v ≡ u → search_of lent label scratch₀ parts₀ ≡ looked u k (drop (suc k) map) label skipped scratch' parts'
           goes_on u e =
               left_now ∙ ap (λ (t : Bytes). search_from k (t ∷ drop (suc k) map) label skipped scratch parts) (sym table_told) ∙ post.goes k (drop (suc k) map) skipped
-              ∙ ap (λ (x : Looked). looked x k (drop (suc k) map) label skipped scratch' parts') e
+              ∙ ap (λ (x : Result Look Refusal). looked x k (drop (suc k) map) label skipped scratch' parts') e
 
-          pub search_stopped : (number : ℕ) → v ≡ Refused number → search_refused number k scratch' parts' ≡ search_of lent label scratch₀ parts₀
+          pub search_stopped : (refusal : Refusal) → v ≡ Err refusal → search_refused (number_of refusal) k scratch' parts' ≡ search_of lent label scratch₀ parts₀
           unfolding looked
-          search_stopped number e = sym (goes_on (Refused number) e)
+          search_stopped refusal e = sym (goes_on (Err refusal) e)
 
-          pub search_found : v ≡ Yes → record { number = 0; verdict = 1; at = k; skipped = skipped; scratch = scratch'; parts = parts' } ≡ search_of lent label scratch₀ parts₀
+          pub search_found : v ≡ Ok Match → record { number = 0; verdict = 1; at = k; skipped = skipped; scratch = scratch'; parts = parts' } ≡ search_of lent label scratch₀ parts₀
           unfolding looked
-          search_found e = sym (goes_on Yes e)
+          search_found e = sym (goes_on (Ok Match) e)
 
-          module _ (more reach : ℕ) (e : v ≡ No more reach) where
-            pub skipped_few : skipped + more ≤ k + 1
-            skipped_few = omega (arith, w.counted, post.few more reach e)
-
-            pub search_passed : length scratch' ≡ length scratch → length parts' ≡ length parts → Underway lent label scratch₀ parts₀ scratch' parts' (k + 1) (at + r.length) (skipped + more) reach
-            unfolding looked
-            search_passed long wide =
+          module _ (long : length scratch' ≡ length scratch) (wide : length parts' ≡ length parts) where
+            next : (n reach : ℕ) → n ≤ k + 1 → Zeros reach scratch' → search_of lent label scratch₀ parts₀ ≡ search_from (suc k) (drop (suc k) map) label n scratch' parts'
+                → Underway lent label scratch₀ parts₀ scratch' parts' (k + 1) (at + r.length) n reach
+            next n reach few zeros left =
                 let f : suc k ≡ k + 1 = omega arith in
                 record {
                   start = w.start;
                   few = omega (arith, small);
                   place = place_next;
-                  left = goes_on (No more reach) e ∙ ap (λ j. search_from j (drop j map) label (skipped + more) scratch' parts') f;
-                  counted = skipped_few;
-                  zeros = post.zeros more reach e;
+                  left = left ∙ ap (λ j. search_from j (drop j map) label n scratch' parts') f;
+                  counted = few;
+                  zeros = zeros;
                   same_scratch = long ∙ w.same_scratch;
                   same_parts = wide ∙ w.same_parts;
                 }
+
+            pub search_passed : (reach : ℕ) → v ≡ Ok (NoMatch reach) → Underway lent label scratch₀ parts₀ scratch' parts' (k + 1) (at + r.length) skipped reach
+            unfolding looked
+            search_passed reach e = next skipped reach (omega (arith, w.counted)) (rw e at post.zeros) (goes_on (Ok (NoMatch reach)) e)
+
+            pub search_skipped : (reach : ℕ) → v ≡ Ok (RuledOut reach) → Underway lent label scratch₀ parts₀ scratch' parts' (k + 1) (at + r.length) (skipped + 1) reach
+            unfolding looked
+            search_skipped reach e = next (skipped + 1) reach (omega (arith, w.counted)) (rw e at post.zeros) (goes_on (Ok (RuledOut reach)) e)

@@ -1,8 +1,11 @@
 -- What comes of one number of a search. Private: a model for contracts inside the library.
-use Rattle.std.specs.Prelude.{◌≡◌, Bool, cond, ◌∷◌, ℕ, suc, ◌+◌, ◌≤◌, length, take, replicate}
+use Rattle.std.specs.Prelude.{◌≡◌, Bool, cond, is_some, unwrap_or, Result, Ok, Err, ⊤, ◌∷◌, ℕ, suc, ◌+◌, ◌≤◌, length, take, replicate}
 use Rattle.std.proofs.Math.Option.{none, some}
 use Rattle.pattern.specs.Numbers.{label_limit}
 use Rattle.pattern.specs.Bytes.{Bytes}
+use Rattle.pattern.specs.declared.refusal.Refusal.{Refusal}
+use Rattle.pattern.specs.declared.refusal.Fault.{Fault}
+use Rattle.pattern.specs.Refusals.{number_of}
 use Rattle.pattern.specs.Syntax.{pattern, Syntax, size, top_size}
 use Rattle.pattern.specs.Decode.{decode}
 use Rattle.pattern.specs.Answers.{lent_fault, match_of}
@@ -11,22 +14,19 @@ use Rattle.register.specs.Maps.{Map}
 use Rattle.register.specs.Layout.{register_of}
 use Rattle.register.specs.declared.slot.Kept.{Kept}
 use Rattle.search.specs.declared.Searched.{Searched}
-use Rattle.search.specs.declared.look.Looked.{Looked}
-use Rattle.search.specs.declared.look.Looked.TheVariants.{Refused, Yes, No}
+use Rattle.search.specs.declared.look.Look.{Look}
+use Rattle.search.specs.declared.look.Look.TheVariants.{Match, NoMatch, RuledOut}
 use Rattle.search.specs.Search.{unlimited, SearchOutput, search_refused, search_from}
 
--- the code's answer with scratch and parts afterwards
-abbrev pub search_output : Searched → (scratch parts : Bytes) → SearchOutput
-search_output r scratch parts = record { number = r.number; verdict = r.verdict; at = r.at; skipped = r.skipped; scratch = scratch; parts = parts }
+-- the numbers of the code's answer, with scratch and parts afterwards
+abbrev pub search_output : Result Searched Fault → (scratch parts : Bytes) → SearchOutput
+search_output (Err fault) scratch parts = search_refused (number_of fault.refusal) fault.position scratch parts
+search_output (Ok r) scratch parts = record { number = 0; verdict = cond (is_some r.found) 1 0; at = unwrap_or r.found 0; skipped = r.skipped; scratch = scratch; parts = parts }
 
 -- the first n bytes are there and zero
 pub record Zeros (n : ℕ) (s : Bytes) : Type 0 where
   pub inside : n ≤ length s
   pub zeros : take n s ≡ replicate n 0
-
-pub record ClearPre (s : Bytes) (from to : ℕ) : Type 0 where
-  pub zeros : Zeros from s
-  pub inside : to ≤ length s
 
 -- no refusal can come of a match
 pub record MatchPre (table label scratch parts : Bytes) : Type 0 where
@@ -52,16 +52,23 @@ pub record LookAtPre (summary table : Bytes) (kept : Kept) (label scratch : Byte
   pub zeros : Zeros cleared scratch
 
 -- how the search goes on
-unfoldable pub looked : Looked → (k : ℕ) → Map → (label : Bytes) → (skipped : ℕ) → (scratch parts : Bytes) → SearchOutput
-looked (Refused number) k m label skipped scratch parts = search_refused number k scratch parts
-looked Yes k m label skipped scratch parts = record { number = 0; verdict = 1; at = k; skipped = skipped; scratch = scratch; parts = parts }
-looked (No more reach) k m label skipped scratch parts = search_from (suc k) m label (skipped + more) scratch parts
+unfoldable pub looked : Result Look Refusal → (k : ℕ) → Map → (label : Bytes) → (skipped : ℕ) → (scratch parts : Bytes) → SearchOutput
+looked (Err refusal) k m label skipped scratch parts = search_refused (number_of refusal) k scratch parts
+looked (Ok Match) k m label skipped scratch parts = record { number = 0; verdict = 1; at = k; skipped = skipped; scratch = scratch; parts = parts }
+looked (Ok (NoMatch reach)) k m label skipped scratch parts = search_from (suc k) m label skipped scratch parts
+looked (Ok (RuledOut reach)) k m label skipped scratch parts = search_from (suc k) m label (skipped + 1) scratch parts
 
--- the search goes on so, whatever the number and those after it; on no, one more at most was skipped, and scratch is zero so far
-pub record LookAtPost (table label scratch parts : Bytes) (r : Looked) (scratch' parts' : Bytes) : Type 0 where
+-- after no match scratch is zero so far
+abbrev pub Reached : Result Look Refusal → (scratch : Bytes) → Type 0
+Reached (Err refusal) scratch = ⊤
+Reached (Ok Match) scratch = ⊤
+Reached (Ok (NoMatch reach)) scratch = Zeros reach scratch
+Reached (Ok (RuledOut reach)) scratch = Zeros reach scratch
+
+-- the search goes on so, whatever the number and those after it
+pub record LookAtPost (table label scratch parts : Bytes) (r : Result Look Refusal) (scratch' parts' : Bytes) : Type 0 where
   pub goes : (k : ℕ) (m : Map) (skipped : ℕ) → search_from k (table ∷ m) label skipped scratch parts ≡ looked r k m label skipped scratch' parts'
-  pub few : (more reach : ℕ) → r ≡ No more reach → more ≤ 1
-  pub zeros : (more reach : ℕ) → r ≡ No more reach → Zeros reach scratch'
+  pub zeros : Reached r scratch'
 
 -- the lent bytes are a register, and the label is within the limit
 pub record LookPre (lent label : Bytes) : Type 0 where

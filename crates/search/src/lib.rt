@@ -7,87 +7,80 @@ ghost use Rattle.search.specs.Looking.{search_output, LookPre};
 
 mod look;
 
-use look::{Looked, look_at};
+use look::{Look, look_at};
 use pattern::limits::LABEL_LIMIT;
-use pattern::refusal;
-use register::slot::{SLOT_SIZE, SUMMARY_PLACE, kept_at};
+use pattern::refusal::{Fault, Refusal};
+use register::slot::{SLOT_SIZE, kept_at, summary_at};
 use register::{NUMBERS, OVERHEAD, PREAMBLE_SIZE, is_register};
 
-// The refusal number, 0 for none; the verdict, 1 for yes; the number at which the search ended; how many were skipped.
+// The number whose pattern matches, and how many were skipped.
 #[derive(Clone, Copy)]
 pub struct Searched {
-    pub number: u32,
-    pub verdict: u64,
-    pub at: u64,
+    pub found: Option<usize>,
     pub skipped: u64,
 }
 
-// A refusal at a number.
-fn refused(number: u32, at: usize) -> Searched
-    ensures { result ≡ record { number = number; verdict = 0; at = at; skipped = 0 } }
-{
-    Searched {
-        number,
-        verdict: 0,
-        at: at as u64,
-        skipped: 0,
-    }
-}
-
-// A verdict at a number.
-fn answered(verdict: u64, at: usize, skipped: u64) -> Searched
-    ensures { result ≡ record { number = 0; verdict = verdict; at = at; skipped = skipped } }
-{
-    Searched {
-        number: 0,
-        verdict,
-        at: at as u64,
-        skipped,
-    }
-}
-
-// The numbers upwards, none after the first that matches; the first bytes of scratch are zero as far as it was cleared.
-fn search_numbers(lent: &[u8], label: &[u8], scratch: &mut [u8], parts: &mut [u8]) -> Searched
+// The numbers upwards, by number since slots and tables lie apart, none after the first that matches; the first bytes of scratch are zero as far as it was cleared.
+// Label, scratch and parts are arguments, as `match_label` and the calls from C take them: a struct would only be taken apart again.
+fn search_numbers(
+    lent: &[u8],
+    label: &[u8],
+    scratch: &mut [u8],
+    parts: &mut [u8],
+) -> Result<Searched, Fault>
     requires { LookPre lent.now label.now }
     ensures { search_output result scratch.new parts.new ≡ search_of lent.now label.now scratch.old parts.old }
 {
-    let mut k = 0;
     let mut at = OVERHEAD;
     let mut skipped = 0;
     let mut cleared = 0;
-    while k < NUMBERS {
+    for k in 0..NUMBERS {
         let slot = PREAMBLE_SIZE + SLOT_SIZE * k;
         let kept = kept_at(lent, slot);
+        if kept.length == 0 {
+            continue;
+        }
+        let summary = summary_at(lent, slot);
         let end = at + kept.length;
-        if at == end {
-            k += 1;
-        } else {
-            let summary = &lent[slot + SUMMARY_PLACE..slot + SLOT_SIZE];
-            let table = &lent[at..end];
-            match look_at(summary, table, kept, label, scratch, parts, cleared) {
-                Looked::Refused(number) => return refused(number, k),
-                Looked::Yes => return answered(1, k, skipped),
-                Looked::No(more, reach) => {
-                    skipped += more;
-                    cleared = reach;
-                    at = end;
-                    k += 1;
-                }
+        let table = &lent[at..end];
+        at = end;
+        let look = look_at(summary, table, kept, label, scratch, parts, cleared).map_err(
+            move |refusal| refusal.at(k),
+        )?;
+        match look {
+            Look::Match => {
+                return Ok(Searched {
+                    found: Some(k),
+                    skipped,
+                });
+            }
+            Look::NoMatch(reach) => cleared = reach,
+            Look::RuledOut(reach) => {
+                skipped += 1;
+                cleared = reach;
             }
         }
     }
-    answered(0, 0, skipped)
+    Ok(Searched {
+        found: None,
+        skipped,
+    })
 }
 
-// The lowest number whose pattern the label satisfies, with its parts; 18, 12, then the numbers upwards.
-pub fn search(lent: &[u8], label: &[u8], scratch: &mut [u8], parts: &mut [u8]) -> Searched
+// The lowest number whose pattern the label satisfies, with its parts; 18, 12, then the numbers upwards, with the number at which it was refused.
+pub fn search(
+    lent: &[u8],
+    label: &[u8],
+    scratch: &mut [u8],
+    parts: &mut [u8],
+) -> Result<Searched, Fault>
     ensures { search_output result scratch.new parts.new ≡ search_of lent.now label.now scratch.old parts.old }
 {
-    if is_register(lent) {
-        if LABEL_LIMIT < label.len() {
-            return refused(refusal::LABEL, 0);
-        }
-        return search_numbers(lent, label, scratch, parts);
+    if !is_register(lent) {
+        return Err(Refusal::Register.at(0));
     }
-    refused(refusal::REGISTER, 0)
+    if LABEL_LIMIT < label.len() {
+        return Err(Refusal::Label.at(0));
+    }
+    search_numbers(lent, label, scratch, parts)
 }

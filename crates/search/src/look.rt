@@ -1,39 +1,20 @@
 // One number of a search: 13 and 14, whether its summary rules the label out, and the match.
-ghost use Rattle.std.specs.Prelude.{◌≡◌, max};
-ghost use Rattle.pattern.specs.Bytes.{zeroed};
-ghost use Rattle.search.specs.Looking.{ClearPre, MatchPre, IsMatchPost, LookAtPre, LookAtPost};
+ghost use Rattle.search.specs.Looking.{MatchPre, IsMatchPost, LookAtPre, LookAtPost};
 
 use matcher::match_label;
-use pattern::refusal;
+use pattern::refusal::Refusal;
 use register::slot::Kept;
-use stores::clear;
 use summary::rules::rules_out;
 
 // The largest budget: no match exceeds it.
-const UNLIMITED: u64 = 18446744073709551615;
+const UNLIMITED: u64 = u64::MAX;
 
-// What came of a number that is kept: a refusal, a match, or none. None comes with 1 if it was skipped, else 0, and how far scratch is zero.
+// What came of a number that is kept; after no match how far scratch is zero. Three cases, since only what is ruled out is counted.
 #[derive(Clone, Copy)]
-pub enum Looked {
-    Refused(u32),
-    Yes,
-    No(u64, usize),
-}
-
-fn larger(m: usize, n: usize) -> usize
-    ensures { result ≡ max m n }
-{
-    if m < n { n } else { m }
-}
-
-// Zeroes the first bytes up to a place, of which those before another are zero.
-fn clear_from(lent: &mut [u8], from: usize, to: usize)
-    requires { ClearPre lent.old from to }
-    ensures { lent.new ≡ zeroed to lent.old }
-{
-    if from < to {
-        clear(&mut lent[from..to], to - from);
-    }
+pub enum Look {
+    Match,
+    NoMatch(usize),
+    RuledOut(usize),
 }
 
 // Whether a label satisfies the pattern of a good table, where no refusal can come.
@@ -41,8 +22,7 @@ fn is_match(table: &[u8], label: &[u8], scratch: &mut [u8], parts: &mut [u8]) ->
     requires { MatchPre table.now label.now scratch.old parts.old }
     ensures { IsMatchPost table.now label.now scratch.old parts.old result scratch.new parts.new }
 {
-    let matched = match_label(table, label, scratch, parts, UNLIMITED).numbers(UNLIMITED);
-    matched.value == 1
+    match_label(table, label, scratch, parts, UNLIMITED).is_ok_and(|verdict| verdict.matches)
 }
 
 // The table of a number with its summary and sizes; the first bytes of scratch are zero as far as it was cleared.
@@ -54,25 +34,25 @@ pub fn look_at(
     scratch: &mut [u8],
     parts: &mut [u8],
     cleared: usize,
-) -> Looked
+) -> Result<Look, Refusal>
     requires { LookAtPre summary.now table.now kept label.now scratch.old cleared }
     ensures { LookAtPost table.now label.now scratch.old parts.old result scratch.new parts.new }
 {
     let w = label.len() + 1;
     let needed = (2 * kept.atoms + 4) * w * w;
     if scratch.len() < needed {
-        return Looked::Refused(refusal::WORK);
+        return Err(Refusal::Work);
     }
     if parts.len() < 2 * kept.top {
-        return Looked::Refused(refusal::PARTS);
+        return Err(Refusal::Parts);
     }
-    let reach = larger(cleared, needed);
+    let reach = cleared.max(needed);
     if rules_out(summary, label) {
-        clear_from(scratch, cleared, needed);
-        return Looked::No(1, reach);
+        scratch[cleared..reach].fill(0);
+        return Ok(Look::RuledOut(reach));
     }
     if is_match(table, label, scratch, parts) {
-        return Looked::Yes;
+        return Ok(Look::Match);
     }
-    Looked::No(0, reach)
+    Ok(Look::NoMatch(reach))
 }

@@ -1,29 +1,45 @@
--- Numbers in bytes and back, and stored byte by byte. Assumes nothing.
-use mathlib.Core.Path.{◌≡◌, refl, ap, ◌∙◌}
-use mathlib.Core.List.{[], ◌∷◌, ◌++◌}
-use Prim.Native.Nat.{ℕ, zero, suc, ◌+◌, ◌*◌, ◌-◌, ◌/◌, ◌%◌, ◌<◌, ◌≤◌}
+-- Numbers in bytes and back, as std writes and reads them. Assumes nothing.
+use mathlib.Core.Path.{◌≡◌, refl, sym, ap, ap₂, ◌∙◌}
+use mathlib.Core.List.{[], ◌∷◌, append_assoc}
+use Prim.Native.Nat.{ℕ, zero, suc, ◌+◌, ◌*◌, ◌-◌, ◌/◌, ◌%◌, ◌^◌, ◌<◌, ◌≤◌}
+use native.Mathlib.Nat.{pow-suc, div-div-eq-div-mul}
 use native.Mathlib.Omega.{arith}
-use lib.ListN.{length, get_or, take, drop, set}
-use lib.Seq.{get_or-drop}
+use borrow.Rule.Slice.PartMut.{put_mid}
+use lib.ListN.{length, get_or, take, drop}
+use lib.Seq.{get_or-drop, drop-drop, sets-eq}
+use Rattle.std.specs.Int.{w16, w32, w64, byte_at, bytes_low_first, to_le_bytes, from_le_bytes}
 use Rattle.pattern.specs.Bytes.{Bytes, le16, little, number_in}
-use Rattle.pattern.specs.Stores.{store_at}
-use Rattle.pattern.proofs.Stores.{store_at_none, store_at_first}
 use Rattle.pattern.specs.Decode.{field}
+use Rattle.pattern.specs.Stores.{store_at, Puts}
+use Rattle.pattern.proofs.Stores.{puts_as}
 
--- the bytes still to be stored, one of them stored
-pub store_next : (l : Bytes) (at j left : ℕ) → j < 8
-    → store_at l (at + j) (little (8 - j) left) ≡ store_at (set l (at + j) (left % 256)) (at + (j + 1)) (little (8 - (j + 1)) (left / 256))
+-- std's bytes of a number from byte i on
+low_first : (i k x : ℕ) → bytes_low_first i k x ≡ little k (x / 256 ^ i)
 unfolding little
-store_next l at j left h =
-    let e : 8 - j ≡ suc (8 - (j + 1)) = omega arith in
-    let f : at + j + 1 ≡ at + (j + 1) = omega arith in
-    let rest : Bytes = little (8 - (j + 1)) (left / 256) in
-    ap (λ c. store_at l (at + j) (little c left)) e ∙ store_at_first l (at + j) (left % 256) rest ∙ ap (λ i. store_at (set l (at + j) (left % 256)) i rest) f
+low_first i zero x = refl
+low_first i (suc k) x = ap₂ (λ (b : ℕ) (v : Bytes). b ∷ v) (byte i) (low_first (suc i) k x ∙ ap (little k) (ap (λ d. x / d) (pow-suc 256 i) ∙ sym (div-div-eq-div-mul x (256 ^ i) 256)))
+  where
+    byte : (i : ℕ) → byte_at i x ≡ x / 256 ^ i % 256
+    byte zero = omega arith
+    byte (suc i) = refl
 
--- after the last
-pub store_end : (l : Bytes) (at j left : ℕ) → 8 ≤ j → store_at l (at + j) (little (8 - j) left) ≡ l
-unfolding little
-store_end l at j left h = let e : 8 - j ≡ 0 = omega arith in ap (λ c. store_at l (at + j) (little c left)) e ∙ store_at_none l (at + j)
+module _ {l : Bytes} {n : ℕ} {v l' : Bytes} {m : ℕ} (h : Puts l n v l' m) where
+  -- a number stored as std writes it
+  pub puts_two : (x : ℕ) → x < 65536 → v ≡ to_le_bytes w16 x → Puts l n (le16 x []) l' m
+  puts_two x k e = let d : x / 256 % 256 ≡ x / 256 = omega arith in puts_as h (e ∙ ap (λ (b : ℕ). x % 256 ∷ b ∷ []) d)
+
+  pub puts_four : (x : ℕ) → v ≡ to_le_bytes w32 x → Puts l n (little 4 x) l' m
+  puts_four x e = let d : x / 1 ≡ x = omega arith in puts_as h (e ∙ low_first 0 4 x ∙ ap (little 4) d)
+
+  pub puts_eight : (x : ℕ) → v ≡ to_le_bytes w64 x → Puts l n (little 8 x) l' m
+  puts_eight x e = let d : x / 1 ≡ x = omega arith in puts_as h (e ∙ low_first 0 8 x ∙ ap (little 8) d)
+
+-- a part of lent bytes that is written over
+pub puts_part : (l : Bytes) (n : ℕ) (v w : Bytes) → n + length v ≤ length l → w ≡ v → Puts l n v (put_mid n (n + length v - n) l w) (n + length v)
+unfolding store_at
+puts_part l n v w h e =
+    let k : n + length v - n ≡ length v = omega arith in
+    record { bytes = rw (e, k, drop-drop (length v) n l) (sym (sets-eq v l n h ∙ append_assoc (take n l) v (drop (n + length v) l))); next = refl }
 
 pub length_little : (c x : ℕ) → length (little c x) ≡ c
 unfolding little
@@ -81,9 +97,9 @@ number_field s i =
     let first : get_or (drop i s) 0 0 ≡ get_or s i 0 = get_or-drop i s 0 0 ∙ ap (λ k. get_or s k 0) e in
     omega (arith, two (drop i s), first, get_or-drop i s 1 0)
 
--- ---- four bytes as two times two
+-- ---- four bytes
 
-four : (s : Bytes) → number_in (take 4 s) ≡ get_or s 0 0 + 256 * get_or s 1 0 + 65536 * (get_or s 2 0 + 256 * get_or s 3 0)
+four : (s : Bytes) → number_in (take 4 s) ≡ get_or s 0 0 + get_or s 1 0 * 256 + get_or s 2 0 * 65536 + get_or s 3 0 * 16777216
 unfolding number_in
 four [] = refl
 four (a ∷ []) = omega arith
@@ -91,23 +107,8 @@ four (a ∷ b ∷ []) = omega arith
 four (a ∷ b ∷ c ∷ []) = omega arith
 four (a ∷ b ∷ c ∷ d ∷ s) = omega arith
 
-pub number_halves : (s : Bytes) (i : ℕ) → number_in (take 4 (drop i s)) ≡ field s i + 65536 * field s (i + 2)
-number_halves s i =
+pub number_four : (s : Bytes) (i : ℕ) → from_le_bytes w32 (get_or s i 0 ∷ get_or s (i + 1) 0 ∷ get_or s (i + 2) 0 ∷ get_or s (i + 3) 0 ∷ []) ≡ number_in (take 4 (drop i s))
+number_four s i =
     let e : i + 0 ≡ i = omega arith in
-    let f : i + 2 + 1 ≡ i + 3 = omega arith in
     let first : get_or (drop i s) 0 0 ≡ get_or s i 0 = get_or-drop i s 0 0 ∙ ap (λ k. get_or s k 0) e in
-    let last : get_or (drop i s) 3 0 ≡ get_or s (i + 2 + 1) 0 = get_or-drop i s 3 0 ∙ rw f in
-    omega (arith, four (drop i s), first, get_or-drop i s 1 0, get_or-drop i s 2 0, last)
-
-split : (y q r : ℕ) → y ≡ 256 * q + r → r < 256 → (y % 256 ≡ r) × (y / 256 ≡ q)
-split y q r e h = (omega arith, omega arith)
-
-pub little_halves : (x : ℕ) → x < 4294967296 → le16 (x % 65536) [] ++ le16 (x / 65536) [] ≡ little 4 x
-unfolding little
-little_halves x h =
-    let a : x % 65536 % 256 ≡ x % 256 = omega arith in
-    let r : x % 65536 / 256 < 256 = omega arith in
-    let y : x / 256 ≡ 256 * (x / 65536) + x % 65536 / 256 = omega arith in
-    let (b, c) = split (x / 256) (x / 65536) (x % 65536 / 256) y r in
-    let d : x / 65536 / 256 % 256 ≡ x / 65536 / 256 = omega arith in
-    rw (a, b, c, d)
+    omega (arith, four (drop i s), first, get_or-drop i s 1 0, get_or-drop i s 2 0, get_or-drop i s 3 0)

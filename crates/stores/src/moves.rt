@@ -1,4 +1,5 @@
-// Bytes moved within lent bytes.
+// Bytes moved within lent bytes, in two directions: `copy_within` of std is a call of `memmove`, and the library trusts no function of C but
+// `memcpy` and `memset`.
 ghost use Rattle.std.specs.Prelude.{◌≡◌, ◌+◌, ◌≤◌, length, take, drop};
 ghost use Rattle.pattern.specs.Stores.{store_at};
 
@@ -7,10 +8,8 @@ fn move_down(lent: &mut [u8], from: usize, n: usize, to: usize)
     requires { (from + n ≤ length lent.old) × (to ≤ from) }
     ensures { lent.new ≡ store_at lent.old to (take n (drop from lent.old)) }
 {
-    let mut i = 0;
-    while i < n {
+    for i in 0..n {
         lent[to + i] = lent[from + i];
-        i += 1;
     }
 }
 
@@ -19,9 +18,7 @@ fn move_up(lent: &mut [u8], from: usize, n: usize, to: usize)
     requires { (to + n ≤ length lent.old) × (from ≤ to) }
     ensures { lent.new ≡ store_at lent.old to (take n (drop from lent.old)) }
 {
-    let mut i = n;
-    while 0 < i {
-        i -= 1;
+    for i in (0..n).rev() {
         lent[to + i] = lent[from + i];
     }
 }

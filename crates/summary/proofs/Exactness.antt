@@ -9,7 +9,7 @@ use lib.Dec.{T, eqb}
 use lib.ListN.{length}
 use Rattle.pattern.specs.Bytes.{Bytes}
 use Rattle.pattern.proofs.Tests.{Decides, via, leb_decides, eqb_decides, le_or_lt}
-use Rattle.atoms.proofs.Views.{no_bytes}
+use Rattle.std.proofs.lemmas.List.{nil_from_length}
 use Rattle.summary.specs.Summary.{length_cap, Summary, IsShortest, IsLongest, AreFirst, Exact, possible}
 
 -- ---- it is the only one
@@ -75,7 +75,7 @@ module _ {P : Bytes → Type 0} {m : Summary} (x : Exact P m) where
   -- the shortest length is 0 just where the empty string is one of them
   pub empty_decides : Decides (eqb m.shortest 0) (P [])
   empty_decides = via (eqb_decides m.shortest 0) (
-    λ e. let (s, p, f) = x.shortest.met (omega arith) in rw (no_bytes s (f ∙ e)) at p,
+    λ e. let (s, p, f) = x.shortest.met (omega arith) in rw (nil_from_length s (f ∙ e)) at p,
     λ p. omega (arith, x.shortest.least [] p),
   )
 

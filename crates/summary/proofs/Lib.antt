@@ -7,7 +7,6 @@ pub mod Examples
 pub mod Words
 pub mod Packings
 pub mod ClassWords
-pub mod RowStores
 pub mod SettledRows
 pub mod SummaryBytes
 pub mod SummaryRead

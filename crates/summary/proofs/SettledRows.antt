@@ -5,8 +5,8 @@ use mathlib.Core.List.{List, []}
 use Prim.Native.Nat.{ℕ, suc, ◌+◌, ◌*◌, ◌-◌, ◌≤◌, ◌<◌}
 use native.Mathlib.Nat.{eq-or-lt_of_le}
 use native.Mathlib.Omega.{arith}
-use lib.ListN.{length}
-use lib.Seq.{slice, slice_empty}
+use lib.ListN.{length, set}
+use lib.Seq.{slice, slice_empty, get_or-set_same, get_or-set_other}
 use Rattle.pattern.specs.Numbers.{codes_kind, literal_kind, group_kind, record_size}
 use Rattle.pattern.specs.Versions.{header_size}
 use Rattle.pattern.specs.Bytes.{Bytes}
@@ -23,7 +23,7 @@ use Rattle.atoms.specs.Records.{LiteralAt, GroupIn, RecordOf}
 use Rattle.atoms.proofs.Views.{record_in, record_from, record_is, literal_none, literal_there, node_first, branches_last, branches_more, branches_some}
 use Rattle.summary.specs.Summary.{Summary, of_class, of_literal, of_either, summary_of}
 use Rattle.summary.specs.Packing.{packed_of, both_packed, either_packed, repeat_packed}
-use Rattle.summary.specs.Rows.{row_size, row, RowSet, Room, Settled, Settling, Next}
+use Rattle.summary.specs.Rows.{row, Room, Settled, Settling, Next}
 use Rattle.summary.specs.declared.packed.Packed.{Packed}
 use Rattle.summary.proofs.Packings.{both_law, either_law, either_assoc, repeat_law}
 
@@ -31,9 +31,9 @@ use Rattle.summary.proofs.Packings.{both_law, either_law, either_assoc, repeat_l
 abbrev body_packed : Bytes → ℕ → Packed
 body_packed table x = packed_of (summary_of (body_of (head (node table x))))
 
-module _ {table : Bytes} {s : List ℕ} {x : ℕ} (ok : Settling table s x) where
+module _ {table : Bytes} {s : List Packed} {x : ℕ} (ok : Settling table s x) where
   -- the row of an atom lies in the rows
-  pub row_in : (y : ℕ) → y < atoms table → row_size * y + row_size ≤ length s
+  pub row_in : (y : ℕ) → y < atoms table → y < length s
   row_in y h = omega (arith, ok.room.room)
 
   pub row_is : (y : ℕ) → x < y → y < atoms table → row s y ≡ packed_of (summary_of (node table y))
@@ -81,7 +81,7 @@ join_one table x at more join assoc h w e m f = record {
   within = λ k. omega (arith, ap (λ (b : Syntax branches). size b) (branches_more table more at (λ z. omega arith)));
 }
 
-module _ {table : Bytes} {s : List ℕ} {x : ℕ} (ok : Settling table s x) where
+module _ {table : Bytes} {s : List Packed} {x : ℕ} (ok : Settling table s x) where
   pub first_there : {count : ℕ} → GroupIn table x count → x + 1 < atoms table
   first_there {count} g = omega (arith, g.within, branches_some table (count - 1) (x + 1), some_pattern (node table (x + 1)))
 
@@ -139,7 +139,7 @@ module _ {table : Bytes} {x : ℕ} {r : Record} (got : RecordOf table x r) where
         ∙ both_law (summary_of (head (node table x))) (summary_of (node table (x + size (head (node table x)))))
         ∙ ap (λ (y : Syntax pattern). packed_of (summary_of y)) (sym (got.is_followed n).is)
 
-pub empty_packed : {table : Bytes} {s : List ℕ} {x : ℕ} {r : Record} → Settling table s x → RecordOf table x r → r.kind ≡ literal_kind → r.b ≡ 0 → (m : Packed) → m ≡ packed_of (of_literal []) → m ≡ body_packed table x
+pub empty_packed : {table : Bytes} {s : List Packed} {x : ℕ} {r : Record} → Settling table s x → RecordOf table x r → r.kind ≡ literal_kind → r.b ≡ 0 → (m : Packed) → m ≡ packed_of (of_literal []) → m ≡ body_packed table x
 unfolding summary_of
 empty_packed {table} {x = x} {r = r} ok got k z m e =
     let l = literal_none table x (record { good = ok.room.good; there = ok.there }) r got.fields _ (got.is_literal k).is z in
@@ -152,27 +152,27 @@ unfolding summary_of
 literal_packed l m e = e ∙ ap (λ (y : Syntax body). packed_of (summary_of y)) (sym l.is)
 
 -- the row of what follows
-pub next_row : {table : Bytes} {s : List ℕ} {x : ℕ} {r : Record} → Settling table s x → (got : RecordOf table x r) → (r.ends ≡ 1 → ⊥) → (next : ℕ) → next ≡ x + size (head (node table x)) → row s next ≡ packed_of (summary_of (node table next))
+pub next_row : {table : Bytes} {s : List Packed} {x : ℕ} {r : Record} → Settling table s x → (got : RecordOf table x r) → (r.ends ≡ 1 → ⊥) → (next : ℕ) → next ≡ x + size (head (node table x)) → row s next ≡ packed_of (summary_of (node table next))
 next_row ok got n next e = row_is ok next (next_ahead got n next e) (next_there got n next e)
 
 -- ---- the loop over the atoms
 
 -- a row that is set settles one atom more
-pub settled_more : {table : Bytes} {s s' : List ℕ} {x : ℕ} {m : Packed} → RowSet s s' x m → m ≡ packed_of (summary_of (node table x)) → Settled table s (suc x) → Settled table s' x
-settled_more {table} {s} {s'} {x} f e h = record {
+pub settled_more : {table : Bytes} {s : List Packed} {x : ℕ} {m : Packed} → x < length s → m ≡ packed_of (summary_of (node table x)) → Settled table s (suc x) → Settled table (set s x m) x
+settled_more {table} {s} {x} {m} r e h = record {
   rows = λ y l k.
-      ⊎_elim (λ (z : x ≡ y). ap (row s') (sym z) ∙ f.here ∙ e ∙ ap (λ (q : ℕ). packed_of (summary_of (node table q))) z)
-      (λ z. f.after y z ∙ h.rows y z k) (eq-or-lt_of_le l);
+      ⊎_elim (λ (z : x ≡ y). ap (row (set s x m)) (sym z) ∙ get_or-set_same s x m _ r ∙ e ∙ ap (λ (q : ℕ). packed_of (summary_of (node table q))) z)
+      (λ z. get_or-set_other s x y m _ (λ e. omega arith) ∙ h.rows y z k) (eq-or-lt_of_le l);
 }
 
 -- the rows from x on are settled, m is the first of them, and they are as long as before
-pub record SettledFrom (table : Bytes) (s₀ s : List ℕ) (m : Packed) (x : ℕ) : Type 0 where
+pub record SettledFrom (table : Bytes) (s₀ s : List Packed) (m : Packed) (x : ℕ) : Type 0 where
   pub long : length s ≡ length s₀
   pub below : x ≤ atoms table
   pub settled : Settled table s x
   pub first : Next table x m
 
-module _ {table : Bytes} {s₀ : List ℕ} (room : Room table s₀) where
+module _ {table : Bytes} {s₀ : List Packed} (room : Room table s₀) where
   -- there are bytes enough for a header
   pub header_there : header_size (version_of table) ≤ length table
   header_there = omega (arith, (record_in table 0 (record { good = room.good; there = some_pattern (tree_of table) })).within)
@@ -181,7 +181,7 @@ module _ {table : Bytes} {s₀ : List ℕ} (room : Room table s₀) where
   settled_start m x e =
       record { long = refl; below = omega arith; settled = record { rows = λ y l k. absurd (omega arith) }; first = record { is = λ k. absurd (omega arith) } }
 
-  module _ {s : List ℕ} {m : Packed} {x : ℕ} (inv : SettledFrom table s₀ s m x) where
+  module _ {s : List Packed} {m : Packed} {x : ℕ} (inv : SettledFrom table s₀ s m x) where
     module _ (h : 0 < x) where
       before : x ≡ suc (x - 1)
       before = omega arith
@@ -196,7 +196,7 @@ module _ {table : Bytes} {s₀ : List ℕ} (room : Room table s₀) where
       pub next_ready : Next table (suc (x - 1)) m
       next_ready = subst (λ (y : ℕ). Next table y m) before inv.first
 
-    pub settled_step : {s' : List ℕ} {m' : Packed} → length s' ≡ length s → Settled table s' (x - 1) → Next table (x - 1) m' → SettledFrom table s₀ s' m' (x - 1)
+    pub settled_step : {s' : List Packed} {m' : Packed} → length s' ≡ length s → Settled table s' (x - 1) → Next table (x - 1) m' → SettledFrom table s₀ s' m' (x - 1)
     settled_step e h k = record { long = e ∙ inv.long; below = omega (arith, inv.below); settled = h; first = k }
 
     pub settled_end : x ≤ 0 → m ≡ packed_of (summary_of (tree_of table))

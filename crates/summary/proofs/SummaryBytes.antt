@@ -1,31 +1,56 @@
 -- The bytes that are written are those of the summary. Assumes nothing.
 use mathlib.Core.Path.{◌≡◌, refl, sym, ap, ap₂, ◌∙◌}
 use mathlib.Core.Bool.{Bool, cond}
-use mathlib.Core.List.{[], ◌∷◌, ◌++◌, append_assoc, append-nil}
+use mathlib.Core.List.{List, [], ◌∷◌, ◌++◌, append_assoc, append-nil}
 use Prim.Native.Nat.{ℕ, zero, suc, ◌+◌, ◌*◌, ◌/◌, ◌%◌, ◌≤◌, ◌<◌}
 use native.Mathlib.Omega.{arith}
-use lib.ListN.{length}
+use lib.ListN.{length, get_or, take, length-append}
 use Rattle.pattern.specs.Bytes.{Bytes, le16, little, overwrite}
-use Rattle.pattern.specs.Stores.{Puts}
-use Rattle.pattern.proofs.Stores.{puts_then, store_at_overwrite}
+use lib.Seq.{length-take-le, take_all}
+use Rattle.pattern.specs.Stores.{store_at, Puts}
+use Rattle.pattern.proofs.Stores.{puts_then, puts_as, puts_length, store_at_overwrite}
 use Rattle.stores.proofs.Little.{length_little}
 use Rattle.summary.specs.Summary.{Summary, bits, set_bytes, summary_bytes, summary_size}
-use Rattle.summary.specs.Packing.{word_of, packed_of, packed_bytes}
+use Rattle.summary.specs.Packing.{word_of, words_of, packed_of, words_bytes, packed_bytes}
 use Rattle.summary.specs.declared.packed.Packed.{Packed}
 use Rattle.summary.proofs.Words.{bits_same, digit_small}
 
--- ---- six stores
+-- ---- the stores
 
--- the place after eight bytes
-pub puts_eight : {l l' : Bytes} {n m : ℕ} (x : ℕ) → Puts l n (little 8 x) l' m → m ≡ n + 8
-puts_eight x p = omega (arith, p.next, length_little 8 x)
+pub length_words : (v : List ℕ) → length (words_bytes v) ≡ 8 * length v
+unfolding words_bytes
+length_words [] = refl
+length_words (x ∷ v) = omega (arith, length-append (little 8 x) (words_bytes v), length_little 8 x, length_words v)
 
-pub written : (m : Packed) {l₀ l₁ l₂ l₃ l₄ l₅ l₆ : Bytes} {n₁ n₂ n₃ n₄ n₅ n₆ : ℕ} → summary_size ≤ length l₀ → Puts l₀ 0 (le16 m.shortest []) l₁ n₁ → Puts l₁ n₁ (le16 m.longest []) l₂ n₂
-    → Puts l₂ n₂ (little 8 m.a) l₃ n₃ → Puts l₃ n₃ (little 8 m.b) l₄ n₄ → Puts l₄ n₄ (little 8 m.c) l₅ n₅ → Puts l₅ n₅ (little 8 m.d) l₆ n₆ → l₆ ≡ overwrite (packed_bytes m) l₀
-unfolding packed_bytes
-written m {l₀} h p q a b c d =
-    let w = puts_then (puts_then (puts_then (puts_then (puts_then p q) a) b) c) d in
-    w.bytes ∙ store_at_overwrite l₀ _ (omega (arith, w.next, puts_eight m.d d, puts_eight m.c c, puts_eight m.b b, puts_eight m.a a, q.next, p.next))
+-- a word more
+words_more : (v : List ℕ) (i : ℕ) → i < length v → words_bytes (take (suc i) v) ≡ words_bytes (take i v) ++ little 8 (get_or v i 0)
+unfolding words_bytes
+words_more [] i h = absurd (omega arith)
+words_more (x ∷ v) zero h = append-nil (little 8 x)
+words_more (x ∷ v) (suc i) h = ap (λ (u : Bytes). little 8 x ++ u) (words_more v i (omega arith)) ∙ sym (append_assoc (little 8 x) (words_bytes (take i v)) (little 8 (get_or v i 0)))
+
+-- the lengths and the first i words are written
+pub record Written (m : Packed) (l l' : Bytes) (i n : ℕ) : Type 0 where
+  pub puts : Puts l 0 (le16 m.shortest [] ++ le16 m.longest [] ++ words_bytes (take i m.first)) l' n
+
+module _ {m : Packed} {l : Bytes} where
+  pub written_start : {l₁ l₂ : Bytes} {n₁ n₂ : ℕ} → Puts l 0 (le16 m.shortest []) l₁ n₁ → Puts l₁ n₁ (le16 m.longest []) l₂ n₂ → Written m l l₂ 0 n₂
+  unfolding words_bytes
+  written_start p q = record { puts = puts_then p q }
+
+  module _ {l' : Bytes} {i n : ℕ} (w : Written m l l' i n) where
+    pub written_more : {l'' : Bytes} {k : ℕ} → i < length m.first → Puts l' n (little 8 (get_or m.first i 0)) l'' k → Written m l l'' (i + 1) k
+    written_more h p = let z : suc i ≡ i + 1 = omega arith in record { puts = puts_as (puts_then w.puts p) (append_assoc (le16 m.shortest [] ++ le16 m.longest []) (words_bytes (take i m.first)) _ ∙ ap (λ (u : Bytes). le16 m.shortest [] ++ le16 m.longest [] ++ u) (sym (words_more m.first i h) ∙ ap (λ k. words_bytes (take k m.first)) z)) }
+
+    pub written_room : length m.first ≡ 4 → i < 4 → summary_size ≤ length l → n + 8 ≤ length l'
+    written_room e h r = omega (arith, w.puts.next, puts_length w.puts, length_words (take i m.first), length-take-le i m.first (omega arith))
+
+    pub written_all : length m.first ≡ 4 → i ≡ 4 → summary_size ≤ length l → l' ≡ overwrite (packed_bytes m) l
+    unfolding packed_bytes
+    written_all e z r =
+        let t : take i m.first ≡ m.first = take_all i m.first (omega arith) in
+        w.puts.bytes ∙ ap (λ v. store_at l 0 (le16 m.shortest [] ++ le16 m.longest [] ++ words_bytes v)) t
+        ∙ store_at_overwrite l _ (omega (arith, length_words m.first))
 
 -- ---- the set
 
@@ -63,12 +88,12 @@ bits_before (suc m) n f =
     ap₂ (λ (k : ℕ) (v : Bytes). little (suc m) (bits k f) ++ v) z later ∙ ap₂ (λ (x : ℕ) (v : Bytes). x ∷ v) p (ap (λ k. little m k ++ set_bytes n (λ b. f (8 + (8 * m + b)))) q ∙ bits_before m n (λ j. f (8 + j)))
     ∙ ap (λ k. set_bytes k f) (sym y)
 
-set_words : (f : ℕ → Bool) → little 8 (word_of f 0) ++ (little 8 (word_of f 1) ++ (little 8 (word_of f 2) ++ little 8 (word_of f 3))) ≡ set_bytes 32 f
-unfolding word_of set_bytes
+set_words : (f : ℕ → Bool) → words_bytes (words_of f) ≡ set_bytes 32 f
+unfolding words_bytes words_of word_of set_bytes
 set_words f =
     let w : (i n : ℕ) (v : Bytes) → v ≡ set_bytes n (λ b. f (64 * suc i + b)) → little 8 (word_of f i) ++ v ≡ set_bytes (8 + n) (λ b. f (64 * i + b)) =
     λ i n v e. ap (λ (u : Bytes). little 8 (word_of f i) ++ u) (e ∙ set_same n _ _ (λ b. ap f (omega arith))) ∙ bits_before 8 n (λ b. f (64 * i + b)) in
-    w 0 24 _ (w 1 16 _ (w 2 8 _ (sym (append-nil _) ∙ w 3 0 [] refl))) ∙ set_same 32 _ _ (λ b. ap f (omega arith))
+    w 0 24 _ (w 1 16 _ (w 2 8 _ (w 3 0 [] refl))) ∙ set_same 32 _ _ (λ b. ap f (omega arith))
 
 pub bytes_law : (m : Summary) (x : Packed) → x ≡ packed_of m → packed_bytes x ≡ summary_bytes m
 unfolding packed_bytes summary_bytes packed_of

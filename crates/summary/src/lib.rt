@@ -7,28 +7,24 @@ ghost use Rattle.pattern.specs.Decode.{tree_of};
 ghost use Rattle.summary.specs.Summary.{summary_of, summary_bytes};
 ghost use Rattle.summary.specs.Rows.{SummaryPre};
 
-use pattern::limits::ATOM_LIMIT;
+use packed::Packed;
+use settle::Records;
 
 mod leaf;
 mod ops;
-mod packed;
-mod rows;
+pub mod packed;
 pub mod rules;
 mod settle;
 mod write;
 
-// The numbers of a row: there is one for each atom.
-pub const ROW_SIZE: usize = 6;
-
-pub const ROWS: usize = ROW_SIZE * ATOM_LIMIT;
-
 pub const SUMMARY_SIZE: usize = 36;
 
-// The summary of a good table of this many atoms, at the start of what is lent; the bytes after it stay, the rows hold anything.
-pub fn write_summary(table: &[u8], atoms: usize, rows: &mut [u64], out: &mut [u8])
+// The summary of a good table of this many atoms, at the start of what is lent; the bytes after it stay. There is a row for each atom, and
+// the rows hold anything.
+pub fn write_summary(table: &[u8], atoms: usize, rows: &mut [Packed], out: &mut [u8])
     requires { SummaryPre table.now atoms rows.old out.old }
     ensures { out.new ≡ overwrite (summary_bytes (summary_of (tree_of table.now))) out.old }
 {
-    let m = settle::settle_all(table, rows, atoms);
+    let m = Records::of(table).settle_all(rows, atoms);
     write::write(m, out);
 }

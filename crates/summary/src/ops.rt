@@ -1,33 +1,23 @@
 // What is worked out of the summaries of parts.
-ghost use Rattle.std.specs.Prelude.{◌≡◌, ◌≤◌, min, max};
+ghost use Rattle.std.specs.Prelude.{◌≡◌, ◌≤◌};
 ghost use Rattle.pattern.specs.Decode.{high_of};
 ghost use Rattle.summary.specs.Summary.{length_cap, often};
-ghost use Rattle.summary.specs.Packing.{Capped, longest_both, both_packed, either_packed, repeat_packed};
+ghost use Rattle.summary.specs.Packing.{Capped, longest_both, union, both_packed, either_packed, repeat_packed};
 
-use super::packed::Packed;
+use super::packed::{NO_BYTES, Packed};
 
 // A length that is above is written as this.
 pub const LENGTH_CAP: u64 = 256;
 
-fn wide64(x: u16) -> u64
-    ensures { (result ≡ x) × (result ≤ 65535) }
+// The bytes of two sets.
+pub fn union(v: [u64; 4], w: [u64; 4]) -> [u64; 4]
+    ensures { result ≡ union v w }
 {
-    x as u64
+    [v[0] | w[0], v[1] | w[1], v[2] | w[2], v[3] | w[3]]
 }
 
-pub fn lesser(m: u64, n: u64) -> u64
-    ensures { result ≡ min m n }
-{
-    if m < n { m } else { n }
-}
-
-fn larger(m: u64, n: u64) -> u64
-    ensures { result ≡ max m n }
-{
-    if m < n { n } else { m }
-}
-
-// The longest of both, where something satisfies the second: 0 if nothing satisfies the first.
+// The longest of both, where something satisfies the second: 0 if nothing satisfies the first. That lengths are capped is a
+// clause and no fact of `Packed`, since the rows that `write_summary` is lent hold anything.
 fn longest_both(m: Packed, n: Packed) -> u64
     requires capped { Capped m }
     requires next_capped { Capped n }
@@ -36,7 +26,7 @@ fn longest_both(m: Packed, n: Packed) -> u64
     if m.longest < m.shortest {
         return 0;
     }
-    lesser(m.longest + n.longest, LENGTH_CAP)
+    (m.longest + n.longest).min(LENGTH_CAP)
 }
 
 // One after the other.
@@ -45,15 +35,12 @@ pub fn both(m: Packed, n: Packed) -> Packed
     requires next_capped { Capped n }
     ensures { result ≡ both_packed m n }
 {
-    let shortest = lesser(m.shortest + n.shortest, LENGTH_CAP);
+    let shortest = (m.shortest + n.shortest).min(LENGTH_CAP);
     if n.longest < n.shortest {
         return Packed {
             shortest,
             longest: 0,
-            a: 0,
-            b: 0,
-            c: 0,
-            d: 0,
+            first: NO_BYTES,
         };
     }
     let longest = longest_both(m, n);
@@ -61,19 +48,13 @@ pub fn both(m: Packed, n: Packed) -> Packed
         return Packed {
             shortest,
             longest,
-            a: m.a | n.a,
-            b: m.b | n.b,
-            c: m.c | n.c,
-            d: m.d | n.d,
+            first: union(m.first, n.first),
         };
     }
     Packed {
         shortest,
         longest,
-        a: m.a,
-        b: m.b,
-        c: m.c,
-        d: m.d,
+        ..m
     }
 }
 
@@ -82,12 +63,9 @@ pub fn either(m: Packed, n: Packed) -> Packed
     ensures { result ≡ either_packed m n }
 {
     Packed {
-        shortest: lesser(m.shortest, n.shortest),
-        longest: larger(m.longest, n.longest),
-        a: m.a | n.a,
-        b: m.b | n.b,
-        c: m.c | n.c,
-        d: m.d | n.d,
+        shortest: m.shortest.min(n.shortest),
+        longest: m.longest.max(n.longest),
+        first: union(m.first, n.first),
     }
 }
 
@@ -96,7 +74,7 @@ fn often(high: u16, n: u64) -> u64
     requires { n ≤ length_cap }
     ensures { result ≡ often (high_of high) n }
 {
-    lesser(wide64(high) * n, LENGTH_CAP)
+    (u64::from(high) * n).min(LENGTH_CAP)
 }
 
 // A body as often as a count says.
@@ -104,24 +82,18 @@ pub fn repeated(low: u16, high: u16, m: Packed) -> Packed
     requires { Capped m }
     ensures { result ≡ repeat_packed low (high_of high) m }
 {
-    let shortest = lesser(wide64(low) * m.shortest, LENGTH_CAP);
+    let shortest = (u64::from(low) * m.shortest).min(LENGTH_CAP);
     let longest = often(high, m.longest);
     if high == 0 {
         return Packed {
             shortest,
             longest,
-            a: 0,
-            b: 0,
-            c: 0,
-            d: 0,
+            first: NO_BYTES,
         };
     }
     Packed {
         shortest,
         longest,
-        a: m.a,
-        b: m.b,
-        c: m.c,
-        d: m.d,
+        ..m
     }
 }

@@ -3,7 +3,7 @@ ghost use Rattle.std.specs.Prelude.{◌≤◌, length};
 ghost use Rattle.summary.specs.Summary.{summary_size};
 ghost use Rattle.summary.specs.Ruling.{RulesOut};
 
-use stores::{read16, wide};
+use stores::read16;
 
 // Whether the summary with these bytes rules out the label: by its length, or by its first byte if it has one.
 pub fn rules_out(summary: &[u8], label: &[u8]) -> bool
@@ -11,16 +11,15 @@ pub fn rules_out(summary: &[u8], label: &[u8]) -> bool
     ensures { RulesOut summary.now label.now result }
 {
     let n = label.len();
-    if n < read16(summary, 0) as usize {
+    if n < usize::from(read16(summary, 0)) {
         return true;
     }
-    if (read16(summary, 2) as usize) < n {
+    if usize::from(read16(summary, 2)) < n {
         return true;
     }
     if n == 0 {
         return false;
     }
     let b = label[0];
-    let at = 4 + wide(b / 8) as usize;
-    (summary[at] >> (b % 8)) % 2 == 0
+    (summary[4 + usize::from(b / 8)] >> (b % 8)) % 2 == 0
 }

@@ -1,7 +1,7 @@
 -- The cases of a leaf. Assumes nothing.
-use mathlib.Core.Path.{◌≡◌, refl, sym, ap, ap₂, ◌∙◌}
+use mathlib.Core.Path.{◌≡◌, sym, ap, ap₂, ◌∙◌}
 use mathlib.Core.Logic.{⊎_elim}
-use mathlib.Core.Bool.{Bool, true, false}
+use mathlib.Core.Bool.{true, false}
 use mathlib.Core.Option.{some}
 use mathlib.Core.List.{[], ◌∷◌, ◌++◌}
 use Prim.Native.Nat.{ℕ, suc, ◌+◌, ◌*◌, ◌<◌, ◌≤◌}
@@ -9,78 +9,69 @@ use native.Mathlib.Omega.{arith}
 use lib.Dec.{ltb}
 use lib.ListN.{length, take, drop, length-take, length-drop, length-append}
 use borrow.Author.Tests.{le-leb, lt-leb, eq-eqb, ne_eqb, ltb-true}
+use Rattle.std.specs.Prelude.{Some, None}
+use Rattle.std.proofs.lemmas.Option.{cond_some}
 use Rattle.pattern.specs.Numbers.{record_size, set_limit, quote_byte, codes_kind, literal_kind}
 use Rattle.pattern.specs.Bytes.{Bytes}
 use Rattle.pattern.specs.Codes.{all_codes}
 use Rattle.pattern.specs.Syntax.{body, Syntax, size}
 use Rattle.pattern.specs.Table.{pool}
 use Rattle.pattern.specs.Print.{print_set, double, print}
-use Rattle.table.specs.Headers.{pick}
 use Rattle.table.specs.Checked.{all_plain, a_set, codes_leaf, text_leaf, leaf as leaf_read}
-use Rattle.table.specs.Leaves.{text_of, leaf_of}
-use Rattle.table.specs.declared.lengths.TextLength.TheVariants as texts
-use Rattle.table.specs.declared.walk.Leaf.TheVariants as leaf
-use Rattle.table.proofs.Options.{inside, only_some, choose_some, kept, dropped, first, second, and_true}
+use Rattle.table.specs.Leaves.{leaf_bytes, text_of, leaf_of}
+use Rattle.table.proofs.Options.{cond_none, inside, only_some, choose_some, kept, dropped, first, second, and_true}
 use Rattle.table.proofs.Measures.{double_length}
 
 -- what an answer on a literal says
-text_is : (v : Bytes) (n : ℕ) → texts.Length n ≡ text_of v → (all_plain v ≡ true) × (n ≡ length (double v))
-unfolding text_of pick
-text_is v n e = go (all_plain v) e
-  where
-    go : (b : Bool) → texts.Length n ≡ pick b (texts.Length (length (double v))) texts.Bad → (b ≡ true) × (n ≡ length (double v))
-    go true e = (refl, cc)
-    go false e = let z : ◌≡◌ {A = ℕ} 0 1 = cc in absurd (omega arith)
+text_is : (v : Bytes) (n : ℕ) → Some n ≡ text_of v → (all_plain v ≡ true) × (n ≡ length (double v))
+unfolding text_of
+text_is v n e = let (a, b) = cond_some (all_plain v) (length (double v)) n (sym e) in (a, sym b)
 
-text_not : (v : Bytes) → texts.Bad ≡ text_of v → all_plain v ≡ false
-unfolding text_of pick
-text_not v e = go (all_plain v) e
-  where
-    go : (b : Bool) → texts.Bad ≡ pick b (texts.Length (length (double v))) texts.Bad → b ≡ false
-    go true e = let z : ◌≡◌ {A = ℕ} 0 1 = cc in absurd (omega arith)
-    go false e = refl
+text_not : (v : Bytes) → None ≡ text_of v → all_plain v ≡ false
+unfolding text_of
+text_not v e = cond_none (all_plain v) (length (double v)) e
 
 pub small_set : (a : ℕ) → a_set a ≡ true → a < set_limit
 unfolding a_set
 small_set a e = ltb-true _ _ (and_true (ltb 0 a) (ltb a set_limit) e).1
 
 module _ (a b : ℕ) where
-  pub codes_on : (n : ℕ) → a_set a ≡ true → b ≡ 0 → n ≡ length (print_set all_codes a) → leaf.Is 0 n ≡ leaf_of (codes_leaf a b)
+  pub codes_on : (n : ℕ) → a_set a ≡ true → b ≡ 0 → n ≡ length (print_set all_codes a) → Some (leaf_bytes 0 n) ≡ leaf_of (codes_leaf a b)
   unfolding leaf_of pool print
-  codes_on n e f g = ap (λ x. leaf.Is 0 x) g ∙ sym (ap leaf_of (kept _ _ e ∙ kept _ _ (eq-eqb b 0 f)))
+  codes_on n e f g = ap (λ x. Some (leaf_bytes 0 x)) g ∙ sym (ap leaf_of (kept _ _ e ∙ kept _ _ (eq-eqb b 0 f)))
 
-  pub codes_more : a_set a ≡ true → (b ≡ 0 → ⊥) → leaf.Bad ≡ leaf_of (codes_leaf a b)
+  pub codes_more : a_set a ≡ true → (b ≡ 0 → ⊥) → None ≡ leaf_of (codes_leaf a b)
   unfolding leaf_of
   codes_more e f = sym (ap leaf_of (kept _ _ e ∙ dropped _ _ (ne_eqb b 0 f)))
 
-  pub codes_off : a_set a ≡ false → leaf.Bad ≡ leaf_of (codes_leaf a b)
+  pub codes_off : a_set a ≡ false → None ≡ leaf_of (codes_leaf a b)
   unfolding leaf_of
   codes_off e = sym (ap leaf_of (dropped _ _ e))
 
 module _ (s : Bytes) (A a b p : ℕ) where
-  pub text_apart : (a ≡ p → ⊥) → leaf.Bad ≡ leaf_of (text_leaf s A a b p)
+  pub text_apart : (a ≡ p → ⊥) → None ≡ leaf_of (text_leaf s A a b p)
   unfolding leaf_of
   text_apart e = sym (ap leaf_of (dropped _ _ (ne_eqb a p e)))
 
-  pub text_past : a ≡ p → length s < record_size * A + p + b → leaf.Bad ≡ leaf_of (text_leaf s A a b p)
+  pub text_past : a ≡ p → length s < record_size * A + p + b → None ≡ leaf_of (text_leaf s A a b p)
   unfolding leaf_of
   text_past e f = sym (ap leaf_of (kept _ _ (eq-eqb a p e) ∙ dropped _ _ (lt-leb (record_size * A + p + b) (length s) f)))
 
-  pub text_bad : (k : ℕ) → a ≡ p → record_size * A + p + b ≤ length s → k ≡ b → texts.Bad ≡ text_of (take k (drop (record_size * A + p) s)) → leaf.Bad ≡ leaf_of (text_leaf s A a b p)
+  pub text_bad : (k : ℕ) → a ≡ p → record_size * A + p + b ≤ length s → k ≡ b → None ≡ text_of (take k (drop (record_size * A + p) s)) → None ≡ leaf_of (text_leaf s A a b p)
   unfolding leaf_of
   text_bad k e f g t =
       let n = text_not _ (t ∙ ap (λ j. text_of (take j (drop (record_size * A + p) s))) g) in
       sym (ap leaf_of (kept _ _ (eq-eqb a p e) ∙ kept _ _ (le-leb (record_size * A + p + b) (length s) f) ∙ dropped _ _ n))
 
-  pub text_good : (k n : ℕ) → a ≡ p → record_size * A + p + b ≤ length s → k ≡ b → texts.Length n ≡ text_of (take k (drop (record_size * A + p) s))
-      → (leaf.Is b (n + 2) ≡ leaf_of (text_leaf s A a b p)) × (n ≤ 2 * b)
+  pub text_good : (k n : ℕ) → a ≡ p → record_size * A + p + b ≤ length s → k ≡ b → Some n ≡ text_of (take k (drop (record_size * A + p) s))
+      → (Some (leaf_bytes b (n + 2)) ≡ leaf_of (text_leaf s A a b p)) × (n ≤ 2 * b)
   unfolding leaf_of pool print
   text_good k n e f g t =
       let v = take b (drop (record_size * A + p) s) in
       let (y, z) = text_is v n (t ∙ ap (λ j. text_of (take j (drop (record_size * A + p) s))) g) in
       let m : length v ≡ b = length-take b (drop (record_size * A + p) s) ∙ omega (arith, length-drop (record_size * A + p) s) in
       let o : n + 2 ≡ suc (length (double v ++ quote_byte ∷ [])) = omega (arith, z, length-append (double v) (quote_byte ∷ [])) in
-      (ap₂ (λ x y. leaf.Is x y) (sym m) o ∙ sym (ap leaf_of (kept _ _ (eq-eqb a p e) ∙ kept _ _ (le-leb (record_size * A + p + b) (length s) f) ∙ kept _ _ y)), omega (arith, z, double_length v, m))
+      (ap₂ (λ x y. Some (leaf_bytes x y)) (sym m) o ∙ sym (ap leaf_of (kept _ _ (eq-eqb a p e) ∙ kept _ _ (le-leb (record_size * A + p + b) (length s) f) ∙ kept _ _ y)), omega (arith, z, double_length v, m))
 
 -- a leaf by its kind
 module _ (s : Bytes) (A kind a b p : ℕ) where
@@ -92,7 +83,7 @@ module _ (s : Bytes) (A kind a b p : ℕ) where
   unfolding leaf_read
   leaf_two n e = sym (ap leaf_of (second _ _ _ (ne_eqb kind 1 n) ∙ kept _ _ (eq-eqb kind 2 e)))
 
-  pub leaf_other : (kind ≡ codes_kind → ⊥) → (kind ≡ literal_kind → ⊥) → leaf.Bad ≡ leaf_of (leaf_read s A kind a b p)
+  pub leaf_other : (kind ≡ codes_kind → ⊥) → (kind ≡ literal_kind → ⊥) → None ≡ leaf_of (leaf_read s A kind a b p)
   unfolding leaf_read leaf_of
   leaf_other n m = sym (ap leaf_of (second _ _ _ (ne_eqb kind 1 n) ∙ dropped _ _ (ne_eqb kind 2 m)))
 

@@ -1,28 +1,31 @@
 -- Lengths of what is printed, and steps along lists. Assumes nothing.
 use mathlib.Core.Path.{◌≡◌, refl, sym, ap, ap₂, ◌∙◌}
-use mathlib.Core.Bool.{Bool, true, false, ◌&&◌}
+use mathlib.Core.Bool.{Bool, true, false, ◌&&◌, ◌||◌}
 use mathlib.Core.List.{List, [], ◌∷◌, ◌++◌}
 use Prim.Native.Nat.{ℕ, suc, ◌+◌, ◌*◌, ◌/◌, ◌%◌, ◌<◌, ◌≤◌}
 use native.Mathlib.Numerals.{add-one}
 use native.Mathlib.Omega.{arith}
 use lib.Dec.{T, leb, eqb, eqb→eq, leb→le}
-use lib.ListN.{length, get_or, drop, length-append, drop_of_length-le}
-use lib.Seq.{drop-cons}
+use lib.ListN.{length, get_or, take, drop, length-append, drop_of_length-le}
+use lib.Seq.{drop-cons, get_or-take}
 use borrow.Author.Tests.{le-leb, lt-leb, eq-eqb, ne_eqb}
+use Rattle.std.specs.Prelude.{Some, None, cond}
 use Rattle.pattern.specs.Numbers.{point_byte, quote_byte, open_high, version_place, atoms_place}
-use Rattle.pattern.specs.Versions.{Version, v1, v2, written_version, header_size}
-use Rattle.pattern.specs.Bytes.{Bytes, between}
+use Rattle.pattern.specs.Versions.{Version, v1, v2, written_version, format, header_size}
+use Rattle.pattern.proofs.Agree.{equal_decides}
+use Rattle.std.specs.Cmp.Lexicographic.{pointwise}
+use Rattle.std.proofs.lemmas.Bool.Decides.{nat_tests}
+use Rattle.pattern.specs.Bytes.{Bytes, between, equal}
 use Rattle.pattern.specs.Codes.{all_codes}
 use Rattle.pattern.specs.Print.{decimal, print_low, print_count, print_set, double}
-use Rattle.pattern.specs.Decode.{field, high_of, version_of, count_in}
-use Rattle.pattern.proofs.Tests.{and_both, all, all_at, if_true, if_false}
+use Rattle.pattern.specs.Decode.{field, high_of, version_of}
+use Rattle.pattern.proofs.Tests.{true-T, and_both, all, all_at, if_true, if_false}
 use Rattle.stores.proofs.Little.{Octets, number_byte, number_field}
-use Rattle.table.specs.Headers.{pick, marked, format_of, header_by, header_of, headed, read_header}
+use Rattle.table.specs.Headers.{first_bytes, marked, header_of, headed, read_header}
 use Rattle.table.specs.Checked.{all_plain}
 use Rattle.table.specs.Leaves.{text_of}
-use Rattle.table.specs.declared.header.HeaderRead.{HeaderRead}
-use Rattle.table.specs.declared.header.HeaderRead.TheVariants as head
-use Rattle.table.specs.declared.lengths.TextLength.TheVariants as texts
+use Rattle.table.specs.declared.header.Header.{Header}
+use Rattle.std.specs.declared.option.Option as code
 use Rattle.table.proofs.Sources.{count_open, count_two, quote_here, plain_here, double_end}
 
 -- ---- counts
@@ -77,13 +80,13 @@ module _ (v : Bytes) (i : ℕ) where
   abbrev Plain : ℕ → Type 0
   Plain k = all_plain v ≡ all_plain (drop k v)
 
-  pub text_low : i < length v → Plain i → get_or v i 0 < 32 → texts.Bad ≡ text_of v
-  unfolding text_of pick
-  text_low h e n = sym (ap (λ b. pick b (texts.Length (length (double v))) texts.Bad) (e ∙ plain_step v i (i + 1) refl h ∙ ap (λ b. (b && leb (get_or v i 0) 126) && all_plain (drop (i + 1) v)) (lt-leb _ _ n)))
+  pub text_low : i < length v → Plain i → get_or v i 0 < 32 → None ≡ text_of v
+  unfolding text_of
+  text_low h e n = sym (ap (λ b. cond b (Some (length (double v))) None) (e ∙ plain_step v i (i + 1) refl h ∙ ap (λ b. (b && leb (get_or v i 0) 126) && all_plain (drop (i + 1) v)) (lt-leb _ _ n)))
 
-  pub text_high : i < length v → Plain i → 32 ≤ get_or v i 0 → 126 < get_or v i 0 → texts.Bad ≡ text_of v
-  unfolding text_of pick
-  text_high h e m n = sym (ap (λ b. pick b (texts.Length (length (double v))) texts.Bad) (e ∙ plain_step v i (i + 1) refl h ∙ ap₂ (λ a b. (a && b) && all_plain (drop (i + 1) v)) (le-leb _ _ m) (lt-leb _ _ n)))
+  pub text_high : i < length v → Plain i → 32 ≤ get_or v i 0 → 126 < get_or v i 0 → None ≡ text_of v
+  unfolding text_of
+  text_high h e m n = sym (ap (λ b. cond b (Some (length (double v))) None) (e ∙ plain_step v i (i + 1) refl h ∙ ap₂ (λ a b. (a && b) && all_plain (drop (i + 1) v)) (le-leb _ _ m) (lt-leb _ _ n)))
 
   pub text_on : i < length v → Plain i → 32 ≤ get_or v i 0 → get_or v i 0 ≤ 126 → Plain (i + 1)
   text_on h e m n = e ∙ plain_step v i (i + 1) refl h ∙ ap₂ (λ a b. (a && b) && all_plain (drop (i + 1) v)) (le-leb _ _ m) (le-leb _ _ n)
@@ -94,13 +97,13 @@ module _ (v : Bytes) (i : ℕ) where
   pub other_on : i < length v → (get_or v i 0 ≡ quote_byte → ⊥) → length (double (drop i v)) ≡ 1 + length (double (drop (i + 1) v))
   other_on h e = rw add-one (omega (arith, ap length (plain_here v i h e)))
 
-  pub text_end : (n : ℕ) → length v ≤ i → Plain i → length (double v) ≡ n + length (double (drop i v)) → texts.Length n ≡ text_of v
-  unfolding text_of pick all_plain
+  pub text_end : (n : ℕ) → length v ≤ i → Plain i → length (double v) ≡ n + length (double (drop i v)) → Some n ≡ text_of v
+  unfolding text_of all_plain
   text_end n h e f =
       let z = drop_of_length-le v h in
       let q : length (double (drop i v)) ≡ 0 = ap length (double_end v i h) in
       let m : n ≡ length (double v) = omega (arith, f, q) in
-      ap (λ x. texts.Length x) m ∙ sym (ap (λ b. pick b (texts.Length (length (double v))) texts.Bad) (e ∙ ap all_plain z))
+      ap (λ x. Some x) m ∙ sym (ap (λ b. cond b (Some (length (double v))) None) (e ∙ ap all_plain z))
 
 -- ---- a header
 
@@ -109,32 +112,76 @@ pub header_longest : (v : Version) → header_size v ≤ header_size written_ver
 header_longest v1 = omega arith
 header_longest v2 = omega arith
 
+-- the first bytes of a version name it
+pub first_version : (v : Version) (s : Bytes) → take atoms_place s ≡ first_bytes v → version_of s ≡ v
+unfolding version_of
+first_version v s e = ap by_number (named v s e) ∙ again v
+  where
+    by_number : ℕ → Version
+    by_number n = elim (eqb n 1) [ true ↦ v1 | false ↦ v2 ]
+
+    again : (v : Version) → by_number (format v).version ≡ v
+    again v1 = refl
+    again v2 = refl
+
+    named : (v : Version) (s : Bytes) → take atoms_place s ≡ first_bytes v → field s version_place ≡ (format v).version
+    named v1 s e = omega (arith, get_or-take 5 s 3 0 (omega arith), get_or-take 5 s 4 0 (omega arith), ap (λ (x : Bytes). get_or x 3 0) e, ap (λ (x : Bytes). get_or x 4 0) e)
+    named v2 s e = omega (arith, get_or-take 5 s 3 0 (omega arith), get_or-take 5 s 4 0 (omega arith), ap (λ (x : Bytes). get_or x 3 0) e, ap (λ (x : Bytes). get_or x 4 0) e)
+
+-- a table is marked if it begins as its version does
+pub marked_as : (s : Bytes) → marked s ≡ equal (take atoms_place s) (first_bytes (version_of s))
+unfolding marked
+marked_as s = go _ _ refl refl
+  where
+    begins : Version → Bool
+    begins v = equal (take atoms_place s) (first_bytes v)
+
+    is_of : (v : Version) → begins v ≡ true → version_of s ≡ v
+    is_of v f = first_version v s ((equal_decides (take atoms_place s) (first_bytes v)).sound (true-T _ f))
+
+    neither : (v : Version) → version_of s ≡ v → begins v2 ≡ false → begins v1 ≡ false → false ≡ begins (version_of s)
+    neither v1 e f g = sym (ap begins e ∙ g)
+    neither v2 e f g = sym (ap begins e ∙ f)
+
+    go : (a b : Bool) → begins v2 ≡ a → begins v1 ≡ b → begins v2 || begins v1 ≡ begins (version_of s)
+    go true b f g = ap (λ x. x || begins v1) f ∙ sym (ap begins (is_of v2 f) ∙ f)
+    go false true f g = ap₂ (λ x y. x || y) f g ∙ sym (ap begins (is_of v1 g) ∙ g)
+    go false false f g = ap₂ (λ x y. x || y) f g ∙ neither _ refl f g
+
+same_test : (x y : ℕ) → eqb x y ≡ eqb y x
+same_test x y = grind (arith, nat_tests)
+
+-- what `starts_with` compares
+pub starts_as : (s m : Bytes) → pointwise eqb m (take (length m) s) ≡ equal (take (length m) s) m
+unfolding equal
+starts_as s m = flips m (take (length m) s)
+  where
+    flips : (a b : Bytes) → pointwise eqb a b ≡ equal b a
+    flips [] [] = refl
+    flips [] (y ∷ b) = refl
+    flips (x ∷ a) [] = refl
+    flips (x ∷ a) (y ∷ b) = ap₂ (λ p q. p && q) (same_test x y) (flips a b)
+
+-- whether a table begins as a version does
+pub begins_as : (s m : Bytes) (v : Version) (r : Bool) → m ≡ first_bytes v → r ≡ pointwise eqb m (take (length m) s) → r ≡ equal (take atoms_place s) (first_bytes v)
+begins_as s m v r f g = g ∙ starts_as s m ∙ ap (λ (m : Bytes). equal (take (length m) s) m) f
+
 module _ (s : Bytes) where
-  abbrev Heads : Bool → Bool → Bool → HeaderRead
-  Heads a b c = pick ((a && b) && c) (head.Is (header_of s)) head.Bad
+  abbrev Heads : Bool → Bool → Bool → code.Option Header
+  Heads a b c = cond ((a && b) && c) (Some (header_of s)) None
 
   heads : (a b c : Bool) → leb (header_size written_version) (length s) ≡ a → marked s ≡ b → eqb (length s) ((header_of s).pool + (header_of s).length) ≡ c → read_header s ≡ Heads a b c
   unfolding read_header headed
   heads a b c e f g = ap₂ (λ x y. Heads x y (eqb (length s) ((header_of s).pool + (header_of s).length))) e f ∙ ap (λ z. Heads a b z) g
 
   -- the header by its version
-  version_1 : field s version_place ≡ 1 → version_of s ≡ v1
+  pub version_1 : field s version_place ≡ 1 → version_of s ≡ v1
   unfolding version_of
   version_1 e = if_true _ _ _ (eq-eqb _ _ e)
 
-  version_2 : (field s version_place ≡ 1 → ⊥) → version_of s ≡ v2
+  pub version_2 : (field s version_place ≡ 1 → ⊥) → version_of s ≡ v2
   unfolding version_of
   version_2 n = if_false _ _ _ (ne_eqb _ _ n)
-
-  pub header_of_1 : field s version_place ≡ 1 → (header_by s (get_or s atoms_place 0) (format_of v1) ≡ header_of s) × (header_size (version_of s) ≡ 8)
-  header_of_1 e =
-      let v = version_1 e in
-      (ap (λ (n : ℕ). header_by s n (format_of v1)) (sym (number_byte s atoms_place)) ∙ ap (λ (w : Version). header_by s (count_in w s) (format_of w)) (sym v), ap header_size v)
-
-  pub header_of_2 : (field s version_place ≡ 1 → ⊥) → (header_by s (field s atoms_place) (format_of v2) ≡ header_of s) × (header_size (version_of s) ≡ 9)
-  header_of_2 n =
-      let v = version_2 n in
-      (ap (λ (k : ℕ). header_by s k (format_of v2)) (sym (number_field s atoms_place)) ∙ ap (λ (w : Version). header_by s (count_in w s) (format_of w)) (sym v), ap header_size v)
 
   -- the numbers of a header are small
   pub header_small : Octets s → (header_of s).pool + (header_of s).length < 1000000
@@ -144,18 +191,18 @@ module _ (s : Bytes) where
       go v1 e = rw e (omega (arith, number_byte s atoms_place, f 5, f 6, f 7))
       go v2 e = rw e (omega (arith, number_field s atoms_place, f 5, f 6, f 7, f 8))
 
-  pub head_short : length s < header_size written_version → head.Bad ≡ read_header s
-  unfolding pick
+  pub head_short : length s < header_size written_version → None ≡ read_header s
   head_short h = sym (heads false (marked s) _ (lt-leb _ _ h) refl refl)
 
-  pub head_off : header_size written_version ≤ length s → marked s ≡ false → head.Bad ≡ read_header s
-  unfolding pick
-  head_off h e = sym (heads true false _ (le-leb _ _ h) e refl)
+  pub head_off : marked s ≡ false → None ≡ read_header s
+  head_off e = go _ refl
+    where
+      go : (a : Bool) → leb (header_size written_version) (length s) ≡ a → None ≡ read_header s
+      go true f = sym (heads true false _ f e refl)
+      go false f = sym (heads false false _ f e refl)
 
-  pub head_wrong : header_size written_version ≤ length s → marked s ≡ true → (length s ≡ (header_of s).pool + (header_of s).length → ⊥) → head.Bad ≡ read_header s
-  unfolding pick
+  pub head_wrong : header_size written_version ≤ length s → marked s ≡ true → (length s ≡ (header_of s).pool + (header_of s).length → ⊥) → None ≡ read_header s
   head_wrong h e n = sym (heads true true false (le-leb _ _ h) e (ne_eqb _ _ n))
 
-  pub head_right : header_size written_version ≤ length s → marked s ≡ true → length s ≡ (header_of s).pool + (header_of s).length → head.Is (header_of s) ≡ read_header s
-  unfolding pick
+  pub head_right : header_size written_version ≤ length s → marked s ≡ true → length s ≡ (header_of s).pool + (header_of s).length → Some (header_of s) ≡ read_header s
   head_right h e n = sym (heads true true true (le-leb _ _ h) e (eq-eqb _ _ n))

@@ -1,4 +1,5 @@
 -- How far the walk has come, from step to step. Assumes nothing.
+use Rattle.std.specs.Prelude.{Some, None}
 use Prim.Native.Nat.{ℕ, ◌+◌, ◌*◌, ◌<◌, ◌≤◌}
 use native.Mathlib.Omega.{arith}
 use lib.ListN.{length}
@@ -6,10 +7,8 @@ use Rattle.pattern.specs.Numbers.{depth_limit, record_size}
 use Rattle.pattern.specs.Bytes.{Bytes}
 use Rattle.table.specs.Fields.{RecordIn}
 use Rattle.table.specs.Leaves.{LeafPre}
-use Rattle.table.specs.Walk.{place, WalkPre, WalkMoved, Past}
+use Rattle.table.specs.Walk.{Passed, place, WalkPre, WalkMoved, Past}
 use Rattle.table.specs.declared.walk.Place.{Place}
-use Rattle.table.specs.declared.walk.Passed.{Passed}
-use Rattle.table.specs.declared.walk.Passed.TheVariants as passed
 
 -- one more byte of the source
 abbrev pub byte_on : Place → Place
@@ -63,5 +62,5 @@ module _ {s : Bytes} {A : ℕ} {at : Place} where
   moved_leaf c v w e f g k = record { on = omega arith; atom = omega arith; pool = omega (arith, g); source = omega arith }
 
   pub past_again : {next : Place} (x : Passed) → WalkMoved s A at next → Past s A (byte_on next) x → Past s A at x
-  past_again (passed.To dest) h n = moved_again h n
-  past_again passed.Bad h n = tt
+  past_again (Some dest) h n = moved_again h n
+  past_again None h n = tt

@@ -3,6 +3,8 @@ use mathlib.Core.Path.{◌≡◌, refl, sym}
 use mathlib.Core.Logic.{◌⊎◌, inl, inr}
 use mathlib.Core.Bool.{Bool, true, false, ◌&&◌}
 use mathlib.Core.Option.{Option, none, some, some-ne-none, some-injective}
+use Rattle.std.specs.Prelude.{Some, None, cond}
+use Rattle.std.proofs.lemmas.Option.{none-some}
 use Rattle.table.specs.Checked.{bind, only_if, choose}
 
 module _ {A : Type 0} where
@@ -52,6 +54,11 @@ module _ {A : Type 0} where
   pub stopped : {B : Type 0} (x : Option A) (k : A → Option B) → x ≡ none → bind x k ≡ none
   unfolding bind
   stopped x k e = rw e
+
+-- a test of the code that gave nothing has failed
+pub cond_none : {A : Type 0} (b : Bool) (x : A) → None ≡ cond b (Some x) None → b ≡ false
+cond_none true x e = absurd (none-some x e)
+cond_none false x e = refl
 
 pub and_true : (a b : Bool) → a && b ≡ true → (a ≡ true) × (b ≡ true)
 and_true true b e = (refl, e)

@@ -4,6 +4,8 @@ use mathlib.Core.Bool.{Bool, true}
 use Prim.Native.Nat.{ℕ, ◌+◌, ◌-◌, ◌<◌, ◌≤◌}
 use native.Mathlib.Omega.{arith}
 use lib.ListN.{length}
+use Rattle.std.specs.Prelude.{Some, None}
+use Rattle.std.specs.declared.option.Option as code
 use Rattle.pattern.specs.Numbers.{depth_limit, group_kind}
 use Rattle.pattern.specs.Bytes.{Bytes}
 use Rattle.pattern.specs.Print.{print_count}
@@ -11,15 +13,10 @@ use Rattle.pattern.specs.Decode.{high_of}
 use Rattle.table.specs.Fields.{record_of}
 use Rattle.table.specs.Checked.{payload_record, ordered, leaf as leaf_read}
 use Rattle.table.specs.Leaves.{LeafPost, Short}
-use Rattle.table.specs.Walk.{WalkPre, WalkMoved, AtomPost, PatternPost, GroupPost}
+use Rattle.table.specs.Walk.{Passed, Walked, WalkPre, WalkMoved, AtomPost, PatternPost, GroupPost}
 use Rattle.table.specs.declared.record.Record.{Record}
 use Rattle.table.specs.declared.walk.Leaf.{Leaf}
-use Rattle.table.specs.declared.walk.Leaf.TheVariants as leaf
 use Rattle.table.specs.declared.walk.Place.{Place}
-use Rattle.table.specs.declared.walk.Passed.{Passed}
-use Rattle.table.specs.declared.walk.Passed.TheVariants as passed
-use Rattle.table.specs.declared.walk.Walked.{Walked}
-use Rattle.table.specs.declared.walk.Walked.TheVariants as walked
 use Rattle.table.proofs.Moves.{byte_on, leaf_on, bracket_on, ready_on, ready_again, ready_inside, moved_then, moved_group, moved_leaf, past_again}
 use Rattle.table.proofs.Steps.{pattern_none, pattern_last, pattern_other, then_none, then_more, atom_leafless, atom_leaf, atom_deep, group_none, group_apart, group_closed, branches_none, branch_none, branch_only, branches_on}
 
@@ -39,22 +36,22 @@ pub counted : {s : Bytes} {A : ℕ} {at : Place} {d : ℕ} {r : Record} {o : Boo
 counted ready on same tested fits (count, short) = record { ready = ready; on = on; same = same; fits = sym tested ∙ fits; count = count; short = short }
 
 module _ {s : Bytes} {A : ℕ} {at : Place} {d : ℕ} {r : Record} {c : ℕ} (h : CountMeasured s A at d r c) where
-  module _ (k : r.kind ≡ group_kind → ⊥) {x : Leaf} (l : LeafPost s A at.pool (leaf_read s A r.kind r.a r.b at.pool) x) where
-    pub leaf_bad : x ≡ leaf.Bad → AtomPost s A at d passed.Bad
+  module _ (k : r.kind ≡ group_kind → ⊥) {x : code.Option Leaf} (l : LeafPost s A at.pool (leaf_read s A r.kind r.a r.b at.pool) x) where
+    pub leaf_bad : x ≡ None → AtomPost s A at d None
     leaf_bad e = record { past = tt; reads = atom_leafless s A at d r h.same h.on h.fits k (sym e ∙ l.reads) }
 
-    module _ {v w : ℕ} (e : x ≡ leaf.Is v w) where
-      pub leaf_moved : WalkMoved s A at (leaf_on at c v w)
-      leaf_moved = let y = subst (Short s A at.pool) e l.short in moved_leaf c v w h.short h.on y.0 y.1
+    module _ {y : Leaf} (e : x ≡ Some y) where
+      pub leaf_moved : WalkMoved s A at (leaf_on at c y.pool y.source)
+      leaf_moved = let short = subst (Short s A at.pool) e l.short in moved_leaf c y.pool y.source h.short h.on short.0 short.1
 
-      pub leaf_passed : AtomPost s A at d (passed.To (leaf_on at c v w))
+      pub leaf_passed : AtomPost s A at d (Some (leaf_on at c y.pool y.source))
       leaf_passed = record {
         past = leaf_moved;
-        reads = atom_leaf s A at d r h.same h.on h.fits c v w h.count k (sym e ∙ l.reads);
+        reads = atom_leaf s A at d r h.same h.on h.fits c y h.count k (sym e ∙ l.reads);
       }
 
   module _ (k : r.kind ≡ group_kind) where
-    pub too_deep : depth_limit ≤ d → AtomPost s A at d passed.Bad
+    pub too_deep : depth_limit ≤ d → AtomPost s A at d None
     too_deep e = record { past = tt; reads = atom_deep s A at d r h.same h.on h.fits k e }
 
     module _ (e : d < depth_limit) where
@@ -62,20 +59,20 @@ module _ {s : Bytes} {A : ℕ} {at : Place} {d : ℕ} {r : Record} {c : ℕ} (h 
       inner_ready = ready_inside h.ready c h.short h.on e
 
       module _ {x : Passed} (g : GroupPost s A (bracket_on at c) (d + 1) r.a x) where
-        pub group_bad : x ≡ passed.Bad → AtomPost s A at d passed.Bad
+        pub group_bad : x ≡ None → AtomPost s A at d None
         group_bad q = record { past = tt; reads = group_none s A at d r h.same h.on h.fits k c h.count e (λ f m. sym q ∙ g.reads f m) }
 
-        module _ {dest : Place} (q : x ≡ passed.To dest) where
-          whole : GroupPost s A (bracket_on at c) (d + 1) r.a (passed.To dest)
+        module _ {dest : Place} (q : x ≡ Some dest) where
+          whole : GroupPost s A (bracket_on at c) (d + 1) r.a (Some dest)
           whole = subst (GroupPost s A (bracket_on at c) (d + 1) r.a) q g
 
           pub dest_ready : WalkPre s A dest (d + 1)
           dest_ready = ready_on inner_ready whole.past
 
-          pub group_elsewhere : (dest.atom ≡ r.b → ⊥) → AtomPost s A at d passed.Bad
+          pub group_elsewhere : (dest.atom ≡ r.b → ⊥) → AtomPost s A at d None
           group_elsewhere n = record { past = tt; reads = group_apart s A at d r h.same h.on h.fits k c h.count e dest whole.reads n }
 
-          pub group_passed : dest.atom ≡ r.b → AtomPost s A at d (passed.To (byte_on dest))
+          pub group_passed : dest.atom ≡ r.b → AtomPost s A at d (Some (byte_on dest))
           group_passed n = record {
             past = moved_group c h.short whole.past;
             reads = group_closed s A at d r h.same h.on h.fits k c h.count e dest whole.reads n;
@@ -85,8 +82,8 @@ module _ {s : Bytes} {A : ℕ} {at : Place} {d : ℕ} {r : Record} {c : ℕ} (h 
 
 -- a pattern's answer, with k atoms before it
 unfoldable pub further : ℕ → Walked → Walked
-further k (walked.To next n) = walked.To next (k + n)
-further k walked.Bad = walked.Bad
+further k (Some (next, n)) = Some (next, k + n)
+further k None = None
 
 -- what is walked from now on is walked from the start, k atoms later
 pub record WalkPatternAt (s : Bytes) (A d : ℕ) (at now : Place) (k : ℕ) : Type 0 where
@@ -99,32 +96,32 @@ unfolding further
 pattern_at_start {s} {A} {d} {at} r = record { ready = r; on = omega arith; rest = same }
   where
     same : (x : Walked) → PatternPost s A at d x → PatternPost s A at d (further 0 x)
-    same (walked.To next n) h = let e : 0 + n ≡ n = omega arith in rw e h
-    same walked.Bad h = h
+    same (Some (next, n)) h = let e : 0 + n ≡ n = omega arith in rw e h
+    same None h = h
 
 module _ {s : Bytes} {A d : ℕ} {at now : Place} {k : ℕ} (g : WalkPatternAt s A d at now k) {x : Passed} (a : AtomPost s A now d x) where
-  pub going_bad : x ≡ passed.Bad → PatternPost s A at d walked.Bad
+  pub going_bad : x ≡ None → PatternPost s A at d None
   unfolding further
-  going_bad e = g.rest walked.Bad (record { past = tt; reads = pattern_none s A now d (λ f m. sym e ∙ a.reads f m) })
+  going_bad e = g.rest None (record { past = tt; reads = pattern_none s A now d (λ f m. sym e ∙ a.reads f m) })
 
-  module _ {next : Place} (e : x ≡ passed.To next) where
-    passed_to : AtomPost s A now d (passed.To next)
+  module _ {next : Place} (e : x ≡ Some next) where
+    passed_to : AtomPost s A now d (Some next)
     passed_to = subst (AtomPost s A now d) e a
 
     pub going_moved : WalkMoved s A now next
     going_moved = passed_to.past
 
     module _ {b : ℕ} (q : b ≡ (payload_record s now.atom).ends) where
-      pub pattern_at_last : b ≡ 1 → PatternPost s A at d (walked.To next (k + 1))
+      pub pattern_at_last : b ≡ 1 → PatternPost s A at d (Some (next, k + 1))
       unfolding further
-      pattern_at_last z = g.rest (walked.To next 1) (record {
+      pattern_at_last z = g.rest (Some (next, 1)) (record {
         past = (going_moved, omega (arith, going_moved.on));
         reads = pattern_last s A now d next passed_to.reads (sym q ∙ z);
       })
 
-      pub going_other : (b ≡ 1 → ⊥) → (b ≡ 0 → ⊥) → PatternPost s A at d walked.Bad
+      pub going_other : (b ≡ 1 → ⊥) → (b ≡ 0 → ⊥) → PatternPost s A at d None
       unfolding further
-      going_other y z = g.rest walked.Bad (record {
+      going_other y z = g.rest None (record {
         past = tt;
         reads = pattern_other s A now d next passed_to.reads (λ u. y (q ∙ u)) (λ u. z (q ∙ u));
       })
@@ -132,13 +129,13 @@ module _ {s : Bytes} {A d : ℕ} {at now : Place} {k : ℕ} (g : WalkPatternAt s
       module _ (z : b ≡ 0) where
         rest_on : (y : Walked) → PatternPost s A next d y → PatternPost s A at d (further (k + 1) y)
         unfolding further
-        rest_on (walked.To dest n) h =
+        rest_on (Some (dest, n)) h =
             let e : k + 1 + n ≡ k + (1 + n) = omega arith in
-            rw e (g.rest (walked.To dest (1 + n)) (record {
+            rw e (g.rest (Some (dest, 1 + n)) (record {
               past = (moved_then going_moved h.past.0, omega (arith, going_moved.on, h.past.1));
               reads = then_more s A now d next passed_to.reads going_moved.on going_moved.atom (sym q ∙ z) dest h.reads;
             }))
-        rest_on walked.Bad h = g.rest walked.Bad (record {
+        rest_on None h = g.rest None (record {
           past = tt;
           reads = then_none s A now d next passed_to.reads going_moved.on going_moved.atom (sym q ∙ z) h.reads;
         })
@@ -158,22 +155,22 @@ pub group_at_start : {s : Bytes} {A d k : ℕ} {at : Place} → WalkPre s A at d
 group_at_start r = record { ready = r; on = omega arith; rest = λ x h. h }
 
 module _ {s : Bytes} {A d k : ℕ} {at now : Place} {left : ℕ} (g : WalkGroupAt s A d k at now left) where
-  pub group_at_over : left ≡ 0 → GroupPost s A at d k passed.Bad
-  group_at_over e = g.rest passed.Bad (record { past = tt; reads = branches_none s A now d left e })
+  pub group_at_over : left ≡ 0 → GroupPost s A at d k None
+  group_at_over e = g.rest None (record { past = tt; reads = branches_none s A now d left e })
 
   module _ (n : left ≡ 0 → ⊥) {x : Walked} (p : PatternPost s A now d x) where
-    pub branching_bad : x ≡ walked.Bad → GroupPost s A at d k passed.Bad
-    branching_bad e = g.rest passed.Bad (record { past = tt; reads = branch_none s A now d left n (λ f m. sym e ∙ p.reads f m) })
+    pub branching_bad : x ≡ None → GroupPost s A at d k None
+    branching_bad e = g.rest None (record { past = tt; reads = branch_none s A now d left n (λ f m. sym e ∙ p.reads f m) })
 
-    module _ {next : Place} {j : ℕ} (e : x ≡ walked.To next j) where
-      walked_to : PatternPost s A now d (walked.To next j)
+    module _ {next : Place} {j : ℕ} (e : x ≡ Some (next, j)) where
+      walked_to : PatternPost s A now d (Some (next, j))
       walked_to = subst (PatternPost s A now d) e p
 
       pub branch_ready : WalkPre s A next d
       branch_ready = ready_on g.ready walked_to.past.0
 
-      pub group_at_last : left ≡ 1 → GroupPost s A at d k (passed.To next)
-      group_at_last z = g.rest (passed.To next) (record { past = walked_to.past.0; reads = branch_only s A now d left n next walked_to.reads z })
+      pub group_at_last : left ≡ 1 → GroupPost s A at d k (Some next)
+      group_at_last z = g.rest (Some next) (record { past = walked_to.past.0; reads = branch_only s A now d left n next walked_to.reads z })
 
       pub group_at_more : (left ≡ 1 → ⊥) → WalkGroupAt s A d k at (byte_on next) (left - 1)
       group_at_more z =

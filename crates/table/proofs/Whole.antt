@@ -1,16 +1,16 @@
 -- The checked walk with the test of the source's length reads bytes as `decode` does. Assumes nothing.
 use mathlib.Core.Path.{◌≡◌, refl, sym, ap, ap₂, subst, ◌∙◌}
 use mathlib.Core.Logic.{⊎_elim}
-use mathlib.Core.Bool.{Bool, true, false, ◌&&◌, ◌||◌}
+use mathlib.Core.Bool.{true, ◌&&◌}
 use mathlib.Core.Option.{Option, none, some, none-ne-some}
 use mathlib.Core.List.{[], ◌++◌, append-nil}
 use Prim.Native.Nat.{ℕ, ◌+◌, ◌*◌, ◌<◌, ◌≤◌}
 use native.Mathlib.Omega.{arith}
 use lib.Dec.{leb, eqb}
 use borrow.Author.Tests.{eqb-true, leb-true, le-leb, lt-leb, eq-eqb}
-use lib.ListN.{length, get_or, take, drop, length-drop, take-append-drop, drop_of_length-le}
-use lib.Seq.{get_or-take, length-take-le, drop-drop}
-use Rattle.pattern.specs.Numbers.{version_place, atoms_place, record_size}
+use lib.ListN.{length, take, drop, length-drop, take-append-drop, drop_of_length-le}
+use lib.Seq.{length-take-le, drop-drop}
+use Rattle.pattern.specs.Numbers.{atoms_place, record_size}
 use Rattle.pattern.specs.Versions.{Version, v1, v2, written_version, format, length_place, header_size}
 use Rattle.pattern.specs.Bytes.{Bytes, equal, le16, little, number_in}
 use Rattle.pattern.specs.Syntax.{pattern, Syntax, size}
@@ -30,28 +30,12 @@ use Rattle.table.specs.declared.header.Header.{Header}
 use Rattle.table.proofs.Standing.{Clean, Set}
 use Rattle.table.proofs.Options.{inside, after_some, only_some, kept, dropped, going_on, and_true, true_and}
 use Rattle.table.proofs.Places.{pair}
-use Rattle.table.proofs.Measures.{header_longest}
+use Rattle.table.proofs.Measures.{marked_as, header_longest}
 use Rattle.table.proofs.Clean.{clean_derives, derives_clean}
 use Rattle.table.proofs.Sound.{Laid, sound}
 use Rattle.table.proofs.Complete.{found}
 
 -- ---- what a header that passes says
-
--- the first bytes of a version name it
-first_version : (v : Version) (s : Bytes) → take atoms_place s ≡ first_bytes v → version_of s ≡ v
-unfolding version_of
-first_version v s e = ap by_number (named v s e) ∙ again v
-  where
-    by_number : ℕ → Version
-    by_number n = elim (eqb n 1) [ true ↦ v1 | false ↦ v2 ]
-
-    again : (v : Version) → by_number (format v).version ≡ v
-    again v1 = refl
-    again v2 = refl
-
-    named : (v : Version) (s : Bytes) → take atoms_place s ≡ first_bytes v → field s version_place ≡ (format v).version
-    named v1 s e = omega (arith, get_or-take 5 s 3 0 (omega arith), get_or-take 5 s 4 0 (omega arith), ap (λ (x : Bytes). get_or x 3 0) e, ap (λ (x : Bytes). get_or x 4 0) e)
-    named v2 s e = omega (arith, get_or-take 5 s 3 0 (omega arith), get_or-take 5 s 4 0 (omega arith), ap (λ (x : Bytes). get_or x 3 0) e, ap (λ (x : Bytes). get_or x 4 0) e)
 
 pub record Opens (s : Bytes) : Type 0 where
   pub long : header_size (version_of s) ≤ length s
@@ -59,20 +43,11 @@ pub record Opens (s : Bytes) : Type 0 where
   pub whole : length s ≡ (header_of s).pool + (header_of s).length
 
 pub opens : (s : Bytes) → headed s ≡ true → Opens s
-unfolding headed marked
+unfolding headed
 opens s e =
     let (x, c) = and_true (leb (header_size written_version) (length s) && marked s) (eqb (length s) ((header_of s).pool + (header_of s).length)) e in
     let (a, b) = and_true (leb (header_size written_version) (length s)) (marked s) x in
-    record { long = omega (arith, leb-true (header_size written_version) (length s) a, header_longest (version_of s)); named = go (equal (take atoms_place s) (first_bytes v2)) refl b; whole = eqb-true _ _ c }
-  where
-    by : (v : Version) → equal (take atoms_place s) (first_bytes v) ≡ true → take atoms_place s ≡ first_bytes (version_of s)
-    by v f =
-        let g : take atoms_place s ≡ first_bytes v = (equal_decides (take atoms_place s) (first_bytes v)).sound (true-T _ f) in
-        g ∙ ap first_bytes (sym (first_version v s g))
-
-    go : (b : Bool) → equal (take atoms_place s) (first_bytes v2) ≡ b → b || equal (take atoms_place s) (first_bytes v1) ≡ true → take atoms_place s ≡ first_bytes (version_of s)
-    go true f g = by v2 f
-    go false f g = by v1 g
+    record { long = omega (arith, leb-true (header_size written_version) (length s) a, header_longest (version_of s)); named = (equal_decides _ _).sound (true-T _ (sym (marked_as s) ∙ b)); whole = eqb-true _ _ c }
 
 -- ---- a tree that is read has these bytes as its table, and is good
 

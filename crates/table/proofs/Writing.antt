@@ -5,6 +5,7 @@ use Prim.Native.Nat.{ℕ, ◌+◌, ◌*◌, ◌/◌, ◌%◌, ◌<◌, ◌≤◌
 use native.Mathlib.Omega.{arith}
 use lib.ListN.{length, take, length-append}
 use lib.Seq.{length-take-le}
+use Rattle.std.specs.Prelude.{Some, None}
 use Rattle.pattern.specs.Numbers.{atoms_place, record_size}
 use Rattle.pattern.specs.Versions.{written_version, length_place, header_size}
 use Rattle.pattern.specs.Bytes.{Bytes, le16, little}
@@ -17,7 +18,6 @@ use Rattle.pattern.proofs.Calls.{put_fits, put_short}
 use Rattle.pattern.proofs.Stores.{store_at_then, store_at_before, store_at_overwrite, take_overwrite, puts_then}
 use Rattle.table.specs.Headers.{first_bytes}
 use Rattle.table.specs.Write.{put_records, WriteTablePre, table_of, table_output}
-use Rattle.table.specs.declared.write.TableWritten.TheVariants.{Length, Room}
 
 -- records before other bytes
 record_bytes_over : (xs : List Rec) (s : Bytes) → record_bytes xs s ≡ record_bytes xs [] ++ s
@@ -57,14 +57,14 @@ module _ (position n m : ℕ) (recs text table : Bytes) (pre : WriteTablePre n m
   table_size =
       omega (arith, length-append (take (record_size * n) recs) (take m text), length-take-le (record_size * n) recs pre.recs_there, length-take-le m text pre.text_there)
 
-  pub no_room : length table < header_size written_version + record_size * n + m → table_output position Room table ≡ put position (table_of n m recs text) table
+  pub no_room : length table < header_size written_version + record_size * n + m → table_output position None table ≡ put position (table_of n m recs text) table
   no_room h = sym (put_short position (table_of n m recs text) table (omega (arith, table_size)))
 
   -- the stores one after the other
-  pub writes_table : (mark t₁ t₂ t₃ t₄ t₅ : Bytes) → header_size written_version + record_size * n + m ≤ length table → mark ≡ first_bytes written_version → t₁ ≡ store_at table 0 (take atoms_place mark)
+  pub writes_table : (mark t₁ t₂ t₃ t₄ t₅ : Bytes) → header_size written_version + record_size * n + m ≤ length table → mark ≡ first_bytes written_version → t₁ ≡ store_at table 0 mark
       → t₂ ≡ store_at t₁ atoms_place (le16 n []) → t₃ ≡ store_at t₂ (length_place written_version) (le16 m []) → t₄ ≡ store_at t₃ (header_size written_version) (take (record_size * n) recs)
       → t₅ ≡ store_at t₄ (header_size written_version + record_size * n) (take m text)
-      → table_output position (Length (header_size written_version + record_size * n + m)) t₅ ≡ put position (table_of n m recs text) table
+      → table_output position (Some (header_size written_version + record_size * n + m)) t₅ ≡ put position (table_of n m recs text) table
   writes_table mark t₁ t₂ t₃ t₄ t₅ h e e₁ e₂ e₃ e₄ e₅ =
       let size : ℕ = header_size written_version in
       let r : Bytes = take (record_size * n) recs in
@@ -75,7 +75,7 @@ module _ (position n m : ℕ) (recs text table : Bytes) (pre : WriteTablePre n m
       let d : Puts table 0 (nine ++ r) t₄ (size + record_size * n) = puts_then c (record { bytes = e₄; next = ap (λ k. size + k) (sym (length-take-le (record_size * n) recs pre.recs_there)) }) in
       let f : Puts table 0 ((nine ++ r) ++ v) t₅ (size + record_size * n + m) = puts_then d (record { bytes = e₅; next = ap (λ k. size + record_size * n + k) (sym (length-take-le m text pre.text_there)) }) in
       let z = table_size in
-      ap₂ (λ k l. table_output position (Length k) l) (sym z) (f.bytes ∙ ap (store_at table 0) (append_assoc nine r v ∙ whole) ∙ store_at_overwrite table (table_of n m recs text) (omega arith))
+      ap₂ (λ k l. table_output position (Some k) l) (sym z) (f.bytes ∙ ap (store_at table 0) (append_assoc nine r v ∙ whole) ∙ store_at_overwrite table (table_of n m recs text) (omega arith))
       ∙ sym (put_fits position (table_of n m recs text) table (omega arith))
     where
       nine : Bytes

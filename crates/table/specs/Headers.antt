@@ -1,17 +1,18 @@
 -- The header of a table, as the code has it. Private: a model for contracts inside the library.
-use Rattle.std.specs.Prelude.{Bool, true, false, ◌&&◌, ◌||◌, [], ◌++◌, ℕ, ◌+◌, ◌*◌, leb, eqb, length, take}
+use Rattle.std.specs.Prelude.{Option, Some, None, Bool, cond, ◌&&◌, ◌||◌, [], ◌++◌, ℕ, ◌+◌, ◌*◌, leb, eqb, length, take}
 use Rattle.pattern.specs.Numbers.{mark, atom_limit, atoms_place, record_size}
 use Rattle.pattern.specs.Versions.{Version, v1, v2, written_version, format, header_size}
 use Rattle.pattern.specs.Bytes.{Bytes, le16, equal}
 use Rattle.pattern.specs.Decode.{field, version_of, count_in}
+use Rattle.table.specs.declared.layout.Version as coded
+use Rattle.table.specs.declared.layout.Version.TheVariants.{One, Two}
 use Rattle.table.specs.declared.layout.Format.{Format}
 use Rattle.table.specs.declared.header.Header.{Header}
-use Rattle.table.specs.declared.header.HeaderRead.{HeaderRead}
-use Rattle.table.specs.declared.header.HeaderRead.TheVariants as head
 
-unfoldable pub pick : {A : Type 0} → Bool → A → A → A
-pick true a b = a
-pick false a b = b
+-- a version, as the code has it
+abbrev pub version_as : coded.Version → Version
+version_as One = v1
+version_as Two = v2
 
 -- the mark and the version, as every table of a version begins
 abbrev pub first_bytes : Version → Bytes
@@ -44,5 +45,5 @@ headed_by s h = leb (header_size written_version) (length s) && marked s && eqb 
 unfoldable pub headed : Bytes → Bool
 headed s = headed_by s (header_of s)
 
-unfoldable pub read_header : Bytes → HeaderRead
-read_header s = pick (headed s) (head.Is (header_of s)) head.Bad
+unfoldable pub read_header : Bytes → Option Header
+read_header s = cond (headed s) (Some (header_of s)) None

@@ -1,5 +1,6 @@
 -- What the walk over a table's records promises. Private: a model for contracts inside the library.
-use Rattle.std.specs.Prelude.{◌≡◌, ℕ, ◌+◌, ◌*◌, ◌-◌, ◌≤◌, ◌<◌, length}
+use Rattle.std.specs.Prelude.{Some, None, ◌≡◌, ℕ, ◌+◌, ◌*◌, ◌-◌, ◌≤◌, ◌<◌, length}
+use Rattle.std.specs.declared.option.Option as code
 use Rattle.std.proofs.Math.Option.{Option, none, some}
 use Rattle.pattern.specs.Numbers.{atom_limit, depth_limit, record_size}
 use Rattle.pattern.specs.Bytes.{Bytes}
@@ -9,10 +10,13 @@ use Rattle.pattern.specs.Print.{print}
 use Rattle.table.specs.Headers.{length_bound}
 use Rattle.table.specs.Checked.{read_pattern, read_atom, read_branches}
 use Rattle.table.specs.declared.walk.Place.{Place}
-use Rattle.table.specs.declared.walk.Passed.{Passed}
-use Rattle.table.specs.declared.walk.Passed.TheVariants as passed
-use Rattle.table.specs.declared.walk.Walked.{Walked}
-use Rattle.table.specs.declared.walk.Walked.TheVariants as walked
+
+-- the place after an atom or a group, and after a pattern with how many atoms it has of its own, if they are good
+abbrev pub Passed : Type 0
+Passed = code.Option Place
+
+abbrev pub Walked : Type 0
+Walked = code.Option (Place × ℕ)
 
 abbrev pub place : (i p n : ℕ) → Place
 place i p n = record { atom = i; pool = p; source = n }
@@ -22,12 +26,12 @@ abbrev pub beyond : {o : Sort} → Place → Syntax o → Place
 beyond at t = place (at.atom + size t) (at.pool + length (pool t)) (at.source + length (print t))
 
 unfoldable pub passed_by : {o : Sort} → Place → Option (Syntax o) → Passed
-passed_by at (some t) = passed.To (beyond at t)
-passed_by at none = passed.Bad
+passed_by at (some t) = Some (beyond at t)
+passed_by at none = None
 
 unfoldable pub walked_by : Place → Option (Syntax pattern) → Walked
-walked_by at (some t) = walked.To (beyond at t) (top_size t)
-walked_by at none = walked.Bad
+walked_by at (some t) = Some (beyond at t, top_size t)
+walked_by at none = None
 
 -- where a walk may begin
 pub record WalkPre (s : Bytes) (A : ℕ) (at : Place) (depth : ℕ) : Type 0 where
@@ -46,12 +50,12 @@ pub record WalkMoved (s : Bytes) (A : ℕ) (at to : Place) : Type 0 where
   pub source : to.source + 1 + 20 * at.atom + 2 * at.pool ≤ at.source + 20 * to.atom + 2 * to.pool
 
 abbrev pub Past : Bytes → ℕ → Place → Passed → Type 0
-Past s A at (passed.To next) = WalkMoved s A at next
-Past s A at passed.Bad = Unit {0}
+Past s A at (Some next) = WalkMoved s A at next
+Past s A at None = Unit {0}
 
 abbrev pub PastW : Bytes → ℕ → Place → Walked → Type 0
-PastW s A at (walked.To next k) = WalkMoved s A at next × (at.atom + k ≤ next.atom)
-PastW s A at walked.Bad = Unit {0}
+PastW s A at (Some (next, k)) = WalkMoved s A at next × (at.atom + k ≤ next.atom)
+PastW s A at None = Unit {0}
 
 -- how deep the calls go at most
 abbrev pub reach : ℕ → Place → ℕ

@@ -1,5 +1,5 @@
 -- What writing a table asks and promises. Private: a model for contracts inside the library.
-use Rattle.std.specs.Prelude.{◌≡◌, List, [], ◌++◌, ℕ, ◌*◌, ◌≤◌, length, take}
+use Rattle.std.specs.Prelude.{◌≡◌, List, [], ◌++◌, ℕ, ◌*◌, ◌≤◌, length, take, Option, Some, None}
 use Rattle.pattern.specs.Numbers.{source_limit, atom_limit, record_size, ROOM}
 use Rattle.pattern.specs.Versions.{written_version}
 use Rattle.pattern.specs.Bytes.{Bytes}
@@ -7,8 +7,6 @@ use Rattle.pattern.specs.Table.{Rec, record_bytes, header}
 use Rattle.pattern.specs.Stores.{store_at}
 use Rattle.pattern.specs.Answers.{refusal, result, Output, put}
 use Rattle.pattern.specs.declared.repeat.Repeat.{Repeat}
-use Rattle.table.specs.declared.write.TableWritten.{TableWritten}
-use Rattle.table.specs.declared.write.TableWritten.TheVariants.{Length, Room}
 
 -- a record as the code has it
 abbrev pub rec_of : (kind last : ℕ) → Repeat → (a b : ℕ) → Rec
@@ -30,10 +28,10 @@ unfoldable pub table_of : (n m : ℕ) → (recs text : Bytes) → Bytes
 table_of n m recs text = header written_version n m (take (record_size * n) recs ++ take m text)
 
 -- what was answered and written; too little room is ROOM at this position
-abbrev pub table_output : (position : ℕ) → TableWritten → Bytes → Output
-table_output position (Length n) bytes = record { answer = result n 0; bytes = bytes }
-table_output position Room bytes = record { answer = refusal ROOM position; bytes = bytes }
+abbrev pub table_output : (position : ℕ) → Option ℕ → Bytes → Output
+table_output position (Some n) bytes = record { answer = result n 0; bytes = bytes }
+table_output position None bytes = record { answer = refusal ROOM position; bytes = bytes }
 
 -- the table in lent bytes, or ROOM at whatever position the caller answers
-pub record WriteTablePost (n m : ℕ) (recs text table : Bytes) (r : TableWritten) (table' : Bytes) : Type 0 where
+pub record WriteTablePost (n m : ℕ) (recs text table : Bytes) (r : Option ℕ) (table' : Bytes) : Type 0 where
   pub puts : (position : ℕ) → table_output position r table' ≡ put position (table_of n m recs text) table

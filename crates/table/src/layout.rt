@@ -1,13 +1,16 @@
 // Where a table has what, and what depends on its version.
 // That these are the numbers of the paper is part of the proofs of those who read and write it.
-ghost use Rattle.std.specs.Prelude.{◌≡◌};
-ghost use Rattle.pattern.specs.Versions.{v1, v2};
-ghost use Rattle.table.specs.Headers.{first_bytes, format_of};
+ghost use Rattle.std.specs.Prelude.{◌≡◌, ◌≤◌, length};
+ghost use Rattle.pattern.specs.Numbers.{atoms_place};
+ghost use Rattle.pattern.specs.Versions.{header_size};
+ghost use Rattle.pattern.specs.Decode.{version_of, count_in};
+ghost use Rattle.table.specs.Headers.{version_as, first_bytes, format_of};
 
 use pattern::limits;
+use stores::read16;
 
 // The places of the version and of the atom count in the header.
-pub const VERSION_PLACE: usize = 3;
+const VERSION_PLACE: usize = 3;
 
 pub const ATOMS_PLACE: usize = 5;
 
@@ -20,13 +23,6 @@ pub const HEADER_SIZE: usize = LENGTH_PLACE + 2;
 
 pub const RECORD_SIZE: usize = 10;
 
-pub const VERSION_1: u16 = 1;
-
-// The mark and the 16-bit version.
-const FIRST_BYTES_1: [u8; ATOMS_PLACE] = *b"MPT\x01\x00";
-
-const FIRST_BYTES_2: [u8; ATOMS_PLACE] = *b"MPT\x02\x00";
-
 // The bytes of the header that hold the atom count, and the limits: the most atoms, and the longest source.
 #[derive(Clone, Copy)]
 pub struct Format {
@@ -35,38 +31,61 @@ pub struct Format {
     pub source: usize,
 }
 
-// The first bytes of every table of version 1.
-pub fn first_bytes_1() -> [u8; ATOMS_PLACE]
-    ensures { result ≡ first_bytes v1 }
-{
-    FIRST_BYTES_1
+#[derive(Clone, Copy, PartialEq, Eq)]
+pub enum Version {
+    One,
+    Two,
 }
 
-// The first bytes of every table of version 2.
-pub fn first_bytes_2() -> [u8; ATOMS_PLACE]
-    ensures { result ≡ first_bytes v2 }
-{
-    FIRST_BYTES_2
-}
-
-// What version 1 has of its own.
-pub fn format_1() -> Format
-    ensures { result ≡ format_of v1 }
-{
-    Format {
-        width: 1,
-        atoms: 64,
-        source: 512,
+impl Version {
+    // That of a table: one that is not 1 is 2, if the table is good.
+    pub fn of(table: &[u8]) -> Version
+        requires { atoms_place ≤ length table.now }
+        ensures { version_as result ≡ version_of table.now }
+    {
+        if read16(table, VERSION_PLACE) == 1 {
+            Version::One
+        } else {
+            Version::Two
+        }
     }
-}
 
-// What version 2 has of its own.
-pub fn format_2() -> Format
-    ensures { result ≡ format_of v2 }
-{
-    Format {
-        width: COUNT_WIDTH,
-        atoms: limits::ATOM_LIMIT,
-        source: limits::SOURCE_LIMIT,
+    // The mark and the 16-bit version.
+    pub fn first_bytes(self) -> [u8; ATOMS_PLACE]
+        ensures { result ≡ first_bytes (version_as self) }
+    {
+        match self {
+            Version::One => *b"MPT\x01\x00",
+            Version::Two => *b"MPT\x02\x00",
+        }
+    }
+
+    // What the version has of its own.
+    pub fn format(self) -> Format
+        ensures { result ≡ format_of (version_as self) }
+    {
+        match self {
+            Version::One => Format {
+                width: 1,
+                atoms: 64,
+                source: 512,
+            },
+            Version::Two => Format {
+                width: COUNT_WIDTH,
+                atoms: limits::ATOM_LIMIT,
+                source: limits::SOURCE_LIMIT,
+            },
+        }
+    }
+
+    // The atom count in the header.
+    pub fn count_in(self, table: &[u8]) -> u16
+        requires { header_size (version_as self) ≤ length table.now }
+        ensures { result ≡ count_in (version_as self) table.now }
+    {
+        match self {
+            Version::One => u16::from(table[ATOMS_PLACE]),
+            Version::Two => read16(table, ATOMS_PLACE),
+        }
     }
 }

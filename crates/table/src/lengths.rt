@@ -13,13 +13,6 @@ use stores::decimal::decimal_length;
 // How many codes four bits of a set stand for.
 const LETTERS: [u8; 16] = *b"\x00\x01\x01\x02\x01\x02\x02\x03\x01\x02\x02\x03\x02\x03\x03\x04";
 
-// The bytes of a literal's value with its quotes doubled.
-#[derive(Clone, Copy)]
-pub enum TextLength {
-    Length(usize),
-    Bad,
-}
-
 // How many digits a repeat number has.
 fn number_length(n: u16) -> usize
     ensures { (result ≡ length (decimal n)) × (result ≤ 5) }
@@ -56,26 +49,18 @@ pub fn letters_length(set: u16) -> usize
     (LETTERS[few] + LETTERS[more]) as usize
 }
 
-// A value's bytes, if they are from 32 to 126.
-pub fn text_length(v: &[u8]) -> TextLength
+// The bytes of a literal's value with its quotes doubled, if they are from 32 to 126.
+pub fn text_length(v: &[u8]) -> Option<usize>
     requires { length v.now < length_bound }
     ensures { result ≡ text_of v.now }
 {
-    let mut n: usize = 0;
-    let mut i: usize = 0;
-    while i < v.len() {
-        let b = v[i];
-        if b < 32 {
-            return TextLength::Bad;
-        }
-        if 126 < b {
-            return TextLength::Bad;
-        }
-        if b == b'"' {
-            n += 1;
-        }
-        n += 1;
-        i += 1;
+    let mut n = 0;
+    for b in v {
+        n += match *b {
+            b'"' => 2,
+            32..=126 => 1,
+            _ => return None,
+        };
     }
-    TextLength::Length(n)
+    Some(n)
 }

@@ -6,9 +6,9 @@ ghost use Rattle.table.specs.Write.{rec_of, put_records, WriteTablePre, WriteTab
 use crate::layout;
 use pattern::limits;
 use pattern::repeat::Repeat;
-use stores::{copy, put_byte, put16};
+use stores::put;
 
-// The records of every pattern fit.
+// No heap: the records of every pattern fit.
 pub const RECORDS_ROOM: usize = layout::RECORD_SIZE * limits::ATOM_LIMIT;
 
 // Every table fits.
@@ -21,52 +21,44 @@ pub const SHORT_RECORDS: usize = layout::RECORD_SIZE * SHORT_SOURCE;
 
 pub const SHORT_TABLE: usize = layout::HEADER_SIZE + SHORT_RECORDS;
 
-// The length of the table, or that the lent bytes are too short.
-#[derive(Clone, Copy)]
-pub enum TableWritten {
-    Length(usize),
-    Room,
-}
-
-// The record of atom i, in a buffer of records.
+// The record of atom i, in a buffer of records. Kind and last are bytes, since it promises the record of any two.
 pub fn put_record(recs: &mut [u8], i: usize, kind: u8, last: u8, rep: Repeat, a: u16, b: u16)
     requires { record_size * i + record_size ≤ length recs.old }
     ensures { recs.new ≡ put_records recs.old i (rec_of kind last rep a b ∷ []) }
 {
-    let ends = put_byte(recs, layout::RECORD_SIZE * i, kind);
-    let low = put_byte(recs, ends, last);
-    let high = put16(recs, low, rep.low);
-    let first = put16(recs, high, rep.high);
-    let second = put16(recs, first, a);
-    put16(recs, second, b);
+    let low = put(recs, layout::RECORD_SIZE * i, &[kind, last]);
+    let high = put(recs, low, &rep.low.to_le_bytes());
+    let first = put(recs, high, &rep.high.to_le_bytes());
+    let second = put(recs, first, &a.to_le_bytes());
+    put(recs, second, &b.to_le_bytes());
 }
 
-// The table of the first atoms of these records and the first text bytes of this pool; too little room writes nothing.
+// The table of the first atoms of these records and the first text bytes of this pool, which may be longer: its length, or none where the
+// room is too little, and then nothing is written.
 pub fn write_table(
     atoms: usize,
     text: usize,
     recs: &[u8],
     pool: &[u8],
     table: &mut [u8],
-) -> TableWritten
+) -> Option<usize>
     requires { WriteTablePre atoms text recs.now pool.now }
     ensures { WriteTablePost atoms text recs.now pool.now table.old result table.new }
 {
     let from = layout::HEADER_SIZE + layout::RECORD_SIZE * atoms;
     let total = from + text;
     if table.len() < total {
-        return TableWritten::Room;
+        return None;
     }
-    let mark = layout::first_bytes_2();
-    copy(&mark, layout::ATOMS_PLACE, table, 0);
-    put16(table, layout::ATOMS_PLACE, atoms as u16);
-    put16(table, layout::LENGTH_PLACE, text as u16);
-    copy(
-        recs,
-        layout::RECORD_SIZE * atoms,
+    let mark = layout::Version::Two.first_bytes();
+    put(table, 0, &mark);
+    put(table, layout::ATOMS_PLACE, &(atoms as u16).to_le_bytes());
+    put(table, layout::LENGTH_PLACE, &(text as u16).to_le_bytes());
+    put(
         table,
         layout::HEADER_SIZE,
+        &recs[..layout::RECORD_SIZE * atoms],
     );
-    copy(pool, text, table, from);
-    TableWritten::Length(total)
+    put(table, from, &pool[..text]);
+    Some(total)
 }

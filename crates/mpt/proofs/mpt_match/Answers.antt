@@ -1,18 +1,12 @@
 -- `mpt_match` meets its contract. Assumes nothing.
-use mathlib.Core.Path.{sym}
-use Rattle.pattern.specs.Answers.{MatchOutput}
-use Rattle.mpt.specs.Area.{area}
 use Rattle.mpt.specs.Calls.{match_call}
-use Rattle.mpt.proofs.Returns.{short_area, long_area}
+use Rattle.mpt.proofs.Returns.{short_area, long_match}
 use Rattle.mpt.proofs.mpt_match.Goals as goal
 
 pub returns-then-answer-lt-AREA_SIZE : goal.returns-then-answer-lt-AREA_SIZE
 unfolding match_call
-returns-then-answer-lt-AREA_SIZE c = short_area _ _ _ _ c.if-answer-lt-AREA_SIZE.true
+returns-then-answer-lt-AREA_SIZE c = rw c.from.ensures (short_area _ _ _ _ c.if-answer-lt-AREA_SIZE.true)
 
 pub returns : goal.returns
-unfolding match_call area
-returns c =
-    let a = c.numbers-a in
-    let m = c.match_label in
-    long_area (λ (o : MatchOutput). o.answer) (λ (o : MatchOutput). record { scratch = o.scratch; parts = o.parts }) _ _ (record { number = a.result.number; position = 0; value = a.result.value; trials = a.result.trials }) c.if-answer-lt-AREA_SIZE.false m.ensures (sym a.ensures) c.put_answer.ensures
+unfolding match_call
+returns c = long_match _ _ _ _ _ c.match_label-matched.result _ _ _ c.if-answer-lt-AREA_SIZE.false c.match_label-matched.ensures c.put_verdict.ensures.number c.put_verdict.ensures.written

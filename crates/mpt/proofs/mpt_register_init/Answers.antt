@@ -6,9 +6,9 @@ use Rattle.mpt.proofs.mpt_register_init.Goals as goal
 
 pub returns-then-answer-lt-AREA_SIZE : goal.returns-then-answer-lt-AREA_SIZE
 unfolding init_call
-returns-then-answer-lt-AREA_SIZE c = short_change _ _ _ c.if-answer-lt-AREA_SIZE.true
+returns-then-answer-lt-AREA_SIZE c = rw c.from.ensures (short_change _ _ _ c.if-answer-lt-AREA_SIZE.true)
 
 pub returns : goal.returns
 unfolding init_call area
 returns c =
-    long_change _ _ _ _ _ c.if-answer-lt-AREA_SIZE.false c.init-refused.ensures c.put_answer.ensures
+    rw c.number.ensures (long_change _ _ _ _ _ c.if-answer-lt-AREA_SIZE.false c.init-called.ensures c.put_answer.ensures)

@@ -1,7 +1,7 @@
 -- `mpt_write_back` meets its contract. Assumes nothing.
 use mathlib.Core.Path.{ap}
-use Rattle.pattern.specs.Numbers.{ROOM, TABLE}
 use Rattle.pattern.specs.Answers.{refusal, result, Output}
+use Rattle.pattern.specs.Refusals.{number_of}
 use Rattle.printer.specs.Outputs.{answer_of}
 use Rattle.mpt.specs.Area.{area}
 use Rattle.mpt.specs.Calls.{write_call}
@@ -10,19 +10,15 @@ use Rattle.mpt.proofs.mpt_write_back.Goals as goal
 
 pub returns-then-answer-lt-AREA_SIZE : goal.returns-then-answer-lt-AREA_SIZE
 unfolding write_call
-returns-then-answer-lt-AREA_SIZE c = short_area _ _ _ _ c.if-answer-lt-AREA_SIZE.true
+returns-then-answer-lt-AREA_SIZE c = rw c.from.ensures (short_area _ _ _ _ c.if-answer-lt-AREA_SIZE.true)
 
-pub returns-in-Length : goal.returns-in-Length
+pub returns-in-Ok : goal.returns-in-Ok
 unfolding write_call answer_of
-returns-in-Length c =
-    long_area (λ (o : Output). o.answer) (λ (o : Output). o.bytes) _ _ (result c.in-Length.length 0) c.if-answer-lt-AREA_SIZE.false c.write_back.ensures (ap answer_of c.in-Length.is) c.put_answer.ensures
+returns-in-Ok c =
+    long_area (λ (o : Output). o.answer) (λ (o : Output). o.bytes) _ _ (result c.in-Ok.length 0) c.if-answer-lt-AREA_SIZE.false c.write_back.ensures (ap answer_of c.in-Ok.is) c.put_answer.ensures
 
-pub returns-in-Room : goal.returns-in-Room
+pub returns-in-Err : goal.returns-in-Err
 unfolding write_call answer_of area
-returns-in-Room c =
-    long_area (λ (o : Output). o.answer) (λ (o : Output). o.bytes) _ _ (refusal ROOM 0) c.if-answer-lt-AREA_SIZE.false c.write_back.ensures (ap answer_of c.in-Room.is) c.put_answer-in-Room.ensures
-
-pub returns-in-Table : goal.returns-in-Table
-unfolding write_call answer_of area
-returns-in-Table c =
-    long_area (λ (o : Output). o.answer) (λ (o : Output). o.bytes) _ _ (refusal TABLE 0) c.if-answer-lt-AREA_SIZE.false c.write_back.ensures (ap answer_of c.in-Table.is) c.put_answer-in-Table.ensures
+returns-in-Err c =
+    rw c.from-in-Err.ensures
+    (long_area (λ (o : Output). o.answer) (λ (o : Output). o.bytes) _ _ (refusal (number_of c.in-Err.refused) 0) c.if-answer-lt-AREA_SIZE.false c.write_back.ensures (ap answer_of c.in-Err.is) c.put_answer-in-Err.ensures)

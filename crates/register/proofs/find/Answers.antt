@@ -1,14 +1,18 @@
 -- `find` meets its contract. Assumes nothing.
 use mathlib.Core.Path.{sym, ◌∙◌}
-use Rattle.register.proofs.Calls.{find_short, find_on, find_off}
+use native.Mathlib.Omega.{arith}
+use Rattle.register.proofs.Calls.{find_short, find_on, find_off, found_within}
+use Rattle.register.proofs.find.Goals.{then-lent-lt-OVERHEAD-via-then-lent-lt-OVERHEAD, then-lent-lt-OVERHEAD-via-else-lent-lt-OVERHEAD+then-not-has_preamble}
 use Rattle.register.proofs.find.Goals as goal
 
-pub returns-then-has_preamble : goal.returns-then-has_preamble
-returns-then-has_preamble c =
-    find_on _ _ _ (sym c.if-has_preamble.true ∙ c.has_preamble.ensures) c.locate.ensures
-
 pub returns : goal.returns
-returns c = find_off _ _ (sym c.if-has_preamble.false ∙ c.has_preamble.ensures)
+returns c =
+    let e = find_on _ _ _ (sym c.if-not-has_preamble.false ∙ c.has_preamble.ensures) (rw c.from.ensures at c.locate.ensures) in
+    record { place = e; within = found_within _ _ _ (omega (arith, c.ranges)) e }
 
-pub returns-then-lent-lt-OVERHEAD : goal.returns-then-lent-lt-OVERHEAD
-returns-then-lent-lt-OVERHEAD c = find_short _ _ c.if-lent-lt-OVERHEAD.true
+pub returns-then-lent-lt-OVERHEAD-clause-place : goal.returns-then-lent-lt-OVERHEAD-clause-place
+returns-then-lent-lt-OVERHEAD-clause-place c =
+    elim c.then-lent-lt-OVERHEAD.branch [
+      | then-lent-lt-OVERHEAD-via-then-lent-lt-OVERHEAD w ↦ find_short _ _ w.if-lent-lt-OVERHEAD.true
+      | then-lent-lt-OVERHEAD-via-else-lent-lt-OVERHEAD+then-not-has_preamble w ↦ find_off _ _ (sym w.if-not-has_preamble.true ∙ w.has_preamble.ensures)
+    ]

@@ -1,9 +1,7 @@
 -- `has_preamble` meets its contract: the first bytes are compared. Assumes nothing.
-use mathlib.Core.Path.{ap, ◌∙◌}
-use lib.ListN.{take}
-use Rattle.pattern.specs.Bytes.{equal}
-use Rattle.register.specs.Layout.{preamble_size}
+use mathlib.Core.Path.{◌∙◌}
+use Rattle.register.proofs.Slots.{equal_turned}
 use Rattle.register.proofs.has_preamble.Goals as goal
 
 pub returns : goal.returns
-returns c = c.equal.ensures ∙ ap (λ m. equal (take preamble_size c.args.lent.now) (take preamble_size m)) c.preamble-first.ensures
+returns c = c.starts_with.ensures.value ∙ equal_turned _ _

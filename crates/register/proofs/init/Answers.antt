@@ -5,8 +5,7 @@ use Rattle.register.proofs.Registers.{init_refused}
 use Rattle.register.proofs.init.Goals as goal
 
 pub returns : goal.returns
-returns c =
-    init_done _ _ _ _ c.if-lent-lt-OVERHEAD.false c.preamble-first.ensures c.clear.ensures c.copy.ensures.bytes
+returns c = init_done _ _ _ c.if-lent-lt-OVERHEAD.false c.copy_from_slice.ensures.after c.clear.ensures
 
 pub returns-then-lent-lt-OVERHEAD : goal.returns-then-lent-lt-OVERHEAD
 returns-then-lent-lt-OVERHEAD c = sym (init_refused _ c.if-lent-lt-OVERHEAD.true)

@@ -1,34 +1,27 @@
 -- `search_numbers` meets its contract: what is left of the search is the whole of it. Assumes nothing.
-use mathlib.Core.Path.{◌∙◌}
+use mathlib.Core.Path.{ap, ◌∙◌}
 use native.Mathlib.Omega.{arith}
-use Rattle.search.specs.Search.{search_refused}
-use Rattle.search.proofs.Underway.{same_answer, search_start, search_end, slot_within, end_within, search_missing, look_pre, search_stopped, search_found, skipped_few, search_passed}
+use borrow.Author.Rules.{rules}
+use Rattle.pattern.specs.declared.refusal.Fault.{Fault}
+use mathlib.Core.Path.{◌≡◌}
+use Rattle.std.specs.Prelude.{Ok}
+use Rattle.search.proofs.Steps.{ok_before, err_before}
+use Rattle.std.proofs.lemmas.Result.{err_from_is_err_and}
+use Rattle.search.proofs.Underway.{search_start, search_end, slot_within, end_within, search_missing, look_pre, search_stopped, search_found, search_passed, search_skipped}
+use Rattle.search.proofs.search_numbers.Goals.{in-NoMatch, in-RuledOut}
 use Rattle.search.proofs.search_numbers.Goals as goal
 
 pub overflow_add-end : goal.overflow_add-end
 overflow_add-end c = omega (arith, end_within c.loop-k.invariant c.loop-k-test.true _ c.kept_at-kept.ensures, c.well_formed)
 
-pub slice_bounds-summary-end : goal.slice_bounds-summary-end
-slice_bounds-summary-end c = omega (arith, slot_within c.loop-k.invariant c.loop-k-test.true)
+pub summary_at-summary-requires : goal.summary_at-summary-requires
+summary_at-summary-requires c = omega (arith, slot_within c.loop-k.invariant c.loop-k-test.true)
 
 pub slice_bounds-table-end : goal.slice_bounds-table-end
 slice_bounds-table-end c = omega (arith, end_within c.loop-k.invariant c.loop-k-test.true _ c.kept_at-kept.ensures)
 
-pub returns-in-Refused : goal.returns-in-Refused
-unfolding search_refused
-returns-in-Refused c = same_answer _ _ _ _ c.refused.ensures ∙ search_stopped c.loop-k.invariant c.loop-k-test.true _ c.kept_at-kept.ensures c.if-at-end.false _ _ _ c.look_at.ensures _ c.in-Refused.is
-
-pub returns-in-Yes : goal.returns-in-Yes
-returns-in-Yes c = same_answer _ _ _ _ c.answered.ensures ∙ search_found c.loop-k.invariant c.loop-k-test.true _ c.kept_at-kept.ensures c.if-at-end.false _ _ _ c.look_at.ensures c.in-Yes.is
-
-pub overflow_add-skipped : goal.overflow_add-skipped
-overflow_add-skipped c = omega (arith, skipped_few c.loop-k.invariant c.loop-k-test.true _ c.kept_at-kept.ensures c.if-at-end.false _ _ _ c.look_at.ensures _ _ c.in-No.is)
-
-pub loop-k-preserved : goal.loop-k-preserved
-loop-k-preserved c = search_passed c.loop-k.invariant c.loop-k-test.true _ c.kept_at-kept.ensures c.if-at-end.false _ _ _ c.look_at.ensures _ _ c.in-No.is (omega (arith, c.look_at.auto)) (omega (arith, c.look_at.auto))
-
 pub returns : goal.returns
-returns c = same_answer _ _ _ _ c.answered-2.ensures ∙ search_end c.loop-k.invariant c.loop-k-test.false
+returns c = search_end c.loop-k.invariant c.loop-k-test.false
 
 pub loop-k-init : goal.loop-k-init
 loop-k-init c = search_start c.requires _ _
@@ -36,26 +29,29 @@ loop-k-init c = search_start c.requires _ _
 pub kept_at-kept-requires : goal.kept_at-kept-requires
 kept_at-kept-requires c = slot_within c.loop-k.invariant c.loop-k-test.true
 
-pub loop-k-preserved-then-at-end : goal.loop-k-preserved-then-at-end
-loop-k-preserved-then-at-end c = search_missing c.loop-k.invariant c.loop-k-test.true _ c.kept_at-kept.ensures c.if-at-end.true
-
 pub look_at-requires : goal.look_at-requires
-look_at-requires c = look_pre c.loop-k.invariant c.loop-k-test.true _ c.kept_at-kept.ensures c.if-at-end.false
+look_at-requires c = look_pre c.loop-k.invariant c.loop-k-test.true _ c.kept_at-kept.ensures c.if-kept-eq0.false _ c.summary_at-summary.ensures
 
-pub shape_of-scratch-in-Refused : goal.shape_of-scratch-in-Refused
-shape_of-scratch-in-Refused c = omega (arith, c.look_at.auto, c.loop-k.invariant.same_scratch)
+pub loop-k-preserved-then-kept-eq0 : goal.loop-k-preserved-then-kept-eq0
+loop-k-preserved-then-kept-eq0 c = search_missing c.loop-k.invariant c.loop-k-test.true _ c.kept_at-kept.ensures c.if-kept-eq0.true
 
-pub shape_of-parts-in-Refused : goal.shape_of-parts-in-Refused
-shape_of-parts-in-Refused c = omega (arith, c.look_at.auto, c.loop-k.invariant.same_parts)
+pub returns-in_err-look : goal.returns-in_err-look
+returns-in_err-look c =
+    let p = err_from_is_err_and c.from_residual.result c.from_residual.ensures.1 in
+    let b = err_before _ _ _ c.map_err.ensures.cases c.in_err-look.was in
+    let z : ◌≡◌ {A = Fault} c.in_err-look.field-0.0 (record { refusal = b.0; position = c.loop-k.k }) = search (rules, b.2) in rw (p.1, p.2, z) (search_stopped c.loop-k.invariant c.loop-k-test.true _ c.kept_at-kept.ensures c.if-kept-eq0.false _ _ _ c.look_at.ensures _ b.1)
 
-pub shape_of-scratch-in-Yes : goal.shape_of-scratch-in-Yes
-shape_of-scratch-in-Yes c = omega (arith, c.look_at.auto, c.loop-k.invariant.same_scratch)
+pub returns-in-Match : goal.returns-in-Match
+returns-in-Match c =
+    search_found c.loop-k.invariant c.loop-k-test.true _ c.kept_at-kept.ensures c.if-kept-eq0.false _ _ _ c.look_at.ensures (ok_before _ _ _ c.map_err.ensures.cases c.in_ok-look.was ∙ ap Ok c.in-Match.is)
 
-pub shape_of-parts-in-Yes : goal.shape_of-parts-in-Yes
-shape_of-parts-in-Yes c = omega (arith, c.look_at.auto, c.loop-k.invariant.same_parts)
-
-pub shape_of-scratch : goal.shape_of-scratch
-shape_of-scratch c = c.loop-k.invariant.same_scratch
-
-pub shape_of-parts : goal.shape_of-parts
-shape_of-parts c = c.loop-k.invariant.same_parts
+pub loop-k-preserved : goal.loop-k-preserved
+loop-k-preserved c =
+    elim c.match-look.branch [
+      | in-NoMatch w ↦
+          rw (w.skipped-is, w.cleared-is)
+          (search_passed c.loop-k.invariant c.loop-k-test.true _ c.kept_at-kept.ensures c.if-kept-eq0.false _ _ _ c.look_at.ensures (omega (arith, c.look_at.auto)) (omega (arith, c.look_at.auto)) _ (ok_before _ _ _ c.map_err.ensures.cases c.in_ok-look.was ∙ ap Ok w.in-NoMatch.is))
+      | in-RuledOut w ↦
+          rw (w.skipped-is, w.cleared-is)
+          (search_skipped c.loop-k.invariant c.loop-k-test.true _ c.kept_at-kept.ensures c.if-kept-eq0.false _ _ _ c.look_at.ensures (omega (arith, c.look_at.auto)) (omega (arith, c.look_at.auto)) _ (ok_before _ _ _ c.map_err.ensures.cases c.in_ok-look.was ∙ ap Ok w.in-RuledOut.is))
+    ]

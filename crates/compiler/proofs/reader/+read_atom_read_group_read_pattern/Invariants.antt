@@ -13,14 +13,14 @@ decreases-read_group l = read_measure l.s.now l.st + 2
 abbrev pub decreases-read_pattern : goal.decreases-read_pattern
 decreases-read_pattern l = read_measure l.s.now l.st + 1
 
-abbrev pub invariant-read_group-loop-next : goal.invariant-read_group-loop-next
-invariant-read_group-loop-next l = ReadGroupAt l.s l.depth l.initial.from l.from l.initial.recs l.recs l.initial.pool l.pool l.before
+abbrev pub invariant-read_group-loop-end : goal.invariant-read_group-loop-end
+invariant-read_group-loop-end l = ReadGroupAt l.s l.depth l.initial.from l.from l.initial.recs l.recs l.initial.pool l.pool l.branches
 
-abbrev pub decreases-read_group-loop-next : goal.decreases-read_group-loop-next
-decreases-read_group-loop-next l = read_measure l.s l.from
+abbrev pub decreases-read_group-loop-end : goal.decreases-read_group-loop-end
+decreases-read_group-loop-end l = read_measure l.s l.from
 
-abbrev pub invariant-read_pattern-loop-next : goal.invariant-read_pattern-loop-next
-invariant-read_pattern-loop-next l = ReadPatternAt l.s l.depth l.initial.from l.from l.initial.recs l.recs l.initial.pool l.pool
+abbrev pub invariant-read_pattern-loop-from : goal.invariant-read_pattern-loop-from
+invariant-read_pattern-loop-from l = ReadPatternAt l.s l.depth l.initial.from l.from l.initial.recs l.recs l.initial.pool l.pool
 
-abbrev pub decreases-read_pattern-loop-next : goal.decreases-read_pattern-loop-next
-decreases-read_pattern-loop-next l = read_measure l.s l.from
+abbrev pub decreases-read_pattern-loop-from : goal.decreases-read_pattern-loop-from
+decreases-read_pattern-loop-from l = read_measure l.s l.from

@@ -1,6 +1,6 @@
 use mathlib.Core.Path.{◌≡◌}
 use mathlib.Core.Bool.{false}
-use Prim.Native.Nat.{◌≤◌, ◌-◌}
+use Prim.Native.Nat.{◌≤◌}
 use lib.ListN.{length, take, drop}
 use lib.Seq.{slice}
 use Rattle.replies.specs.Sizes.{held_limit}
@@ -9,7 +9,11 @@ use Rattle.lines.specs.Taking.{one_line}
 use Rattle.lines.proofs.line.take_line.Given as goal
 
 abbrev pub invariant-loop-at : goal.invariant-loop-at
-invariant-loop-at l = (l.from ≤ l.at) × (l.at ≤ length l.chunk) × (l.n ≤ held_limit) × (length l.line ≡ length l.initial.line) × (lines_in (take l.held l.initial.line) (slice l.from l.at l.chunk) ≡ one_line false (take l.n l.line)) × (drop l.n l.line ≡ drop l.n l.initial.line) × (l.held ≤ l.n)
-
-abbrev pub decreases-loop-at : goal.decreases-loop-at
-decreases-loop-at l = length l.chunk - l.at
+invariant-loop-at l =
+    record {
+      fits : l.n ≤ held_limit;
+      size : length l.line ≡ length l.initial.line;
+      taken : lines_in (take l.held l.initial.line) (slice l.from l.at l.chunk) ≡ one_line false (take l.n l.line);
+      stays : drop l.n l.line ≡ drop l.n l.initial.line;
+      longer : l.held ≤ l.n;
+    }

@@ -1,35 +1,25 @@
 -- `session::after_write` meets its contract, case by case. Assumes nothing.
-use mathlib.Core.Path.{refl, sym, ◌∙◌}
-use native.Mathlib.Omega.{arith}
-use lib.Seq.{length-take-le}
-use borrow.Author.Tests.{lt-ltb, le-ltb}
-use Rattle.lines.specs.Session.{written, waiting, GoesOn}
-use Rattle.lines.proofs.Sessions.{state_by}
+use Rattle.std.specs.Prelude.{◌≡◌, Bool, true, false, ℕ, if◌then◌else◌, None}
+use Rattle.pattern.specs.Bytes.{Bytes}
+use Rattle.lines.specs.Chunk.{Buffers}
+use Rattle.lines.specs.Session.{State, halted, Follows}
 use Rattle.lines.proofs.session.after_write.Goals as goal
+use Rattle.lines.proofs.session.after_write.Goals.{in_default-via-in-Some+else-wrote, in_default-via-in_default}
 
-pub returns-then-not-goes_on : goal.returns-then-not-goes_on
-unfolding GoesOn
-returns-then-not-goes_on c =
-    rw (sym c.goes_on.ensures ∙ c.if-not-goes_on.true) c.halt.ensures
+-- the last output was written, or not
+ends : (wrote : Bool) (end : ℕ) (input : Bytes) (b : Buffers) (s : State) → s ≡ halted input b → Follows (if wrote then None else None) end input b s
+unfolding Follows
+ends true end input b s a = a
+ends false end input b s a = a
 
-pub slice_bounds-answer_chunk-end-then-from-to : goal.slice_bounds-answer_chunk-end-then-from-to
-slice_bounds-answer_chunk-end-then-from-to c = sym (length-take-le _ _ (omega arith))
+pub returns-in-Some : goal.returns-in-Some
+unfolding Follows
+returns-in-Some c = rw (c.if-wrote.true, c.in-Some.is) c.go_on.ensures
 
-pub answer_chunk-requires : goal.answer_chunk-requires
-answer_chunk-requires c =
-    let p = c.requires in
-    record {
-      from = omega (arith, length-take-le c.args.p.to c.args.buf.now p.to_fits);
-      lent = record { line_size = p.lent.line_size; held_fits = p.lent.held_fits; out_size = omega (arith, p.lent.out_size) };
-    }
-
-pub returns-then-from-to : goal.returns-then-from-to
-unfolding GoesOn written
-returns-then-from-to c =
-    rw (sym c.goes_on.ensures ∙ c.if-not-goes_on.false, lt-ltb _ _ c.if-from-to.true)
-    (record { part = _; after = _; answered = rw c.clear.ensures at c.answer_chunk.ensures; state = refl })
-
-pub returns : goal.returns
-unfolding GoesOn written waiting
-returns c =
-    rw (sym c.goes_on.ensures ∙ c.if-not-goes_on.false, le-ltb _ _ c.if-from-to.false) (state_by c.clear-2.ensures refl refl c.clear.ensures)
+pub returns-in_default : goal.returns-in_default
+unfolding Follows
+returns-in_default c =
+    elim c.in_default.branch [
+      | in_default-via-in-Some+else-wrote w ↦ rw w.if-wrote.false c.halt.ensures
+      | in_default-via-in_default w ↦ rw w.in_default.is (ends c.args.wrote _ _ _ _ c.halt.ensures)
+    ]

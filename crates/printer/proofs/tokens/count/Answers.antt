@@ -20,23 +20,23 @@ pub low_number-point-requires : goal.low_number-point-requires
 low_number-point-requires c =
     omega (arith, c.requires.1, count_begins c.args.low c.args.high c.if-low-high.false)
 
-pub put_byte-m-requires : goal.put_byte-m-requires
-put_byte-m-requires c =
+pub put-m-requires : goal.put-m-requires
+put-m-requires c =
     let p = c.low_number-point.ensures in
     omega (arith, p.next, puts_length p, c.requires.1, count_begins c.args.low c.args.high c.if-low-high.false)
 
 pub returns-then-high-eq-OPEN : goal.returns-then-high-eq-OPEN
 returns-then-high-eq-OPEN c =
     let a = c.args in
-    puts_as (puts_then c.low_number-point.ensures c.put_byte-m.ensures) (sym (count_open a.low a.high c.if-high-eq-OPEN.true))
+    puts_as (puts_then c.low_number-point.ensures c.put-m.ensures) (sym (count_open a.low a.high c.if-high-eq-OPEN.true))
 
 pub put_decimal-requires-2 : goal.put_decimal-requires-2
 put_decimal-requires-2 c =
     let a = c.args in
     let e = count_two a.low a.high c.if-high-eq-OPEN.false c.if-low-high.false in
-    puts_room (puts_then c.low_number-point.ensures c.put_byte-m.ensures) (decimal a.high) (omega (arith, c.requires.1, ap length e))
+    puts_room (puts_then c.low_number-point.ensures c.put-m.ensures) (decimal a.high) (omega (arith, c.requires.1, ap length e))
 
 pub returns : goal.returns
 returns c =
     let a = c.args in
-    puts_as (puts_then (puts_then c.low_number-point.ensures c.put_byte-m.ensures) c.put_decimal-2.ensures) (sym (count_two a.low a.high c.if-high-eq-OPEN.false c.if-low-high.false))
+    puts_as (puts_then (puts_then c.low_number-point.ensures c.put-m.ensures) c.put_decimal-2.ensures) (sym (count_two a.low a.high c.if-high-eq-OPEN.false c.if-low-high.false))

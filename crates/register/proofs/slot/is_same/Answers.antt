@@ -21,8 +21,8 @@ loop-at-preserved c =
 pub loop-at-init : goal.loop-at-init
 loop-at-init c = same_start _ _
 
-pub overflow_add-at : goal.overflow_add-at
-overflow_add-at c = omega (arith, same_room c.loop-at.invariant c.loop-at-test.true)
+pub overflow_step-at : goal.overflow_step-at
+overflow_step-at c = omega (arith, same_room c.loop-at.invariant c.loop-at-test.true)
 
 pub returns : goal.returns
 returns c = same_all c.loop-at.invariant c.loop-at-test.false c.requires

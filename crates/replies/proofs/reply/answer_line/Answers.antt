@@ -9,5 +9,5 @@ unfolding answer_to
 returns c =
     let r = c.put_reply-end.ensures in
     let a = r.within in
-    let b = c.put_byte.ensures in
+    let b = c.put.ensures in
     record { within = record { stores = puts_then a.stores b; short = omega (arith, a.short, b.next) }; works = r.works }

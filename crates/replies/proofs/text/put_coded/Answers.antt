@@ -7,9 +7,9 @@ use Rattle.replies.proofs.text.put_coded.Goals as goal
 
 pub put_decimal-requires : goal.put_decimal-requires
 put_decimal-requires c =
-    omega (arith, c.put_byte-space.ensures.next, c.put_byte-start.ensures.next, decimal_short 19 c.args.number (omega arith))
+    omega (arith, c.put-space.ensures.next, c.put-start.ensures.next, decimal_short 19 c.args.number (omega arith))
 
 pub returns : goal.returns
 unfolding coded_text
 returns c =
-    puts_then (puts_then c.put_byte-space.ensures c.put_byte-start.ensures) c.put_decimal.ensures
+    puts_then (puts_then c.put-space.ensures c.put-start.ensures) c.put_decimal.ensures

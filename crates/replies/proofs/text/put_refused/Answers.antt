@@ -5,16 +5,16 @@ use Rattle.pattern.proofs.Stores.{puts_then}
 use Rattle.pattern.proofs.Decimal.{decimal_short}
 use Rattle.replies.proofs.text.put_refused.Goals as goal
 
-pub put_byte-start-requires : goal.put_byte-start-requires
+pub put-start-requires : goal.put-start-requires
 unfolding coded_text
-put_byte-start-requires c = omega (arith, c.put_coded-space.ensures.next, decimal_short 19 c.args.number (omega arith))
+put-start-requires c = omega (arith, c.put_coded-space.ensures.next, decimal_short 19 c.from-number.result (omega arith))
 
 pub put_decimal-requires : goal.put_decimal-requires
 unfolding coded_text
 put_decimal-requires c =
-    omega (arith, c.put_coded-space.ensures.next, c.put_byte-start.ensures.next, decimal_short 19 c.args.number (omega arith), decimal_short 19 c.args.position (omega arith))
+    omega (arith, c.put_coded-space.ensures.next, c.put-start.ensures.next, decimal_short 19 c.from-number.result (omega arith), decimal_short 19 c.args.fault.position (omega arith))
 
 pub returns : goal.returns
 unfolding refused_text
 returns c =
-    puts_then c.put_coded-space.ensures (puts_then c.put_byte-start.ensures c.put_decimal.ensures)
+    puts_then (rw (c.from-number.ensures, c.from.ensures) at c.put_coded-space.ensures) (puts_then c.put-start.ensures c.put_decimal.ensures)

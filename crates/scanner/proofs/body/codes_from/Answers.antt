@@ -13,14 +13,14 @@ returns-in_default c =
 
 pub loop-set-smaller : goal.loop-set-smaller
 loop-set-smaller c =
-    let k = (class_letter _ _ _ _ _ c.in-Letter.is c.class.ensures).kind in omega (arith, k.within, k.past)
+    let k = (class_letter _ _ _ _ c.in-Letter.ensures).kind in omega (arith, k.within, k.past)
 
 pub loop-set-preserved : goal.loop-set-preserved
 loop-set-preserved c =
-    coding_more _ _ _ _ c.loop-set.invariant c.loop-set-test.true _ c.class.ensures _ _ _ c.in-Letter.is c.bit-set-in-loop-set.ensures
+    coding_more _ _ _ _ c.loop-set.invariant c.loop-set-test.true _ _ _ c.in-Letter.ensures c.bit-set-in-loop-set.ensures
 
-pub overflow_sub-result : goal.overflow_sub-result
-overflow_sub-result c = omega (arith, c.loop-set.invariant.on)
+pub overflow_sub-at : goal.overflow_sub-at
+overflow_sub-at c = omega (arith, c.loop-set.invariant.on)
 
 pub returns : goal.returns
-returns c = coding_fault _ _ _ _ c.loop-set.invariant (omega arith)
+returns c = rw c.at.ensures (coding_fault _ _ _ _ c.loop-set.invariant (omega arith))

@@ -9,23 +9,20 @@ loop-d-init c = digits_start _ _ c.requires
 
 pub returns-then-v : goal.returns-then-v
 returns-then-v c =
-    digits_over _ _ _ _ c.loop-d.invariant _ c.digit.ensures _ _ c.in-Is.is _ refl (omega (arith, c.if-v.true))
-
-pub overflow_mul-v : goal.overflow_mul-v
-overflow_mul-v c = omega (arith, c.if-v.false)
+    digits_over _ _ _ _ c.loop-d.invariant _ _ c.in-Some.ensures _ refl (omega (arith, c.if-v.true))
 
 pub overflow_add-v : goal.overflow_add-v
 overflow_add-v c =
-    omega (arith, c.if-v.false, digit_small _ _ _ _ c.loop-d.invariant _ c.digit.ensures _ _ c.in-Is.is)
+    omega (arith, c.if-v.false, digit_small _ _ _ _ c.loop-d.invariant _ _ c.in-Some.ensures)
 
 pub loop-d-smaller : goal.loop-d-smaller
 loop-d-smaller c =
-    let o = digit_past _ _ _ _ c.loop-d.invariant _ c.digit.ensures _ _ c.in-Is.is in
+    let o = digit_past _ _ _ _ c.loop-d.invariant _ _ c.in-Some.ensures in
     omega (arith, o.on, o.within)
 
 pub loop-d-preserved : goal.loop-d-preserved
 loop-d-preserved c =
-    digits_more _ _ _ _ c.loop-d.invariant _ c.digit.ensures _ _ c.in-Is.is (omega (arith, c.if-v.false))
+    digits_more _ _ _ _ c.loop-d.invariant _ _ c.in-Some.ensures (omega (arith, c.if-v.false))
 
-pub returns-in-None : goal.returns-in-None
-returns-in-None c = digits_end _ _ _ _ c.loop-d.invariant _ c.digit.ensures _ refl c.in-None.is
+pub returns : goal.returns
+returns c = digits_end _ _ _ _ c.loop-d.invariant _ refl c.in_default.ensures

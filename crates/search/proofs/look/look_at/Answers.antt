@@ -1,8 +1,11 @@
 -- `look::look_at` meets its contract: 13 and 14, the skip test, the match. Assumes nothing.
-use mathlib.Core.Path.{sym, ◌∙◌}
+use mathlib.Core.Path.{sym, ap, ◌∙◌}
 use native.Mathlib.Omega.{arith}
+use Prim.Native.Nat.{◌-◌, ◌≤◌}
+use lib.ListN.{length, replicate, length-drop}
+use lib.Seq.{length-take-le}
 use Rattle.pattern.proofs.Rooms.{rows_few, bytes_few}
-use Rattle.search.proofs.Looking.{look_atoms, look_tops, look_summary, look_work, look_parts, look_clear, look_fits, look_out, look_skipped, look_yes, look_no}
+use Rattle.search.proofs.Looking.{look_atoms, look_tops, look_summary, look_filled, look_within, look_work, look_parts, look_fits, look_out, look_skipped, look_yes, look_no}
 use Rattle.search.proofs.look.look_at.Goals as goal
 
 pub overflow_mul-needed-2 : goal.overflow_mul-needed-2
@@ -14,7 +17,9 @@ overflow_mul-needed-3 c = let pre = c.requires in omega (arith, bytes_few _ _ (l
 pub returns-then-rules_out : goal.returns-then-rules_out
 returns-then-rules_out c =
     let pre = c.requires in
-    look_skipped pre _ c.if-scratch-needed.false c.if-parts-kept.false (sym c.if-rules_out.true ∙ look_out pre c.rules_out.ensures) _ c.clear_from.ensures _ c.larger-reach.ensures
+    let reach : c.max-reach.result ≤ length c.args.scratch.now = look_within pre _ c.max-reach.ensures c.if-scratch-needed.false in
+    look_skipped pre _ c.if-scratch-needed.false c.if-parts-kept.false (sym c.if-rules_out.true ∙ look_out pre c.rules_out.ensures) _
+    (look_filled pre _ c.max-reach.ensures _ (c.fill.ensures.after (λ y e. e) ∙ ap (λ n. replicate n 0) (length-take-le (c.max-reach.result - c.args.cleared) _ (omega (arith, length-drop c.args.cleared c.args.scratch.now))))) _ c.max-reach.ensures
 
 pub returns-then-is_match : goal.returns-then-is_match
 returns-then-is_match c =
@@ -24,10 +29,7 @@ returns-then-is_match c =
 pub returns : goal.returns
 returns c =
     let pre = c.requires in
-    look_no pre _ c.if-scratch-needed.false c.if-parts-kept.false (sym c.if-rules_out.false ∙ look_out pre c.rules_out.ensures) _ _ (rw c.if-is_match.false at c.is_match.ensures) _ c.larger-reach.ensures
-
-pub overflow_add-w : goal.overflow_add-w
-overflow_add-w c = omega (arith, c.requires.short)
+    look_no pre _ c.if-scratch-needed.false c.if-parts-kept.false (sym c.if-rules_out.false ∙ look_out pre c.rules_out.ensures) _ _ (rw c.if-is_match.false at c.is_match.ensures) _ c.max-reach.ensures
 
 pub overflow_mul-needed : goal.overflow_mul-needed
 overflow_mul-needed c = omega (arith, look_atoms c.requires)
@@ -46,9 +48,6 @@ returns-then-parts-kept c = look_parts c.requires _ c.if-scratch-needed.false c.
 
 pub rules_out-requires : goal.rules_out-requires
 rules_out-requires c = look_summary c.requires
-
-pub clear_from-requires : goal.clear_from-requires
-clear_from-requires c = look_clear c.requires c.if-scratch-needed.false
 
 pub is_match-requires : goal.is_match-requires
 is_match-requires c = look_fits c.requires _ c.if-scratch-needed.false c.if-parts-kept.false

@@ -3,6 +3,3 @@ use Rattle.stores.proofs.moves.move_up.Given as goal
 
 abbrev pub invariant-loop-i : goal.invariant-loop-i
 invariant-loop-i l = Up l.initial.lent l.from l.n l.to l.lent l.i
-
-abbrev pub decreases-loop-i : goal.decreases-loop-i
-decreases-loop-i l = l.i

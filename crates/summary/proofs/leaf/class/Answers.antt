@@ -1,9 +1,12 @@
 -- `leaf::class` meets its contract. Assumes nothing.
+use mathlib.Core.Path.{sym, ◌∙◌}
+use Rattle.std.proofs.lemmas.Bool.{false≢true}
+use Rattle.std.proofs.lemmas.Slice.Eq.{bytes_eq-Decides}
 use Rattle.summary.proofs.ClassWords.{class_none, class_some}
 use Rattle.summary.proofs.leaf.class.Goals as goal
 
-pub returns-then-a-b-eq0 : goal.returns-then-a-b-eq0
-returns-then-a-b-eq0 c = class_none _ _ _ _ _ c.class_word-a.ensures c.class_word-b.ensures c.class_word-c.ensures c.class_word-d.ensures c.if-a-b-eq0.true
+pub returns-then-eq : goal.returns-then-eq
+returns-then-eq c = class_none _ _ c.class_bytes-first.ensures ((bytes_eq-Decides _ _).0 (sym c.eq.ensures ∙ c.if-eq.true))
 
 pub returns : goal.returns
-returns c = class_some _ _ _ _ _ c.class_word-a.ensures c.class_word-b.ensures c.class_word-c.ensures c.class_word-d.ensures c.if-a-b-eq0.false
+returns c = class_some _ _ c.class_bytes-first.ensures (λ e. false≢true (sym c.if-eq.false ∙ c.eq.ensures ∙ (bytes_eq-Decides _ _).1 e))

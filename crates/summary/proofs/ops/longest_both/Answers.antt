@@ -6,4 +6,4 @@ pub returns-then-m : goal.returns-then-m
 returns-then-m c = longest_none _ _ c.if-m.true
 
 pub returns : goal.returns
-returns c = longest_some _ _ _ c.if-m.false c.lesser.ensures
+returns c = longest_some _ _ _ c.if-m.false c.min.ensures

@@ -1,24 +1,23 @@
 -- `write::write` meets its contract: each store ends where the next one begins. Assumes nothing.
-use mathlib.Core.Path.{ap, ◌∙◌}
-use Prim.Native.Nat.{◌+◌}
+use mathlib.Core.Path.{ap}
 use native.Mathlib.Omega.{arith}
-use Rattle.summary.proofs.SummaryBytes.{puts_eight, written}
+use lib.ListN.{length}
+use Rattle.std.proofs.Common.{rules}
+use Rattle.stores.proofs.Little.{puts_two, puts_eight}
+use Rattle.summary.proofs.SummaryBytes.{written_start, written_more, written_room, written_all}
 use Rattle.summary.proofs.write.write.Goals as goal
 
-pub put64-c-requires : goal.put64-c-requires
-put64-c-requires c =
-    omega (arith, puts_eight _ c.put64-b.ensures, c.put16-a.ensures.next, c.put16-longest.ensures.next, c.requires.room)
+pub loop-word-init : goal.loop-word-init
+loop-word-init c =
+    let p = c.requires.capped in
+    written_start (puts_two c.put-longest.ensures c.args.m.shortest (omega (arith, p.shortest)) c.to_le_bytes.ensures)
+    (puts_two c.put-at.ensures c.args.m.longest (omega (arith, p.longest)) c.to_le_bytes-2.ensures)
 
-pub put64-d-requires : goal.put64-d-requires
-put64-d-requires c =
-    omega (arith, puts_eight _ c.put64-c.ensures, puts_eight _ c.put64-b.ensures, c.put16-a.ensures.next, c.put16-longest.ensures.next, c.requires.room)
+pub put-at-requires-in-loop-word : goal.put-at-requires-in-loop-word
+put-at-requires-in-loop-word c = omega (arith, written_room c.loop-word.invariant (search rules) c.loop-word-test.true c.requires.room, ap length c.to_le_bytes-in-loop-word.ensures)
 
-pub put64-requires : goal.put64-requires
-put64-requires c =
-    let words = puts_eight _ c.put64-d.ensures ∙ ap (λ k. k + 8) (puts_eight _ c.put64-c.ensures) in
-    omega (arith, words, puts_eight _ c.put64-b.ensures, c.put16-a.ensures.next, c.put16-longest.ensures.next, c.requires.room)
+pub loop-word-preserved : goal.loop-word-preserved
+loop-word-preserved c = written_more c.loop-word.invariant (search rules) (puts_eight c.put-at-in-loop-word.ensures _ c.to_le_bytes-in-loop-word.ensures)
 
 pub returns : goal.returns
-returns c =
-    written _ c.requires.room c.put16-longest.ensures c.put16-a.ensures c.put64-b.ensures
-    c.put64-c.ensures c.put64-d.ensures c.put64.ensures
+returns c = written_all c.loop-word.invariant (search rules) (omega arith) c.requires.room

@@ -3,23 +3,22 @@ use mathlib.Core.Path.{sym, ap, ◌∙◌}
 use Prim.Native.Nat.{◌-◌}
 use native.Mathlib.Omega.{arith}
 use Rattle.pattern.specs.Grammar.{digit, count_char}
-use Rattle.scanner.specs.Places.{DigitPost}
-use Rattle.scanner.proofs.Places.{byte_is, end_not, of_class, not_class, digit_is, digit_not, digit_range}
+use Rattle.scanner.specs.Places.{BytePost, DigitPost}
+use Rattle.scanner.proofs.Places.{end_not, of_class, not_class, digit_is, digit_not}
 use Rattle.scanner.proofs.cursor.Cursor.digit.Goals as goal
 
-pub overflow_sub-result : goal.overflow_sub-result
-overflow_sub-result c =
-    let b = (byte_is _ _ _ _ _ c.in-Is.is c.byte.ensures) in (digit_range _ (omega (arith, b.value, c.type_inv.s c.args.self.at)) (sym c.is_digit.ensures ∙ c.if-is_digit.true)).0
+pub returns-in_err-b : goal.returns-in_err-b
+unfolding BytePost DigitPost
+returns-in_err-b c = rw c.from_residual.ensures (end_not _ _ c.in_err-b.ensures (count_char digit))
 
-pub returns-then-is_digit : goal.returns-then-is_digit
-unfolding DigitPost
-returns-then-is_digit c =
-    let b = (byte_is _ _ _ _ _ c.in-Is.is c.byte.ensures) in let e = sym c.is_digit.ensures ∙ c.if-is_digit.true in (of_class _ _ _ _ b (count_char digit) (digit_is _ e), ap (λ x. x - 48) b.value, omega (arith, digit_range _ (omega (arith, b.value, c.type_inv.s c.args.self.at)) e))
+pub returns-then-is_ascii_digit : goal.returns-then-is_ascii_digit
+unfolding BytePost DigitPost
+returns-then-is_ascii_digit c =
+    let b = c.in_ok-b.ensures in
+    let e = c.if-is_ascii_digit.ensures in
+    (of_class _ _ _ _ b (count_char digit) (digit_is _ (omega arith) (sym e.value)), c.from.ensures ∙ ap (λ x. x - 48) b.value, omega (arith, c.from.ensures, e.cases))
 
-pub returns-else-is_digit : goal.returns-else-is_digit
-unfolding DigitPost
-returns-else-is_digit c = not_class _ _ _ _ (byte_is _ _ _ _ _ c.in-Is.is c.byte.ensures) (count_char digit) (digit_not _ (sym c.is_digit.ensures ∙ c.if-is_digit.false))
-
-pub returns-in-End : goal.returns-in-End
-unfolding DigitPost
-returns-in-End c = end_not _ _ _ c.in-End.is c.byte.ensures (count_char digit)
+pub returns-else-is_ascii_digit : goal.returns-else-is_ascii_digit
+unfolding BytePost DigitPost
+returns-else-is_ascii_digit c =
+    not_class _ _ _ _ c.in_ok-b.ensures (count_char digit) (digit_not _ (omega arith) (sym c.if-is_ascii_digit.ensures.value))

@@ -1,27 +1,35 @@
 -- `Cursor::text` meets its contract. Assumes nothing.
 use mathlib.Core.Path.{sym, ◌∙◌}
+use native.Mathlib.Omega.{arith}
 use Rattle.pattern.specs.Grammar.{quote, body_start}
-use Rattle.scanner.proofs.Places.{byte_is, byte_end, end_not, not_only}
+use Rattle.scanner.specs.Places.{BytePost}
+use Rattle.scanner.proofs.Places.{end_not, not_only}
 use Rattle.scanner.proofs.Texts.{text_plain, text_barred, text_ends, text_doubled, text_short}
 use Rattle.scanner.proofs.cursor.Cursor.text.Goals as goal
 
+pub returns-in_default : goal.returns-in_default
+unfolding BytePost
+returns-in_default c = text_short _ _ c.in_default.ensures
+
 pub returns-then-is_plain : goal.returns-then-is_plain
-returns-then-is_plain c = text_plain _ _ _ _ (byte_is _ _ _ _ _ c.in-Is.is c.byte.ensures) (sym c.is_plain.ensures ∙ c.if-is_plain.true)
+unfolding BytePost
+returns-then-is_plain c = text_plain _ _ _ _ c.in-Some.ensures (sym c.is_plain.ensures ∙ c.if-is_plain.true)
 
-pub returns-then-d-eq34 : goal.returns-then-d-eq34
-returns-then-d-eq34 c =
-    text_doubled _ _ _ _ (byte_is _ _ _ _ _ c.in-Is.is c.byte.ensures) c.if-b-eq34.true _ _ (byte_is _ _ _ _ _ c.in-Is-byte.is c.byte-then-b-eq34.ensures) c.if-d-eq34.true
+pub returns-then-b-ne34 : goal.returns-then-b-ne34
+unfolding BytePost
+returns-then-b-ne34 c = text_barred _ _ _ _ c.in-Some.ensures (sym c.is_plain.ensures ∙ c.if-is_plain.false) c.if-b-ne34.true
 
-pub returns-else-d-eq34 : goal.returns-else-d-eq34
-returns-else-d-eq34 c =
-    text_ends _ _ _ _ (byte_is _ _ _ _ _ c.in-Is.is c.byte.ensures) c.if-b-eq34.true (not_only _ _ _ _ (byte_is _ _ _ _ _ c.in-Is-byte.is c.byte-then-b-eq34.ensures) _ (body_start quote) (λ h. h) c.if-d-eq34.false)
+pub returns-in-Some-eq34-default : goal.returns-in-Some-eq34-default
+unfolding BytePost
+returns-in-Some-eq34-default c =
+    text_doubled _ _ _ _ c.in-Some.ensures c.if-b-ne34.false _ _ c.in-Some-eq34-default.ensures (sym c.in-Some-eq34-default.field-0-0-is ∙ c.in-Some-eq34-default.field-0-0-test)
 
-pub returns-in-End-byte : goal.returns-in-End-byte
-returns-in-End-byte c =
-    text_ends _ _ _ _ (byte_is _ _ _ _ _ c.in-Is.is c.byte.ensures) c.if-b-eq34.true (end_not _ _ _ c.in-End-byte.is c.byte-then-b-eq34.ensures (body_start quote))
+pub returns-in_default-byte : goal.returns-in_default-byte
+unfolding BytePost
+returns-in_default-byte c =
+    text_ends _ _ _ _ c.in-Some.ensures c.if-b-ne34.false (not_only _ _ _ _ c.in_default-byte.ensures _ (body_start quote) (λ h. h) (λ e. omega arith))
 
-pub returns-else-b-eq34 : goal.returns-else-b-eq34
-returns-else-b-eq34 c = text_barred _ _ _ _ (byte_is _ _ _ _ _ c.in-Is.is c.byte.ensures) (sym c.is_plain.ensures ∙ c.if-is_plain.false) c.if-b-eq34.false
-
-pub returns-in-End : goal.returns-in-End
-returns-in-End c = text_short _ _ (byte_end _ _ _ c.in-End.is c.byte.ensures)
+pub returns-in_default-byte-2 : goal.returns-in_default-byte-2
+unfolding BytePost
+returns-in_default-byte-2 c =
+    text_ends _ _ _ _ c.in-Some.ensures c.if-b-ne34.false (end_not _ _ (rw c.in_default-byte.is at c.byte-2.ensures) (body_start quote))
