@@ -3,6 +3,7 @@ use mathlib.Core.Path.{◌≡◌, refl, sym, ◌∙◌}
 use mathlib.Core.Bool.{Bool, true, false, cond}
 use Prim.Native.Nat.{ℕ, suc, ◌+◌, ◌-◌, ◌≤◌, ◌<◌}
 use native.Mathlib.Omega.{arith}
+use Rattle.std.specs.Prelude.{Option, Some, None, is_some}
 use Rattle.pattern.specs.Decision.{any}
 use Rattle.pattern.specs.Trials.{tries}
 
@@ -26,6 +27,15 @@ pub record FoundAt (p : ℕ → Bool) (i j budget trials spent m : ℕ) : Type 0
   pub from : i ≤ m
   pub to : m ≤ j
   pub holds : p (m - i) ≡ true
+
+-- what the search yields: an end that holds, or none
+abbrev pub Says : (p : ℕ → Bool) (i j budget trials spent : ℕ) → Option ℕ → Type 0
+Says p i j budget trials spent (Some m) = FoundAt p i j budget trials spent m
+Says p i j budget trials spent None = Searched p i j budget trials spent false
+
+pub says_searched : {p : ℕ → Bool} {i j budget trials spent : ℕ} (o : Option ℕ) → Says p i j budget trials spent o → Searched p i j budget trials spent (is_some o)
+says_searched (Some m) h = h.searched
+says_searched None h = h
 
 module _ (p : ℕ → Bool) where
   tries_none : tries 0 p ≡ 0

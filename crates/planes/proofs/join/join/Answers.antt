@@ -3,10 +3,9 @@ use mathlib.Core.Path.{◌≡◌, refl}
 use Prim.Native.Nat.{◌+◌}
 use native.Mathlib.Omega.{arith}
 use lib.Bits.{bit_and}
-use Rattle.std.specs.Option.{is_some}
 use Rattle.pattern.specs.Decision.{trial}
 use Rattle.planes.specs.Cells.{on}
-use Rattle.planes.proofs.Searching.{Searched, search_stop}
+use Rattle.planes.proofs.Searching.{Says, says_searched, search_stop}
 use Rattle.planes.proofs.Joining.{plane_start, plane_end, plane_stop, plane_step, column_start, trial_held, trial_none, trial_next, column_found, column_missing, join_ready, join_blank}
 use Rattle.planes.proofs.join.join.Goals as goal
 use Rattle.planes.proofs.join.join.Goals.{then-cell-ne0, else-cell-ne0+then-m-i, then-is_some, else-is_some}
@@ -33,15 +32,16 @@ loop-i-preserved c =
     let column = c.loop-i.invariant in
     let inv = c.loop-spent.invariant in
     let s = c.loop-i.scratch in
-    let searched : Searched (trial (on s c.args.w c.args.left) (on s c.args.w c.args.right) c.loop-i.i c.loop-j.j) c.loop-i.i c.loop-j.j c.args.budget.limit c.loop-i.spent (c.loop-spent.spent + 1) (is_some c.if-cell-ne0.found) =
+    let says : Says (trial (on s c.args.w c.args.left) (on s c.args.w c.args.right) c.loop-i.i c.loop-j.j) c.loop-i.i c.loop-j.j c.args.budget.limit c.loop-i.spent (c.loop-spent.spent + 1) c.if-cell-ne0.found =
     elim c.if-cell-ne0.branch [
       | then-cell-ne0 w ↦
           let h : bit_and c.cell.result c.cell-in-loop-spent.result ≡ 0 → ⊥ = w.if-cell-ne0.true in
-          rw w.found-is (trial_held column inv c.if-spent-limit.false (rw (c.cell.ensures, c.cell-in-loop-spent.ensures) at h)).searched
+          rw w.found-is (trial_held column inv c.if-spent-limit.false (rw (c.cell.ensures, c.cell-in-loop-spent.ensures) at h))
       | else-cell-ne0+then-m-i w ↦
           let h : bit_and c.cell.result c.cell-in-loop-spent.result ≡ 0 = w.if-cell-ne0.false in
           rw w.found-is (trial_none column inv c.if-spent-limit.false (rw (c.cell.ensures, c.cell-in-loop-spent.ensures) at h) w.if-m-i.true)
     ] in
+    let searched = says_searched c.if-cell-ne0.found says in
     elim c.if-is_some.branch [
       | then-is_some w ↦ rw (w.scratch-is, w.set_stretch.ensures) (column_found column (omega arith) (rw (← w.if-is_some.ensures) at searched))
       | else-is_some w ↦ rw w.scratch-is (column_missing column (omega arith) (rw (← w.if-is_some.ensures) at searched))
