@@ -28,7 +28,7 @@ pub record SoFar (first s : State) (left left' held held' : Option Bytes) (turns
 pub so_far_none : {first : State} (left held : Option Bytes) → Sound first → SoFar first first left left held held 0
 unfolding joined
 so_far_none left held y =
-    record { trace = _; runs = none; took = record { taken = takes_none left; whole = λ e. apart (sym e) }; gave = record { given = λ e. appends_none held }; sound = y }
+    record { trace = _; runs = none; took = record { taken = takes_none left; whole = λ e. apart (sym e) }; gave = record { given = appends_none held }; sound = y }
 
 module _ {first s : State} {left left' held held' : Option Bytes} {turns : ℕ} (g : SoFar first s left left' held held' turns) where
   pub so_far_write : {s' : State} {more : Option Bytes} → WriteStep s s' held' more → Sized s' → SoFar first s' left left' held more (turns + 1)
@@ -68,10 +68,16 @@ module _ (input : Bytes) (b : Buffers) (fresh : Sound (record { next = Stop; inp
   pub ran_holds : r.trace.well ≡ true → s.next ≡ Stop → (r.trace.ended ≡ true) × (r.trace.text ≡ output (joined r.trace.chunks))
   ran_holds = runs_hold input b fresh r.runs
 
+-- and then, where the writer's bytes are known, whatever fails: it holds what it held and then a text that is a beginning of the output, however the input goes on
+module _ (input : Bytes) (b : Buffers) (fresh : Sound (record { next = Stop; input = input; buffers = b })) {s : State} {left left' : Option Bytes} (before : Bytes) (held' : Option Bytes)
+    (r : RunPost (started input b) s left left' (Some before) held') where
+  pub ran_wrote : (text : Bytes) × (held' ≡ Some (before ++ text)) × ((chunks : List Bytes) → (rest : Bytes) × (text ++ rest ≡ output (joined (r.trace.chunks ++ to_come r.trace.ended chunks))))
+  ran_wrote = (r.trace.text, given_whole r.trace before held' r.gave, ran_begins input b fresh r)
+
 -- and then, where the reader's and the writer's bytes are known, the output of all that the reader had is put after what the writer held
 module _ (input : Bytes) (b : Buffers) (fresh : Sound (record { next = Stop; input = input; buffers = b })) {s : State} (all before : Bytes) (left' held' : Option Bytes)
     (r : RunPost (started input b) s (Some all) left' (Some before) held') where
   pub ran_writes : r.trace.well ≡ true → s.next ≡ Stop → held' ≡ Some (before ++ output all)
   ran_writes w e =
       let (ended, text) = ran_holds input b fresh r w e in
-      given_whole r.trace before held' r.gave w ∙ ap (λ v. Some (before ++ v)) (text ∙ ap output (taken_whole r.trace all left' r.took ended))
+      given_whole r.trace before held' r.gave ∙ ap (λ v. Some (before ++ v)) (text ∙ ap output (taken_whole r.trace all left' r.took ended))

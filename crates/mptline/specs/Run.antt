@@ -17,9 +17,9 @@ pub record FromReader (t : Trace) (left left' : Option Bytes) : Type 0 where
   pub taken : Consumes left left' (joined t.chunks)
   pub whole : t.ended ≡ true → IfSome left (λ s. s ≡ joined t.chunks)
 
--- what a writer holds, where it is known: where nothing failed the text was put after it
+-- what a writer holds, where it is known: what it held, and the text after it, also where a write failed
 pub record ToWriter (t : Trace) (held held' : Option Bytes) : Type 0 where
-  pub given : t.well ≡ true → Appends held held' t.text
+  pub given : Appends held held' t.text
 
 -- a write, or a read: a step, with what it put into the writer, and nothing taken; or with what it took from the reader, and nothing put
 pub record WriteStep (s s' : State) (held held' : Option Bytes) : Type 0 where

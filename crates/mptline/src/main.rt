@@ -2,6 +2,8 @@
 // reads, and what it writes when, is told by lines::session, which also says why the four buffers stand apart.
 #![tactic(auto)]
 
+ghost use Rattle.std.specs.Prelude.{◌≤◌, length, take};
+ghost use Rattle.std.specs.Io.KnownBytes.{Appends};
 ghost use Rattle.lines.specs.Chunk.{lend};
 ghost use Rattle.lines.specs.Session.{state_of, started};
 ghost use Rattle.lines.specs.Invariant.{Sound};
@@ -12,10 +14,31 @@ use lines::chunk::Pending;
 use lines::session;
 use lines::session::Next;
 use replies::sizes;
-use std::io::{Read, Write};
+use std::io::{ErrorKind, Read, Write};
 
 // Bytes of input and of output that are taken at a time.
 const BUFFER_SIZE: usize = 65536;
+
+// Writes bytes until all are written or a write fails, other than by an interrupt, and returns how many were. By `write`,
+// since `write_all` doesn't say what it wrote where it fails.
+fn write_bytes<W: Write>(output: &mut W, bytes: &[u8]) -> usize
+    ensures within { result ≤ length bytes.now }
+    ensures gave { Appends (W.contents output.old) (W.contents output.new) (take result bytes.now) }
+{
+    let mut written = 0;
+    'writes: for _ in 0..u64::MAX {
+        if written == bytes.len() {
+            return written;
+        }
+        match output.write(&bytes[written..]) {
+            Ok(0) => return written,
+            Ok(n) => written += n,
+            Err(e) if e.kind() == ErrorKind::Interrupted => {}
+            Err(_) => return written,
+        }
+    }
+    written
+}
 
 // Writes what is to be written.
 #[tactic(auto, unfolding(lines::specs::Invariant::NextIn))]
@@ -30,7 +53,7 @@ fn write<W: Write>(
     requires { Sound (state_of (Write p) buf.old line.old scratch.old out.old) }
     ensures { WriteStep (state_of (Write p) buf.old line.old scratch.old out.old) (state_of result buf.new line.new scratch.new out.new) (W.contents output.old) (W.contents output.new) }
 {
-    let wrote = output.write_all(&out[..p.end]).is_ok();
+    let wrote = write_bytes(output, &out[..p.end]) == p.end;
     session::after_write(p, wrote, buf, line, scratch, out)
 }
 

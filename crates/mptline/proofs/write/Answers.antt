@@ -1,10 +1,11 @@
 -- `write` meets its contract. Assumes nothing.
-use mathlib.Core.Path.{sym, ◌∙◌}
+use borrow.Author.Tests.{eqb-true}
+use lib.Dec.{eqb}
 use Rattle.lines.specs.Invariant.{NextIn}
-use Rattle.mptline.proofs.Transfers.{write_moves, when_ok}
+use Rattle.mptline.proofs.Transfers.{write_moves}
 use Rattle.mptline.proofs.write.Goals as goal
 
 pub returns : goal.returns
 unfolding NextIn
 returns g c =
-    write_moves _ _ _ _ _ c.requires.ready c.after_write.ensures (λ e. when_ok c.write_all.result c.write_all.ensures.bytes (sym c.is_ok-wrote.ensures.value ∙ e))
+    write_moves (eqb c.write_bytes.result c.args.p.end) c.args.p c.write_bytes.result _ _ _ c.requires.ready c.after_write.ensures (eqb-true _ _) c.write_bytes.ensures.within c.write_bytes.ensures.gave
