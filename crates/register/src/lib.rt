@@ -11,7 +11,7 @@ ghost use Rattle.matcher.specs.Answered.{match_output};
 ghost use Rattle.pattern.specs.Refusals.{number_of_result};
 ghost use Rattle.register.specs.Layout.{preamble, preamble_size, register_of};
 ghost use Rattle.register.specs.Register.{init_of, store_of, remove_of, match_number_of};
-ghost use Rattle.register.specs.Sections.{is_register, located, IsWithin};
+ghost use Rattle.register.specs.Sections.{is_register, located, section_of, IsWithin};
 
 use locate::{DIRECTORY_SIZE, Location, locate};
 use matcher::{Verdict, match_label};
@@ -39,6 +39,15 @@ fn has_preamble(lent: &[u8]) -> bool
     lent.starts_with(&PREAMBLE)
 }
 
+// Where the table of a number lies in a section, by rows of its own. Not inlined: bytes that don't begin as a register take no stack for rows.
+#[inline(never)]
+fn locate_number(section: &[u8], number: u8) -> Option<Location>
+    ensures { result ≡ located number (section_of section.now) }
+{
+    let mut rows = [EMPTY; ATOM_LIMIT];
+    locate(section, usize::from(number), &mut rows)
+}
+
 // Where the table of a number lies in the section after the first bytes, if the lent bytes are a register.
 fn find(lent: &[u8], number: u8) -> Option<Location>
     ensures place { result ≡ located number (register_of lent.now) }
@@ -47,8 +56,7 @@ fn find(lent: &[u8], number: u8) -> Option<Location>
     if lent.len() < OVERHEAD || !has_preamble(lent) {
         return None;
     }
-    let mut rows = [EMPTY; ATOM_LIMIT];
-    locate(&lent[PREAMBLE_SIZE..], usize::from(number), &mut rows)
+    locate_number(&lent[PREAMBLE_SIZE..], number)
 }
 
 // Whether lent bytes are a register.

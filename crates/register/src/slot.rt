@@ -18,7 +18,7 @@ const ATOMS_PLACE: usize = 4;
 
 const TOP_PLACE: usize = 6;
 
-const SUMMARY_PLACE: usize = 8;
+pub const SUMMARY_PLACE: usize = 8;
 
 // Slots are compared so many bytes at a time.
 const STEP: usize = 4;

@@ -6,8 +6,8 @@ pub struct Packed {
     pub first: [u64; 4],
 }
 
-// The set of no bytes.
-pub const NO_BYTES: [u64; 4] = [0; 4];
+// The set of no bytes. Written out: rows made of `[0; 4]` would be zeroed twice.
+pub const NO_BYTES: [u64; 4] = [0, 0, 0, 0];
 
 // That of the empty string alone.
 pub const EMPTY: Packed = Packed {

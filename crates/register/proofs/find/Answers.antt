@@ -7,7 +7,7 @@ use Rattle.register.proofs.find.Goals as goal
 
 pub returns : goal.returns
 returns c =
-    let e = find_on _ _ _ (sym c.if-not-has_preamble.false ∙ c.has_preamble.ensures) (rw c.from.ensures at c.locate.ensures) in
+    let e = find_on _ _ _ (sym c.if-not-has_preamble.false ∙ c.has_preamble.ensures) c.locate_number.ensures in
     record { place = e; within = found_within _ _ _ (omega (arith, c.ranges)) e }
 
 pub returns-then-lent-lt-OVERHEAD-clause-place : goal.returns-then-lent-lt-OVERHEAD-clause-place
