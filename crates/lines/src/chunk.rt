@@ -26,6 +26,8 @@ pub struct Pending {
 
 // Answers lines until the chunk ends or there may be no room for a reply; the bytes of a line that was answered are zeroed.
 // It answers where the replies end in the output, and what is left. A `while`: a turn takes a line, however long.
+// Not inlined: lines without a tab want registers of their own.
+#[inline(never)]
 pub fn answer_chunk(
     chunk: &[u8],
     from: usize,

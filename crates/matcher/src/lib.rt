@@ -26,7 +26,8 @@ pub struct Verdict {
     pub trials: u64,
 }
 
-// A match where no refusal but Budget can come.
+// A match where no refusal but Budget can come. Not inlined: a label that is refused before takes no stack for it.
+#[inline(never)]
 fn run(
     table: &[u8],
     label: &[u8],

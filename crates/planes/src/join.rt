@@ -5,8 +5,7 @@ use crate::budget::Budget;
 use crate::cells::{blank, cell, set_stretch};
 
 // The join of left and right into out: it holds of i to j where some m has left on i to m and right on m to j, which stands in row j too.
-// The result: the budget with the trials counted, none where it ran out. Inlined, the trials would have too few registers.
-#[inline(never)]
+// The result: the budget with the trials counted, none where it ran out.
 pub fn join(
     scratch: &mut [u8],
     w: usize,

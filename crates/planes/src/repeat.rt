@@ -18,7 +18,8 @@ fn add_from(scratch: &mut [u8], w: usize, from: usize, out: usize, low: usize, k
 }
 
 // Plane out: the stretches that are low to times bodies. One join for each number of bodies from 1 to times. The result is
-// that of a join.
+// that of a join. Not inlined: the trials of the join in it want registers of their own.
+#[inline(never)]
 pub fn repeat_body(
     scratch: &mut [u8],
     w: usize,

@@ -70,7 +70,8 @@ fn put_source<const ROOM: usize>(
     }
 }
 
-// A source and a label.
+// A source and a label. Not inlined: a line that is too long or has no tab takes no stack for a table.
+#[inline(never)]
 fn put_cut(source: &[u8], label: &[u8], scratch: &mut [u8], out: &mut [u8], at: usize) -> usize
     requires { at + reply_room ≤ length out.old }
     ensures { Replied reply_room (source_reply source.now label.now scratch.old) out.old at scratch.new out.new result }
