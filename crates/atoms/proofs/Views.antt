@@ -173,6 +173,10 @@ at_group : {xs : List (Syntax pattern)} {k : ℕ} {b : Syntax body} (bs : Syntax
 unfolding nodes
 at_group bs e h = record { rest = h.rest; from = h.from ∙ ap (λ (y : Syntax body). nodes y ++ h.rest) e }
 
+-- what has no byte, by its length
+pub no_bytes : (l : Bytes) → length l ≡ 0 → l ≡ []
+no_bytes = nil_from_length
+
 module _ (table : Bytes) (x : ℕ) (ok : AtomIn table x) where
   -- the header and the record lie in the table
   pub record_in : RecordIn table (header_of table).records x
